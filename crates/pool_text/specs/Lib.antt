@@ -1,0 +1,4 @@
+pub mod Folding
+pub mod Lines
+pub mod Number
+pub mod Reading

@@ -1,0 +1,44 @@
+// Names and strings are compared after `A` to `Z` are made small.
+ghost use Rattle.std.specs.Prelude.{◌≡◌, ◌↔◌, IfOk, IsTrue};
+ghost use Rattle.std.specs.Ordering.{nat_cmp};
+ghost use Rattle.std.specs.Cmp.Lexicographic.{slice_cmp};
+ghost use Rattle.pool_text.specs.Folding.{folded};
+
+use crate::{OutOfMemory, Text};
+use std::alloc::Global;
+use std::cmp::Ordering;
+
+/// The bytes with the letters `A` to `Z` made small.
+pub fn fold(alloc: Global, bytes: &[u8]) -> Result<Text, OutOfMemory>
+    ensures { IfOk result (λ t. t ≡ folded bytes.now) }
+{
+    let mut text = Text::new(alloc);
+    for byte in bytes {
+        text.append(&[byte.to_ascii_lowercase()])?;
+    }
+    Ok(text)
+}
+
+/// Whether the bytes are equal after folding.
+pub fn same_folded(a: &[u8], b: &[u8]) -> bool
+    ensures { IsTrue result ↔ (folded a.now ≡ folded b.now) }
+{
+    a.eq_ignore_ascii_case(b)
+}
+
+/// How the bytes compare after folding, byte by byte, the shorter first where it begins the longer.
+pub fn order_folded(a: &[u8], b: &[u8]) -> Ordering
+    ensures { result ≡ slice_cmp nat_cmp (folded a.now) (folded b.now) }
+{
+    let mut left = a;
+    let mut right = b;
+    while let ([x, left_rest @ ..], [y, right_rest @ ..]) = (left, right) {
+        let order = x.to_ascii_lowercase().cmp(&y.to_ascii_lowercase());
+        if order != Ordering::Equal {
+            return order;
+        }
+        left = left_rest;
+        right = right_rest;
+    }
+    left.len().cmp(&right.len())
+}

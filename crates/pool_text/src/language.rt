@@ -1,0 +1,60 @@
+// The small types of the ClassAd language that texts, trees and values share.
+use crate::Text;
+
+/// A literal of the language. A parse never makes a negative `Integer`.
+#[derive(Debug, Drop)]
+pub enum Lit {
+    Undefined,
+    Error,
+    Boolean(bool),
+    Integer(i64),
+    Str(Text),
+}
+
+/// A frame of an ad of a world: ad 0 is the request, ad k the k-th docked resource, and frame 0 the root.
+#[derive(Clone, Copy, Debug, PartialEq, Eq)]
+pub struct AdPlace {
+    pub ad: u32,
+    pub frame: u32,
+}
+
+/// An attribute of a frame of an ad, counted from 0 in the frame's order.
+#[derive(Clone, Copy, Debug, PartialEq, Eq)]
+pub struct Pos {
+    pub ad: u32,
+    pub frame: u32,
+    pub attr: u32,
+}
+
+/// The operators before one operand: `+ - ! ~`.
+#[derive(Clone, Copy, Debug, PartialEq, Eq)]
+pub enum UnOp {
+    Plus,
+    Minus,
+    Not,
+    Complement,
+}
+
+/// The strict operators between two operands, with `is` (`Same`) and `isnt` (`NotSame`).
+#[derive(Clone, Copy, Debug, PartialEq, Eq)]
+pub enum BinOp {
+    BitOr,
+    BitXor,
+    BitAnd,
+    Equal,
+    Unequal,
+    Same,
+    NotSame,
+    Less,
+    AtMost,
+    Greater,
+    AtLeast,
+    ShiftLeft,
+    ShiftRight,
+    ShiftZero,
+    Add,
+    Sub,
+    Mul,
+    Div,
+    Rem,
+}

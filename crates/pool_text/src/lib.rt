@@ -1,0 +1,20 @@
+//! Texts, numbers and the small types that every crate of the pool speaks of.
+#![tactic(auto)]
+
+mod folding;
+mod language;
+mod laws;
+mod lists;
+mod memory;
+mod number;
+#[cfg(test)]
+mod tests;
+mod text;
+
+pub use folding::{fold, order_folded, same_folded};
+pub use language::{AdPlace, BinOp, Lit, Pos, UnOp};
+pub use laws::{lines_at_a_cut, lines_join_again, number_is_its_decimal_text};
+pub use lists::{Names, Slots};
+pub use memory::OutOfMemory;
+pub use number::{append_number, read_number};
+pub use text::Text;

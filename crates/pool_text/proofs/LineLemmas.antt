@@ -1,5 +1,5 @@
 -- Lines of pieces that are put together.
-use Rattle.std.proofs.Common.{◌≡◌, ℕ, Bool, true, false, eqb, List, [], ◌∷◌, ◌++◌, refl, sym, ◌∙◌, ap, inl, inr, arith}
+use Rattle.std.proofs.Common.{◌≡◌, ℕ, true, false, eqb, List, [], ◌∷◌, ◌++◌, refl, sym, ◌∙◌, ap, inl, inr, arith}
 use Rattle.std.proofs.lemmas.Bool.{cases_Bool}
 use Rattle.std.proofs.lemmas.Bool.Decides.{nat_tests}
 use Rattle.pool_text.specs.Lines.{ended, onto, rest_behind, rest_of, with_feeds}
@@ -26,8 +26,8 @@ ended-append [] c = refl
 ended-append (x ∷ b) c =
     let more = ended-append b c in
     elim (cases_Bool (eqb x 10)) [
-    | inl is ↦ ended_at x (b ++ c) is ∙ ap (λ (ls : List (List ℕ)). [] ∷ ls) more ∙ rw (ended_at x b is, rest_at x b is) refl
-    | inr is ↦ ended_onto x (b ++ c) is ∙ ap (λ (ls : List (List ℕ)). onto x ls) more ∙ ended_step x (ended b) (rest_of b) c is ∙ rw (ended_onto x b is, rest_onto x b is) refl
+      | inl is ↦ ended_at x (b ++ c) is ∙ ap (λ (ls : List (List ℕ)). [] ∷ ls) more ∙ rw (ended_at x b is, rest_at x b is) refl
+      | inr is ↦ ended_onto x (b ++ c) is ∙ ap (λ (ls : List (List ℕ)). onto x ls) more ∙ ended_step x (ended b) (rest_of b) c is ∙ rw (ended_onto x b is, rest_onto x b is) refl
     ]
 
 rest_step : (x : ℕ) (e : List (List ℕ)) (r c : List ℕ) → eqb x 10 ≡ false → rest_behind (e ++ ended (r ++ c)) x (rest_of (r ++ c)) ≡ rest_of (rest_behind e x r ++ c)
@@ -40,8 +40,8 @@ rest_of-append [] c = refl
 rest_of-append (x ∷ b) c =
     let more = rest_of-append b c in
     elim (cases_Bool (eqb x 10)) [
-    | inl is ↦ rest_at x (b ++ c) is ∙ more ∙ rw (rest_at x b is) refl
-    | inr is ↦ rest_onto x (b ++ c) is ∙ ap (λ (ls : List (List ℕ)). rest_behind ls x (rest_of (b ++ c))) (ended-append b c) ∙ ap (λ (r : List ℕ). rest_behind (ended b ++ ended (rest_of b ++ c)) x r) more ∙ rest_step x (ended b) (rest_of b) c is ∙ rw (rest_onto x b is) refl
+      | inl is ↦ rest_at x (b ++ c) is ∙ more ∙ rw (rest_at x b is) refl
+      | inr is ↦ rest_onto x (b ++ c) is ∙ ap (λ (ls : List (List ℕ)). rest_behind ls x (rest_of (b ++ c))) (ended-append b c) ∙ ap (λ (r : List ℕ). rest_behind (ended b ++ ended (rest_of b ++ c)) x r) more ∙ rest_step x (ended b) (rest_of b) c is ∙ rw (rest_onto x b is) refl
     ]
 
 join_step : (x : ℕ) (e : List (List ℕ)) (r : List ℕ) → with_feeds (onto x e) ++ rest_behind e x r ≡ x ∷ (with_feeds e ++ r)
@@ -54,8 +54,8 @@ with_feeds-ended [] = refl
 with_feeds-ended (x ∷ b) =
     let more = with_feeds-ended b in
     elim (cases_Bool (eqb x 10)) [
-    | inl is ↦ let ten : x ≡ 10 = grind (arith, nat_tests) in rw (ended_at x b is, rest_at x b is) (ap (λ (l : List ℕ). 10 ∷ l) more ∙ ap (λ (y : ℕ). y ∷ b) (sym ten))
-    | inr is ↦ rw (ended_onto x b is, rest_onto x b is) (join_step x (ended b) (rest_of b) ∙ ap (λ (l : List ℕ). x ∷ l) more)
+      | inl is ↦ let ten : x ≡ 10 = grind (arith, nat_tests) in rw (ended_at x b is, rest_at x b is) (ap (λ (l : List ℕ). 10 ∷ l) more ∙ ap (λ (y : ℕ). y ∷ b) (sym ten))
+      | inr is ↦ rw (ended_onto x b is, rest_onto x b is) (join_step x (ended b) (rest_of b) ∙ ap (λ (l : List ℕ). x ∷ l) more)
     ]
 
 none_step : (x : ℕ) (e : List (List ℕ)) (r : List ℕ) → eqb x 10 ≡ false → ended r ≡ [] → ended (rest_behind e x r) ≡ []
@@ -67,6 +67,6 @@ pub ended-rest_of : (b : List ℕ) → ended (rest_of b) ≡ []
 ended-rest_of [] = refl
 ended-rest_of (x ∷ b) =
     elim (cases_Bool (eqb x 10)) [
-    | inl is ↦ ap ended (rest_at x b is) ∙ ended-rest_of b
-    | inr is ↦ ap ended (rest_onto x b is) ∙ none_step x (ended b) (rest_of b) is (ended-rest_of b)
+      | inl is ↦ ap ended (rest_at x b is) ∙ ended-rest_of b
+      | inr is ↦ ap ended (rest_onto x b is) ∙ none_step x (ended b) (rest_of b) is (ended-rest_of b)
     ]

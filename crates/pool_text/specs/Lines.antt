@@ -1,5 +1,5 @@
 -- The lines of a list of bytes. A line feed, 10, ends a line and is no part of it.
-use Rattle.std.specs.Prelude.{◌≡◌, ℕ, ◌==◌, List, [], ◌∷◌, ◌++◌, if◌then◌else◌}
+use Rattle.std.specs.Prelude.{ℕ, ◌==◌, List, [], ◌∷◌, ◌++◌, if◌then◌else◌}
 use Rattle.std.specs.List.{flat_map}
 
 -- the lines with a byte put before the first of them

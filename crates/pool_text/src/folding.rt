@@ -32,7 +32,10 @@ pub fn order_folded(a: &[u8], b: &[u8]) -> Ordering
 {
     let mut left = a;
     let mut right = b;
-    while let ([x, left_rest @ ..], [y, right_rest @ ..]) = (left, right) {
+    while let [x, left_rest @ ..] = left {
+        let [y, right_rest @ ..] = right else {
+            return Ordering::Greater;
+        };
         let order = x.to_ascii_lowercase().cmp(&y.to_ascii_lowercase());
         if order != Ordering::Equal {
             return order;
@@ -40,5 +43,5 @@ pub fn order_folded(a: &[u8], b: &[u8]) -> Ordering
         left = left_rest;
         right = right_rest;
     }
-    left.len().cmp(&right.len())
+    0.cmp(&right.len())
 }

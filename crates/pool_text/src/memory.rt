@@ -1,6 +1,4 @@
 // Want of memory, which every call that takes memory may answer.
-ghost use Rattle.std.specs.Prelude.{⊤};
-
 use std::alloc::{AllocError, AllocFailed};
 use std::error::Error;
 use std::fmt;

@@ -2,6 +2,7 @@
 ghost use Rattle.std.specs.Prelude.{◌≡◌, ◌++◌, OnOk, OnErr};
 ghost use Rattle.std.specs.Fmt.{signed_decimal};
 ghost use Rattle.pool_text.specs.Number.{number_of};
+ghost use Rattle.pool_text.specs.Reading.{read_from};
 
 use crate::{OutOfMemory, Text};
 use itoa::Buffer;
@@ -11,18 +12,27 @@ use itoa::Buffer;
 pub fn read_number(bytes: &[u8]) -> Option<u64>
     ensures { result ≡ number_of bytes.now }
 {
-    if bytes.len() == 0 || (bytes.len() > 1 && bytes[0] == b'0') {
+    if bytes.len() == 0 {
         return None;
     }
+    if bytes[0] == b'0' && bytes.len() > 1 {
+        return None;
+    }
+    read_digits(bytes)
+}
+
+fn read_digits(digits: &[u8]) -> Option<u64>
+    ensures { result ≡ read_from 0 digits.now }
+{
     let mut number: u64 = 0;
-    let mut rest = bytes;
-    while let [byte, behind @ ..] = rest {
-        if !byte.is_ascii_digit() {
+    let mut rest = digits;
+    while let [digit, behind @ ..] = rest {
+        if !digit.is_ascii_digit() {
             return None;
         }
         number = number
             .checked_mul(10)?
-            .checked_add(u64::from(*byte - b'0'))?;
+            .checked_add(u64::from(*digit - b'0'))?;
         rest = behind;
     }
     Some(number)

@@ -1,5 +1,5 @@
 -- Where the left side of `&&` or `||` decides.
-use Rattle.std.proofs.Common.{◌≡◌, ◌↔◌, IsTrue, Bool, true, false, refl}
+use Rattle.std.proofs.Common.{◌≡◌, ◌↔◌, IsTrue, true, false, refl}
 use Rattle.ad_value.specs.Plain.{Plain, undefined, error, boolean, integer, text, list, ad_at}
 use Rattle.ad_value.specs.Logic.{and_is_decided, and_value, or_is_decided, or_value}
 

@@ -2,7 +2,6 @@
 use Rattle.std.specs.Prelude.{ℕ, Bool, ℤ, List, [], ◌∷◌}
 use Rattle.pool_text.specs.declared.language.AdPlace.{AdPlace}
 use Rattle.pool_text.specs.declared.language.Lit.{Lit}
-use Rattle.pool_text.specs.declared.language.Lit.TheVariants
 use Rattle.ad_value.specs.declared.value.Value.{Value, fold-Value}
 use Rattle.ad_value.specs.declared.value.Value.TheOpen.{Value-F, Values-F}
 use Rattle.ad_value.specs.declared.value.Values.{Values, fold-Values}

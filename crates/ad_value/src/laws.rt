@@ -10,8 +10,7 @@ pub fn or_mirrors_and(left: &Value, right: &Value)
     ensures value { or_value (plain left.now) (plain right.now)
         ≡ mirrored (and_value (mirrored (plain left.now)) (mirrored (plain right.now))) }
     ensures decided { or_is_decided (plain left.now) ≡ and_is_decided (mirrored (plain left.now)) }
-{
-}
+{}
 
 /// The right side of `&&` and of `||` isn't demanded exactly where it makes no difference to the value.
 pub fn undemanded_side_makes_no_difference(left: &Value)
@@ -19,5 +18,4 @@ pub fn undemanded_side_makes_no_difference(left: &Value)
         ↔ ((one other : Plain) → and_value (plain left.now) one ≡ and_value (plain left.now) other) }
     ensures or { IsTrue (or_is_decided (plain left.now))
         ↔ ((one other : Plain) → or_value (plain left.now) one ≡ or_value (plain left.now) other) }
-{
-}
+{}

@@ -5,6 +5,8 @@ mod eval;
 mod reply;
 mod run;
 mod session;
+#[cfg(test)]
+mod tests;
 mod words;
 
 pub use run::{RunEnd, run_pool};

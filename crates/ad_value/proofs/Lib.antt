@@ -1,2 +1,3 @@
+pub mod IdentityLemmas
 pub mod LogicLemmas
 pub mod PlainLemmas

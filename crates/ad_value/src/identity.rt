@@ -27,7 +27,7 @@ pub fn same(a: &Value, b: &Value) -> bool
 fn same_items(a: &Values, b: &Values) -> bool
     ensures { result ≡ are_same (plains_of (plains a.now)) (plains_of (plains b.now)) }
 {
-    if a.items.len() != b.items.len() {
+    if a.len() != b.len() {
         return false;
     }
     for (i, item) in a.items.iter().enumerate() {

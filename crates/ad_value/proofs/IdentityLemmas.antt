@@ -67,3 +67,9 @@ mutual
   pub are_same-itself : (a : Plains) → are_same a a ≡ true
   are_same-itself no_plains = refl
   are_same-itself (plain_then a more) = rw (is_same-itself a) (are_same-itself more)
+
+pub is_same-symmetric : (a b : Plain) → is_same a b ≡ true → is_same b a ≡ true
+is_same-symmetric a b same = rw (is_same-equal a b same) (is_same-itself b)
+
+pub is_same-transitive : (a b c : Plain) → is_same a b ≡ true → is_same b c ≡ true → is_same a c ≡ true
+is_same-transitive a b c first second = rw (is_same-equal a b first) second

@@ -15,7 +15,9 @@ mod weighing;
 
 pub use copying::copy;
 pub use identity::same;
-pub use laws::{or_mirrors_and, undemanded_side_makes_no_difference};
+pub use laws::{
+    equal_texts_fold_alike, is_is_equality, or_mirrors_and, undemanded_side_makes_no_difference,
+};
 pub use literal::from_lit;
 pub use logic::{and_ends, and_step, or_ends, or_step};
 pub use operators::{binary, unary};

@@ -1,4 +1,3 @@
-use Rattle.std.proofs.Common.{◌≡◌}
 use Rattle.ad_value.specs.Plain.{plain}
 use Rattle.ad_value.proofs.IdentityLemmas.{is_same-equal, is_same-itself, is_same-symmetric, is_same-transitive}
 use Rattle.ad_value.proofs.laws.is_is_equality.Goals as goal

@@ -70,7 +70,7 @@ divided result divisor = if int_eq divisor (pos 0) then error else result
 
 -- ---- the table of the strict operators
 
--- two numbers
+-- two numbers; `is` and `isnt` aren't strict, and have rows of their own
 abbrev pub number_row : BinOp → ℤ → ℤ → Plain
 number_row BinOp.BitOr x y = integer (int_bit_or w64 x y)
 number_row BinOp.BitXor x y = integer (int_bit_xor w64 x y)

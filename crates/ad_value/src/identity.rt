@@ -5,8 +5,8 @@ ghost use Rattle.ad_value.specs.Operators.{are_same, is_same};
 
 use crate::{Value, Values};
 
-/// Whether `a is b`: both of one kind and equal. Texts are equal with their case, lists element by element, and ads at
-/// the same place; an Integer and a Boolean never are.
+/// Whether `a is b`, also spelled `=?=`: both of one kind and equal, so an Integer and a Boolean never are. As in the
+/// ClassAd Language Reference Manual 2.4 the case of texts counts. Lists are compared element by element, ads by place.
 #[cycle(same)]
 pub fn same(a: &Value, b: &Value) -> bool
     ensures { result ≡ is_same (plain a.now) (plain b.now) }

@@ -7,7 +7,7 @@ use crate::arithmetic::{integer_result, number, on_numbers};
 use crate::{Value, same};
 use pool_text::{BinOp, UnOp, order_folded};
 
-/// The value of `a op b`.
+/// The value of `a op b`, with the strictness of the ClassAd Language Reference Manual 2.4.
 ///
 /// `is` and `isnt` give a Boolean always. With any other operator Error on a side gives Error, else Undefined on a side
 /// gives Undefined. Numbers are Integers and Booleans, the latter as 1 or 0; a result out of 64 bits, a divisor 0, and

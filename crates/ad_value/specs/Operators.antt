@@ -54,7 +54,7 @@ on_numbers row x y = error
 
 -- ---- results
 
--- a whole number as an Integer of 64 bits, Error where it is out of them
+-- a whole number as an Integer of 64 bits, Error where it is out of them; `negsuc n` is -(n + 1)
 abbrev pub integer_or_error : ℤ → Plain
 integer_or_error (pos n) = if nat_lt n (2 ^ 63) then integer (pos n) else error
 integer_or_error (negsuc n) = if nat_lt n (2 ^ 63) then integer (negsuc n) else error

@@ -1,0 +1,86 @@
+-- Frames and spelled trees are two views of one thing: what is numbered is spelled back.
+use Rattle.std.proofs.Common.{refl, arith, ◌≡◌, ◌≤◌, ◌<◌, ℕ, zero, suc, ◌+◌, List, [], ◌∷◌, ◌++◌, length, map, Bool, true, false, ◌&&◌, ap, sym, ◌∙◌, subst, cond, append_assoc, length-append, Option, None, Some, slice_get, Contains}
+use Rattle.std.proofs.lemmas.List.{append-nil, length-map}
+use Rattle.std.proofs.lemmas.List.Elements.{Contains-append_left, Contains-append_right}
+use Rattle.ad_tree.specs.Tree.{Label, Tree, node, frame, Trees, none, more, cited, cited_all}
+use Rattle.ad_tree.specs.Names.{same_name, are_apart}
+use Rattle.ad_tree.specs.Frames.{Frame, empty_frame, attributes_at, attributes_in, put_attribute, put_all, settled_frame, names_of, names_in, cited_in, parent_of, IsAd}
+use Rattle.ad_tree.specs.Inline.{Inline, shape, inner, Inlines, end, next, Defs, no_defs, def, count, count_all, count_defs, number, number_all, attributes_from, frames, frames_all, frames_in, inlined, inlined_all, defs_of, inside, opened, spelled, spelled_tree, put, settled, settled_all, settled_defs, is_apart, all_apart, defs_apart, def_names}
+use Rattle.ad_tree.proofs.NameLemmas.{both_left, both_right, both}
+use Rattle.ad_tree.proofs.AttributeLemmas.{names-put, apart-put_name, put_all-apart}
+use Rattle.ad_tree.proofs.InlineLemmas.{length-frames, length-frames_all, length-frames_in, names-attributes_from}
+
+-- frames, each changed by h, stand in a list from place b on
+abbrev pub Stand : (Frame → Frame) → List Frame → ℕ → List Frame → Type 0
+Stand h fs b [] = Unit {0}
+Stand h fs b (g ∷ gs) = (slice_get fs b ≡ Some (h g)) × Stand h fs (suc b) gs
+
+module _ (h : Frame → Frame) (fs : List Frame) where
+  pub Stand-left : (b : ℕ) (gs ks : List Frame) → Stand h fs b (gs ++ ks) → Stand h fs b gs
+  Stand-left b [] ks s = tt
+  Stand-left b (g ∷ gs) ks s = (s.0, Stand-left (suc b) gs ks s.1)
+
+  pub Stand-right : (b : ℕ) (gs ks : List Frame) → Stand h fs b (gs ++ ks) → Stand h fs (b + length gs) ks
+  Stand-right b [] ks s = subst (λ n. Stand h fs n ks) at_start s
+    where
+      at_start : b ≡ b + 0
+      at_start = omega arith
+  Stand-right b (g ∷ gs) ks s = subst (λ n. Stand h fs n ks) (one_on b (length gs)) (Stand-right (suc b) gs ks s.1)
+    where
+      one_on : (a c : ℕ) → suc a + c ≡ a + suc c
+      one_on a c = omega arith
+
+-- they stand behind what is before them
+slice_get-behind : (before after : List Frame) (g : Frame) → slice_get (before ++ g ∷ after) (length before) ≡ Some g
+slice_get-behind [] after g = refl
+slice_get-behind (b ∷ bs) after g = slice_get-behind bs after g
+
+pub Stand-behind : (h : Frame → Frame) (before gs : List Frame) → Stand h (before ++ map h gs) (length before) gs
+Stand-behind h before [] = tt
+Stand-behind h before (g ∷ gs) = (slice_get-behind before (map h gs) (h g),
+    subst (λ n. Stand h (before ++ h g ∷ map h gs) n gs) longer (subst (λ fs. Stand h fs (length (before ++ h g ∷ [])) gs) (append_assoc before (h g ∷ []) (map h gs)) (Stand-behind h (before ++ h g ∷ []) gs)))
+  where
+    longer : length (before ++ h g ∷ []) ≡ suc (length before)
+    longer = omega (arith, length-append before (h g ∷ []))
+
+-- a definition is put among attributes as among definitions
+defs_of-put : (k : ℕ → Defs) (name : List ℕ) (t : Tree) (attributes : List (List ℕ × Tree)) → defs_of k (put_attribute name t attributes) ≡ put name (inlined k t) (defs_of k attributes)
+defs_of-put k name t [] = refl
+defs_of-put k name t (a ∷ rest) = by (same_name name a.0) (defs_of-put k name t rest)
+  where
+    by : (b : Bool) → defs_of k (put_attribute name t rest) ≡ put name (inlined k t) (defs_of k rest)
+        → defs_of k (cond b ((name, t) ∷ rest) (a ∷ put_attribute name t rest)) ≡ cond b (def name (inlined k t) (defs_of k rest)) (def a.0 (inlined k a.1) (put name (inlined k t) (defs_of k rest)))
+    by true e = refl
+    by false e = ap (def a.0 (inlined k a.1)) e
+
+-- frames that were made by defining name by name are spelled back without repeated names
+module _ (fs : List Frame) where
+  mutual
+    pub spelled-number : (n p b : ℕ) (i : Inline) → count i ≤ n → Stand settled_frame fs b (frames p b i) → inlined (inside fs n) (number b i) ≡ settled i
+    spelled-number n p b (shape label is) enough s = ap (shape label) (spelled-number_all n p b is enough s)
+    spelled-number zero p b (inner ds) enough s = absurd (omega (arith, enough))
+    spelled-number (suc n) p b (inner ds) enough s =
+        ap (λ attributes. inner (defs_of (inside fs n) attributes)) (ap attributes_in s.0)
+        ∙ ap inner (spelled-attributes n b (suc b) ds [] (omega (arith, enough)) s.1)
+
+    pub spelled-number_all : (n p b : ℕ) (is : Inlines) → count_all is ≤ n → Stand settled_frame fs b (frames_all p b is) → inlined_all (inside fs n) (number_all b is) ≡ settled_all is
+    spelled-number_all n p b end enough s = refl
+    spelled-number_all n p b (next i is) enough s =
+        ap (λ j. next j (inlined_all (inside fs n) (number_all (b + count i) is)))
+            (spelled-number n p b i (omega (arith, enough)) (Stand-left settled_frame fs b (frames p b i) (frames_all p (b + count i) is) s))
+        ∙ ap (next (settled i)) (spelled-number_all n p (b + count i) is (omega (arith, enough))
+            (subst (λ m. Stand settled_frame fs (b + m) (frames_all p (b + count i) is)) (length-frames p b i) (Stand-right settled_frame fs b (frames p b i) (frames_all p (b + count i) is) s)))
+
+    pub spelled-attributes : (n p b : ℕ) (ds : Defs) (done : List (List ℕ × Tree)) → count_defs ds ≤ n → Stand settled_frame fs b (frames_in p b ds)
+        → defs_of (inside fs n) (put_all done (attributes_from b ds)) ≡ settled_defs (defs_of (inside fs n) done) ds
+    spelled-attributes n p b no_defs done enough s = refl
+    spelled-attributes n p b (def name i ds) done enough s =
+        spelled-attributes n p (b + count i) ds (put_attribute name (number b i) done) (omega (arith, enough))
+            (subst (λ m. Stand settled_frame fs (b + m) (frames_in p (b + count i) ds)) (length-frames p b i) (Stand-right settled_frame fs b (frames p b i) (frames_in p (b + count i) ds) s))
+        ∙ ap (λ before. settled_defs before ds) (defs_of-put (inside fs n) name (number b i) done
+            ∙ ap (λ j. put name j (defs_of (inside fs n) done))
+                (spelled-number n p b i (omega (arith, enough)) (Stand-left settled_frame fs b (frames p b i) (frames_in p (b + count i) ds) s)))
+
+-- frames as they are numbered are spelled back as they were
+unchanged : Frame → Frame
+unchanged f = f

@@ -1,6 +1,6 @@
 -- Frames and spelled trees are two views of one thing: what is numbered is spelled back.
 use Rattle.std.proofs.Common.{refl, arith, ◌≡◌, ◌≤◌, ◌<◌, ℕ, zero, suc, ◌+◌, List, [], ◌∷◌, ◌++◌, length, map, Bool, true, false, ◌&&◌, ap, sym, ◌∙◌, subst, cond, append_assoc, length-append, Option, None, Some, slice_get, Contains}
-use Rattle.std.proofs.lemmas.List.{append-nil, length-map}
+use Rattle.std.proofs.lemmas.List.{length-map, map-append}
 use Rattle.std.proofs.lemmas.List.Elements.{Contains-append_left, Contains-append_right}
 use Rattle.ad_tree.specs.Tree.{Label, Tree, node, frame, Trees, none, more, cited, cited_all}
 use Rattle.ad_tree.specs.Names.{same_name, are_apart}
@@ -82,5 +82,120 @@ module _ (fs : List Frame) where
                 (spelled-number n p b i (omega (arith, enough)) (Stand-left settled_frame fs b (frames p b i) (frames_in p (b + count i) ds) s)))
 
 -- frames as they are numbered are spelled back as they were
-unchanged : Frame → Frame
-unchanged f = f
+abbrev pub as_it_is : Frame → Frame
+as_it_is f = f
+
+module _ (fs : List Frame) where
+  mutual
+    pub plain-number : (n p b : ℕ) (i : Inline) → count i ≤ n → Stand as_it_is fs b (frames p b i) → inlined (inside fs n) (number b i) ≡ i
+    plain-number n p b (shape label is) enough s = ap (shape label) (plain-number_all n p b is enough s)
+    plain-number zero p b (inner ds) enough s = absurd (omega (arith, enough))
+    plain-number (suc n) p b (inner ds) enough s =
+        ap (λ attributes. inner (defs_of (inside fs n) attributes)) (ap attributes_in s.0)
+        ∙ ap inner (plain-attributes n b (suc b) ds (omega (arith, enough)) s.1)
+
+    pub plain-number_all : (n p b : ℕ) (is : Inlines) → count_all is ≤ n → Stand as_it_is fs b (frames_all p b is) → inlined_all (inside fs n) (number_all b is) ≡ is
+    plain-number_all n p b end enough s = refl
+    plain-number_all n p b (next i is) enough s =
+        ap (λ j. next j (inlined_all (inside fs n) (number_all (b + count i) is)))
+            (plain-number n p b i (omega (arith, enough)) (Stand-left as_it_is fs b (frames p b i) (frames_all p (b + count i) is) s))
+        ∙ ap (next i) (plain-number_all n p (b + count i) is (omega (arith, enough))
+            (subst (λ m. Stand as_it_is fs (b + m) (frames_all p (b + count i) is)) (length-frames p b i) (Stand-right as_it_is fs b (frames p b i) (frames_all p (b + count i) is) s)))
+
+    pub plain-attributes : (n p b : ℕ) (ds : Defs) → count_defs ds ≤ n → Stand as_it_is fs b (frames_in p b ds) → defs_of (inside fs n) (attributes_from b ds) ≡ ds
+    plain-attributes n p b no_defs enough s = refl
+    plain-attributes n p b (def name i ds) enough s =
+        ap (λ j. def name j (defs_of (inside fs n) (attributes_from (b + count i) ds)))
+            (plain-number n p b i (omega (arith, enough)) (Stand-left as_it_is fs b (frames p b i) (frames_in p (b + count i) ds) s))
+        ∙ ap (def name i) (plain-attributes n p (b + count i) ds (omega (arith, enough))
+            (subst (λ m. Stand as_it_is fs (b + m) (frames_in p (b + count i) ds)) (length-frames p b i) (Stand-right as_it_is fs b (frames p b i) (frames_in p (b + count i) ds) s)))
+
+pub map-as_it_is : (fs : List Frame) → map as_it_is fs ≡ fs
+map-as_it_is [] = refl
+map-as_it_is (f ∷ fs) = ap (λ gs. f ∷ gs) (map-as_it_is fs)
+
+-- ---- the laws on a whole ad and on a phrase ----
+
+-- what a draft that was filled by defining name by name spells
+pub spelled-settled_frames : (ds : Defs) → spelled (map settled_frame (frames 0 0 (inner ds))) ≡ settled (inner ds)
+spelled-settled_frames ds =
+    spelled-number (map settled_frame (frames 0 0 (inner ds))) (length (map settled_frame (frames 0 0 (inner ds)))) 0 0 (inner ds)
+        (omega (arith, length-map (frames 0 0 (inner ds)) settled_frame, length-frames 0 0 (inner ds))) (Stand-behind settled_frame [] (frames 0 0 (inner ds)))
+
+pub spelled_tree-settled_frames : (i : Inline) → spelled_tree (empty_frame 0 ∷ map settled_frame (frames 0 1 i)) (number 1 i) ≡ settled i
+spelled_tree-settled_frames i =
+    spelled-number (empty_frame 0 ∷ map settled_frame (frames 0 1 i)) (length (empty_frame 0 ∷ map settled_frame (frames 0 1 i))) 0 1 i
+        (omega (arith, length-map (frames 0 1 i) settled_frame, length-frames 0 1 i)) (Stand-behind settled_frame (empty_frame 0 ∷ []) (frames 0 1 i))
+
+-- what an ad in its numbering spells, so ads with equal spellings are equal
+pub spelled-frames : (ds : Defs) → spelled (frames 0 0 (inner ds)) ≡ inner ds
+spelled-frames ds =
+    plain-number (frames 0 0 (inner ds)) (length (frames 0 0 (inner ds))) 0 0 (inner ds)
+        (omega (arith, length-frames 0 0 (inner ds)))
+        (subst (λ fs. Stand as_it_is fs 0 (frames 0 0 (inner ds))) (map-as_it_is (frames 0 0 (inner ds))) (Stand-behind as_it_is [] (frames 0 0 (inner ds))))
+
+pub spelled_tree-frames : (i : Inline) → spelled_tree (empty_frame 0 ∷ frames 0 1 i) (number 1 i) ≡ i
+spelled_tree-frames i =
+    plain-number (empty_frame 0 ∷ frames 0 1 i) (length (empty_frame 0 ∷ frames 0 1 i)) 0 1 i
+        (omega (arith, length-frames 0 1 i))
+        (subst (λ fs. Stand as_it_is (empty_frame 0 ∷ fs) 1 (frames 0 1 i)) (map-as_it_is (frames 0 1 i)) (Stand-behind as_it_is (empty_frame 0 ∷ []) (frames 0 1 i)))
+
+-- ---- trees without repeated names ----
+
+-- frames with names apart need no settling
+mutual
+  pub settled_frame-frames : (p b : ℕ) (i : Inline) → is_apart i ≡ true → map settled_frame (frames p b i) ≡ frames p b i
+  settled_frame-frames p b (shape label is) h = settled_frame-frames_all p b is h
+  settled_frame-frames p b (inner ds) h =
+      ap (λ attributes. record { parent = p; attributes = attributes } ∷ map settled_frame (frames_in b (suc b) ds))
+          (put_all-apart (attributes_from (suc b) ds) (ap are_apart (names-attributes_from (suc b) ds) ∙ both_left _ _ h))
+      ∙ ap (λ fs. record { parent = p; attributes = attributes_from (suc b) ds } ∷ fs) (settled_frame-frames_in b (suc b) ds (both_right _ _ h))
+
+  pub settled_frame-frames_all : (p b : ℕ) (is : Inlines) → all_apart is ≡ true → map settled_frame (frames_all p b is) ≡ frames_all p b is
+  settled_frame-frames_all p b end h = refl
+  settled_frame-frames_all p b (next i is) h =
+      map-append settled_frame (frames p b i) (frames_all p (b + count i) is)
+      ∙ ap (λ fs. fs ++ map settled_frame (frames_all p (b + count i) is)) (settled_frame-frames p b i (both_left _ _ h))
+      ∙ ap (λ fs. frames p b i ++ fs) (settled_frame-frames_all p (b + count i) is (both_right _ _ h))
+
+  pub settled_frame-frames_in : (p b : ℕ) (ds : Defs) → defs_apart ds ≡ true → map settled_frame (frames_in p b ds) ≡ frames_in p b ds
+  settled_frame-frames_in p b no_defs h = refl
+  settled_frame-frames_in p b (def name i ds) h =
+      map-append settled_frame (frames p b i) (frames_in p (b + count i) ds)
+      ∙ ap (λ fs. fs ++ map settled_frame (frames_in p (b + count i) ds)) (settled_frame-frames p b i (both_left _ _ h))
+      ∙ ap (λ fs. frames p b i ++ fs) (settled_frame-frames_in p (b + count i) ds (both_right _ _ h))
+
+-- a tree without repeated names stays as it is
+pub settled-apart : (i : Inline) → is_apart i ≡ true → settled i ≡ i
+settled-apart i h =
+    sym (spelled_tree-settled_frames i)
+    ∙ ap (λ fs. spelled_tree (empty_frame 0 ∷ fs) (number 1 i)) (settled_frame-frames 0 1 i h)
+    ∙ spelled_tree-frames i
+
+-- settling leaves no repeated names
+defs_apart-put : (name : List ℕ) (i : Inline) (ds : Defs) → is_apart i ≡ true → defs_apart ds ≡ true → defs_apart (put name i ds) ≡ true
+defs_apart-put name i no_defs h k = both _ _ h refl
+defs_apart-put name i (def other j ds) h k = by (same_name name other) (defs_apart-put name i ds h (both_right _ _ k))
+  where
+    by : (b : Bool) → defs_apart (put name i ds) ≡ true → defs_apart (cond b (def name i ds) (def other j (put name i ds))) ≡ true
+    by true e = both _ _ h (both_right _ _ k)
+    by false e = both _ _ (both_left _ _ k) e
+
+mutual
+  pub apart-settled : (i : Inline) → is_apart (settled i) ≡ true
+  apart-settled (shape label is) = apart-settled_all is
+  apart-settled (inner ds) = apart-settled_defs no_defs ds refl refl
+
+  pub apart-settled_all : (is : Inlines) → all_apart (settled_all is) ≡ true
+  apart-settled_all end = refl
+  apart-settled_all (next i is) = both _ _ (apart-settled i) (apart-settled_all is)
+
+  pub apart-settled_defs : (done ds : Defs) → are_apart (def_names done) ≡ true → defs_apart done ≡ true → is_apart (inner (settled_defs done ds)) ≡ true
+  apart-settled_defs done no_defs h k = both _ _ h k
+  apart-settled_defs done (def name i ds) h k =
+      apart-settled_defs (put name (settled i) done) ds
+          (ap are_apart (names-put name (settled i) done) ∙ apart-put_name name (def_names done) h)
+          (defs_apart-put name (settled i) done (apart-settled i) k)
+
+pub settled-settled : (i : Inline) → settled (settled i) ≡ settled i
+settled-settled i = settled-apart (settled i) (apart-settled i)

@@ -1,4 +1,6 @@
-use Rattle.ad_tree.proofs.SpellingLemmas.{spelled-number} -- scratch
+use Rattle.ad_tree.proofs.TreeLemmas.{size-at} -- scratch
+use Rattle.ad_tree.proofs.AdLemmas.{inside-level} -- scratch
+use Rattle.ad_tree.proofs.SpellingLemmas.{settled-settled} -- scratch
 use Rattle.ad_tree.proofs.PlacedLemmas.{frame-placed} -- scratch
 use Rattle.ad_tree.proofs.AttributeLemmas.{put_all-apart} -- scratch
 use Rattle.ad_tree.proofs.InlineLemmas.{number_all-last} -- scratch

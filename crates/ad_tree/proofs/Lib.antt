@@ -1,7 +1,9 @@
 pub mod AdLemmas
 mod AttributeLemmas
+mod DraftLemmas
 mod EntryLemmas
 pub mod InlineLemmas
+mod Measures
 mod NameLemmas
 pub mod PlacedLemmas
 pub mod SpellingLemmas

@@ -99,9 +99,12 @@ impl Draft {
         ensures { option_map (λ f. frame_of f.now) result ≡ slice_get (draft_frames self.now) frame }
     {
         if frame == 0 {
-            Some(&self.root)
-        } else {
-            self.inner.get(frame as usize - 1)
+            return Some(&self.root);
         }
+        let place = frame as usize - 1;
+        if place >= self.inner.len() {
+            return None;
+        }
+        Some(&self.inner[place])
     }
 }

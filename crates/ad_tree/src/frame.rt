@@ -20,6 +20,14 @@ pub struct Attribute {
     pub expr: Expr,
 }
 
+impl Attribute {
+    fn is_named(&self, name: &[u8]) -> bool
+        ensures { result ≡ same_name name.now self.now.name }
+    {
+        same_folded(name, self.name.bytes())
+    }
+}
+
 #[derive(Drop)]
 pub struct AdFrame {
     pub parent: u32,
@@ -86,9 +94,8 @@ impl AdFrame {
     {
         let mut buffer = [0u8; SHORT_NAME];
         let key = &mut buffer[..name.len()];
-        for (to, from) in key.iter_mut().zip(name) {
-            *to = from.to_ascii_lowercase();
-        }
+        key.copy_from_slice(name);
+        fold_in_place(key);
         let key: &[u8] = key;
         self.attributes.get_index_of(key)
     }
@@ -96,9 +103,21 @@ impl AdFrame {
     fn scan(&self, name: &[u8]) -> Option<usize>
         ensures { result ≡ position (same_name name.now) (names_of (frame_of self.now).attributes) }
     {
-        self.attributes
-            .values()
-            .position(|attribute| same_folded(name, attribute.name.bytes()))
+        place_of(self.attributes.values().as_slice(), name)
+    }
+}
+
+fn place_of(attributes: &[Attribute], name: &[u8]) -> Option<usize>
+    ensures { result ≡ position (λ a. same_name name.now a.name) attributes.now }
+{
+    attributes.iter().position(|attribute| attribute.is_named(name))
+}
+
+fn fold_in_place(bytes: &mut [u8])
+    ensures { bytes.new ≡ folded bytes.old }
+{
+    for i in 0..bytes.len() {
+        bytes[i] = bytes[i].to_ascii_lowercase();
     }
 }
 

@@ -1,9 +1,4 @@
-use Rattle.ad_tree.proofs.TreeLemmas.{size-at} -- scratch
-use Rattle.ad_tree.proofs.AdLemmas.{inside-level} -- scratch
-use Rattle.ad_tree.proofs.SpellingLemmas.{settled-settled} -- scratch
-use Rattle.ad_tree.proofs.PlacedLemmas.{frame-placed} -- scratch
-use Rattle.ad_tree.proofs.AttributeLemmas.{put_all-apart} -- scratch
-use Rattle.ad_tree.proofs.InlineLemmas.{number_all-last} -- scratch
+use Rattle.ad_tree.proofs.Measures.{levels-down} -- scratch
 use Rattle.std.proofs.Common.{◌<◌, length, refl}
 use Rattle.std.proofs.lemmas.List.{length-map}
 use Rattle.std.proofs.lemmas.Option.{slice_get_read, slice_get-map}

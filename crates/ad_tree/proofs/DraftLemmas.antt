@@ -1,6 +1,6 @@
 -- The frames of a draft: the root, and those behind it.
-use Rattle.std.proofs.Common.{refl, arith, ◌≡◌, ◌≤◌, ◌<◌, ◌-◌, ℕ, zero, suc, ◌+◌, List, [], ◌∷◌, length, map, get_or, ap, sym, ◌∙◌, subst, Option, None, Some, option_map, slice_get, slice_set, Result, Ok, Err, OnOk, OnErr}
-use Rattle.std.proofs.lemmas.List.{length-map}
+use Rattle.std.proofs.Common.{refl, arith, ◌≡◌, ◌≤◌, ◌<◌, ◌-◌, ℕ, zero, suc, ◌+◌, List, [], ◌∷◌, ◌++◌, length, map, get_or, ap, sym, ◌∙◌, subst, Option, None, Some, option_map, slice_get, slice_set, Result, Ok, Err, OnOk, OnErr}
+use Rattle.std.proofs.lemmas.List.{length-map, map-append}
 use Rattle.std.proofs.lemmas.Option.{slice_get_read, slice_get_past, slice_get-map}
 use Rattle.ad_tree.specs.declared.frame.AdFrame.{AdFrame}
 use Rattle.ad_tree.specs.Tree.{Tree}
@@ -24,7 +24,7 @@ inner-past root fs zero n h = absurd (n refl)
 inner-past root fs (suc f) n h = sym (slice_get_past (frames_of fs) f (omega (arith, h, length-map fs frame_of)))
 
 -- a write at a place writes the frame there
-frames_of-set : (fs : List AdFrame) (k : ℕ) (x : AdFrame) → frames_of (slice_set fs k x) ≡ slice_set (frames_of fs) k (frame_of x)
+pub frames_of-set : (fs : List AdFrame) (k : ℕ) (x : AdFrame) → frames_of (slice_set fs k x) ≡ slice_set (frames_of fs) k (frame_of x)
 frames_of-set [] k x = refl
 frames_of-set (g ∷ gs) zero x = refl
 frames_of-set (g ∷ gs) (suc k) x = ap (λ hs. frame_of g ∷ hs) (frames_of-set gs k x)
@@ -69,3 +69,7 @@ on_ok (Err e) f h = h
 pub on_err : {A E : Type 0} (r : Result A E) {P Q : Type 0} → (P → Q) → OnErr r P → OnErr r Q
 on_err (Ok a) f h = h
 on_err (Err e) f h = f h
+
+-- a frame is put behind others
+pub frames_of-push : (xs ys : List AdFrame) (y : AdFrame) (f : Frame) → ys ≡ xs ++ y ∷ [] → frame_of y ≡ f → frames_of ys ≡ frames_of xs ++ f ∷ []
+frames_of-push xs ys y f h e = ap frames_of h ∙ map-append frame_of xs (y ∷ []) ∙ ap (λ g. frames_of xs ++ g ∷ []) e

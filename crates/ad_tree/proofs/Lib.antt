@@ -8,3 +8,4 @@ mod NameLemmas
 pub mod PlacedLemmas
 pub mod SpellingLemmas
 pub mod TreeLemmas
+mod WalkLemmas

@@ -1,4 +1,5 @@
-use Rattle.ad_tree.proofs.Measures.{levels-down} -- scratch
+use Rattle.ad_tree.proofs.DraftLemmas.{frames_of-push} -- scratch
+use Rattle.ad_tree.proofs.WalkLemmas.{frame_opened} -- scratch
 use Rattle.std.proofs.Common.{◌<◌, length, refl}
 use Rattle.std.proofs.lemmas.List.{length-map}
 use Rattle.std.proofs.lemmas.Option.{slice_get_read, slice_get-map}

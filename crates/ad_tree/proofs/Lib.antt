@@ -2,6 +2,7 @@ pub mod AdLemmas
 mod AttributeLemmas
 mod DraftLemmas
 mod EntryLemmas
+mod FinishLemmas
 pub mod InlineLemmas
 mod Measures
 mod NameLemmas

@@ -18,7 +18,7 @@ pub struct Ports {
 }
 
 /// The request of a match. A single request has no ports, a gang 1 to 8.
-#[derive(Drop)]
+#[derive(Debug, Drop)]
 pub struct Request {
     pub ad: Ad,
     pub ports: Ports,

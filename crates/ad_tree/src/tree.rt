@@ -15,7 +15,7 @@ pub enum Scope {
 /// An ad literal within it is a `Frame`: the number of a frame of the ad in which the expression stands.
 /// In every tree that a parse gives, `And` and `Or` have at least two elements, and the first isn't of the same kind.
 #[cycle(tree)]
-#[derive(Drop)]
+#[derive(Debug, Drop)]
 pub enum Expr {
     Literal(Lit),
     Name(Scope, Text),
@@ -36,7 +36,7 @@ pub enum Expr {
 
 /// A list of expressions, which contracts see as the list of their plain trees.
 #[cycle(tree)]
-#[derive(Drop)]
+#[derive(Debug, Drop)]
 pub struct Exprs {
     items: Vec<Expr>,
 }

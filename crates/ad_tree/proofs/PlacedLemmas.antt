@@ -2,9 +2,9 @@
 use Rattle.std.proofs.Common.{refl, arith, ◌≡◌, ℕ, zero, suc, ◌+◌, List, [], ◌∷◌, ◌++◌, length, map, ap, sym, ◌∙◌, length-append, append_assoc, slice_set}
 use Rattle.std.proofs.lemmas.List.{append-nil, map-append, length-map}
 use Rattle.ad_tree.specs.Tree.{Label, Tree, node, frame, Trees, none, more}
-use Rattle.ad_tree.specs.Frames.{Frame, empty_frame, defined_in, put_attribute, put_all, settled_frame}
+use Rattle.ad_tree.specs.Frames.{Frame, empty_frame, defined_in, defined, put_attribute, put_all, settled_frame}
 use Rattle.ad_tree.specs.Inline.{Inline, shape, inner, Inlines, end, next, Defs, no_defs, def, count, count_all, count_defs, number, number_all, attributes_from, frames, frames_all, frames_in}
-use Rattle.ad_tree.specs.Placed.{IsPlaced, AreAllPlaced, AreDefinitionsPlaced}
+use Rattle.ad_tree.specs.Placed.{IsPlaced, AreAllPlaced, AreDefinitionsPlaced, HasDefined}
 use Rattle.ad_tree.proofs.AttributeLemmas.{put_all-push}
 use Rattle.ad_tree.proofs.InlineLemmas.{length-frames, length-frames_all, length-frames_in, more_last, next_last, def_last, number_all-last, attributes_from-last, frames_all-last, frames_in-last}
 
@@ -116,3 +116,53 @@ frame-placed parent {ds} {f} {before} {after} h = record {
   where
     longer : length (before ++ empty_frame parent ∷ []) ≡ suc (length before)
     longer = omega (arith, length-append before (empty_frame parent ∷ []))
+
+-- ---- a draft whose frames are defined one after another ----
+
+-- a definition in the frame behind those that were there
+defined-behind : (before after : List Frame) (f : Frame) (name : List ℕ) (t : Tree) → defined (before ++ f ∷ after) (length before) name t ≡ before ++ defined_in f name t ∷ after
+defined-behind [] after f name t = refl
+defined-behind (b ∷ bs) after f name t = ap (λ fs. b ∷ fs) (defined-behind bs after f name t)
+
+-- a new frame has no definitions
+pub new-defined : (parent : ℕ) (before : List Frame) → HasDefined parent no_defs before (before ++ empty_frame parent ∷ [])
+new-defined parent before = record { defined = refl }
+
+-- how many frames stand then
+length-defined : {parent : ℕ} {ds : Defs} {before after : List Frame} → HasDefined parent ds before after → length after ≡ suc (length before) + count_defs ds
+length-defined {parent} {ds} {before} {after} h =
+    let own : Frame = settled_frame (record { parent = parent; attributes = attributes_from (suc (length before)) ds }) in
+    let rest : List Frame = map settled_frame (frames_in (length before) (suc (length before)) ds) in
+    let many : length rest ≡ count_defs ds = length-map (frames_in (length before) (suc (length before)) ds) settled_frame ∙ length-frames_in (length before) (suc (length before)) ds in
+    omega (arith, ap length h.defined, length-append before (own ∷ rest), many)
+
+-- one definition more, once its expression is placed
+pub next-defined : {parent : ℕ} {ds : Defs} (name : List ℕ) {i : Inline} {t : Tree} {before between placed after : List Frame}
+    → HasDefined parent ds before between → IsPlaced (length before) i t between placed → after ≡ defined placed (length before) name t
+    → HasDefined parent (def_last ds name i) before after
+next-defined {parent} {ds} name {i} {t} {before} {between} {placed} {after} h k e =
+    let b : ℕ = suc (length before) in
+    let own : Frame = settled_frame (record { parent = parent; attributes = attributes_from b ds }) in
+    let rest : List Frame = map settled_frame (frames_in (length before) b ds) in
+    let new : List Frame = map settled_frame (frames (length before) (length between) i) in
+    let here : placed ≡ before ++ own ∷ (rest ++ new) = k.opened ∙ ap (λ fs. fs ++ new) h.defined ∙ append_assoc before (own ∷ rest) new in
+    let copy : t ≡ number (b + count_defs ds) i = k.copied ∙ ap (λ n. number n i) (length-defined h) in
+    let attributes : put_attribute name t (put_all [] (attributes_from b ds)) ≡ put_all [] (attributes_from b (def_last ds name i)) =
+            ap (λ u. put_attribute name u (put_all [] (attributes_from b ds))) copy
+            ∙ sym (put_all-push [] (attributes_from b ds) name (number (b + count_defs ds) i))
+            ∙ ap (put_all []) (sym (attributes_from-last b ds name i)) in
+    let frames_behind : rest ++ new ≡ map settled_frame (frames_in (length before) b (def_last ds name i)) =
+            ap (λ n. rest ++ map settled_frame (frames (length before) n i)) (length-defined h)
+            ∙ sym (map-append settled_frame (frames_in (length before) b ds) (frames (length before) (b + count_defs ds) i))
+            ∙ ap (map settled_frame) (sym (frames_in-last (length before) b ds name i)) in
+    record {
+      defined = e
+          ∙ ap (λ fs. defined fs (length before) name t) here
+          ∙ defined-behind before (rest ++ new) own name t
+          ∙ ap (λ as_put. before ++ (record { parent = parent; attributes = as_put }) ∷ (rest ++ new)) attributes
+          ∙ ap (λ fs. before ++ settled_frame (record { parent = parent; attributes = attributes_from b (def_last ds name i) }) ∷ fs) frames_behind
+    }
+
+-- a frame that has all its definitions is placed
+pub defined-placed : {parent : ℕ} {ds : Defs} {before after : List Frame} → HasDefined parent ds before after → IsPlaced parent (inner ds) (frame (length before)) before after
+defined-placed h = record { copied = refl; opened = h.defined }

@@ -5,7 +5,7 @@ use Rattle.std.proofs.lemmas.List.Elements.{Contains-append_left, Contains-appen
 use Rattle.ad_tree.specs.Tree.{Label, Tree, node, frame, Trees, none, more, cited, cited_all}
 use Rattle.ad_tree.specs.Names.{same_name, are_apart}
 use Rattle.ad_tree.specs.Frames.{Frame, empty_frame, attributes_at, attributes_in, put_attribute, put_all, settled_frame, names_of, names_in, cited_in, parent_of, IsAd}
-use Rattle.ad_tree.specs.Inline.{Inline, shape, inner, Inlines, end, next, Defs, no_defs, def, count, count_all, count_defs, number, number_all, attributes_from, frames, frames_all, frames_in, inlined, inlined_all, defs_of, inside, opened, spelled, spelled_tree, put, settled, settled_all, settled_defs, is_apart, all_apart, defs_apart, def_names}
+use Rattle.ad_tree.specs.Inline.{Inline, shape, inner, Inlines, end, next, Defs, no_defs, def, count, count_all, count_defs, number, number_all, attributes_from, frames, frames_all, frames_in, inlined, inlined_all, defs_of, inside, opened, spelled, spelled_tree, put, settled, settled_all, settled_defs, ad_of, phrase_of, phrase_tree, literals, literals_all, literals_in, is_apart, all_apart, defs_apart, def_names}
 use Rattle.ad_tree.proofs.NameLemmas.{both_left, both_right, both}
 use Rattle.ad_tree.proofs.AttributeLemmas.{names-put, apart-put_name, put_all-apart}
 use Rattle.ad_tree.proofs.InlineLemmas.{length-frames, length-frames_all, length-frames_in, names-attributes_from}
@@ -139,6 +139,99 @@ spelled_tree-frames i =
     plain-number (empty_frame 0 ∷ frames 0 1 i) (length (empty_frame 0 ∷ frames 0 1 i)) 0 1 i
         (omega (arith, length-frames 0 1 i))
         (subst (λ fs. Stand as_it_is (empty_frame 0 ∷ fs) 1 (frames 0 1 i)) (map-as_it_is (frames 0 1 i)) (Stand-behind as_it_is (empty_frame 0 ∷ []) (frames 0 1 i)))
+
+-- so a draft that was filled by defining name by name is finished as the ad of the spelled tree
+pub ad_of-finished : (ds : Defs) {fs : List Frame} → fs ≡ map settled_frame (frames 0 0 (inner ds)) → frames 0 0 (spelled fs) ≡ ad_of (inner ds)
+ad_of-finished ds h = ap (λ gs. frames 0 0 (spelled gs)) h ∙ ap (frames 0 0) (spelled-settled_frames ds)
+
+pub phrase_of-finished : (i : Inline) {fs : List Frame} → fs ≡ empty_frame 0 ∷ map settled_frame (frames 0 1 i)
+    → (empty_frame 0 ∷ frames 0 1 (spelled_tree fs (number 1 i)) ≡ phrase_of i) × (number 1 (spelled_tree fs (number 1 i)) ≡ phrase_tree i)
+phrase_of-finished i h =
+    let e = ap (λ gs. spelled_tree gs (number 1 i)) h ∙ spelled_tree-settled_frames i in
+    (ap (λ x. empty_frame 0 ∷ frames 0 1 x) e, ap (number 1) e)
+
+-- ---- the order of the opening brackets ----
+
+-- what stands in the frames from b on
+abbrev AllStand : List Frame → ℕ → ℕ → List Defs → Type 0
+AllStand fs n b [] = Unit {0}
+AllStand fs n b (ds ∷ rest) = (inside fs n b ≡ ds) × AllStand fs n (suc b) rest
+
+module _ (fs : List Frame) (n : ℕ) where
+  AllStand-append : (b : ℕ) (ds es : List Defs) → AllStand fs n b ds → AllStand fs n (b + length ds) es → AllStand fs n b (ds ++ es)
+  AllStand-append b [] es h k = subst (λ m. AllStand fs n m es) at_start k
+    where
+      at_start : b + 0 ≡ b
+      at_start = omega arith
+  AllStand-append b (d ∷ ds) es h k = (h.0, AllStand-append (suc b) ds es h.1 (subst (λ m. AllStand fs n m es) (one_on b (length ds)) k))
+    where
+      one_on : (a c : ℕ) → a + suc c ≡ suc a + c
+      one_on a c = omega arith
+
+  AllStand-at : (b : ℕ) (all : List Defs) (k : ℕ) (ds : Defs) → AllStand fs n b all → slice_get all k ≡ Some ds → inside fs n (b + k) ≡ ds
+  AllStand-at b [] k ds h e = absurd (cc)
+  AllStand-at b (d ∷ all) zero ds h e = let same : d ≡ ds = cc in ap (inside fs n) at_start ∙ h.0 ∙ same
+    where
+      at_start : b + 0 ≡ b
+      at_start = omega arith
+  AllStand-at b (d ∷ all) (suc k) ds h e = ap (inside fs n) (one_on b k) ∙ AllStand-at (suc b) all k ds h.1 e
+    where
+      one_on : (a c : ℕ) → a + suc c ≡ suc a + c
+      one_on a c = omega arith
+
+mutual
+  pub length-literals : (i : Inline) → length (literals i) ≡ count i
+  length-literals (shape label is) = length-literals_all is
+  length-literals (inner ds) = ap suc (length-literals_in ds)
+
+  length-literals_all : (is : Inlines) → length (literals_all is) ≡ count_all is
+  length-literals_all end = refl
+  length-literals_all (next i is) = omega (arith, length-append (literals i) (literals_all is), length-literals i, length-literals_all is)
+
+  length-literals_in : (ds : Defs) → length (literals_in ds) ≡ count_defs ds
+  length-literals_in no_defs = refl
+  length-literals_in (def name i ds) = omega (arith, length-append (literals i) (literals_in ds), length-literals i, length-literals_in ds)
+
+inner-equal : (d e : Defs) → inner d ≡ inner e → d ≡ e
+inner-equal d e h = cc
+
+module _ (fs : List Frame) (n : ℕ) where
+  mutual
+    literals-stand : (p b : ℕ) (i : Inline) → count i ≤ n → Stand as_it_is fs b (frames p b i) → AllStand fs n b (literals i)
+    literals-stand p b (shape label is) enough s = literals_all-stand p b is enough s
+    literals-stand p b (inner ds) enough s =
+        (inner-equal (inside fs n b) ds (plain-number fs n p b (inner ds) enough s), literals_in-stand b (suc b) ds (omega (arith, enough)) s.1)
+
+    literals_all-stand : (p b : ℕ) (is : Inlines) → count_all is ≤ n → Stand as_it_is fs b (frames_all p b is) → AllStand fs n b (literals_all is)
+    literals_all-stand p b end enough s = tt
+    literals_all-stand p b (next i is) enough s =
+        AllStand-append fs n b (literals i) (literals_all is)
+            (literals-stand p b i (omega (arith, enough)) (Stand-left as_it_is fs b (frames p b i) (frames_all p (b + count i) is) s))
+            (subst (λ m. AllStand fs n (b + m) (literals_all is)) (sym (length-literals i))
+                (literals_all-stand p (b + count i) is (omega (arith, enough))
+                    (subst (λ m. Stand as_it_is fs (b + m) (frames_all p (b + count i) is)) (length-frames p b i) (Stand-right as_it_is fs b (frames p b i) (frames_all p (b + count i) is) s))))
+
+    literals_in-stand : (p b : ℕ) (ds : Defs) → count_defs ds ≤ n → Stand as_it_is fs b (frames_in p b ds) → AllStand fs n b (literals_in ds)
+    literals_in-stand p b no_defs enough s = tt
+    literals_in-stand p b (def name i ds) enough s =
+        AllStand-append fs n b (literals i) (literals_in ds)
+            (literals-stand p b i (omega (arith, enough)) (Stand-left as_it_is fs b (frames p b i) (frames_in p (b + count i) ds) s))
+            (subst (λ m. AllStand fs n (b + m) (literals_in ds)) (sym (length-literals i))
+                (literals_in-stand p (b + count i) ds (omega (arith, enough))
+                    (subst (λ m. Stand as_it_is fs (b + m) (frames_in p (b + count i) ds)) (length-frames p b i) (Stand-right as_it_is fs b (frames p b i) (frames_in p (b + count i) ds) s))))
+
+-- frame k is the ad literal with the opening bracket k, counted from 0
+pub inside-literals : (ds : Defs) (k : ℕ) (es : Defs) → slice_get (literals (inner ds)) k ≡ Some es
+    → inside (frames 0 0 (inner ds)) (length (frames 0 0 (inner ds))) k ≡ es
+inside-literals ds k es e =
+    let fs : List Frame = frames 0 0 (inner ds) in
+    ap (inside fs (length fs)) (at_start k)
+    ∙ AllStand-at fs (length fs) 0 (literals (inner ds)) k es
+        (literals-stand fs (length fs) 0 0 (inner ds) (omega (arith, length-frames 0 0 (inner ds)))
+            (subst (λ gs. Stand as_it_is gs 0 (frames 0 0 (inner ds))) (map-as_it_is fs) (Stand-behind as_it_is [] fs))) e
+  where
+    at_start : (m : ℕ) → m ≡ 0 + m
+    at_start m = omega arith
 
 -- ---- trees without repeated names ----
 

@@ -1,9 +1,8 @@
 -- Spelled trees: expressions with their ad literals in place, as the grammar spells them and as they are printed.
--- The ad of a spelled tree x is `frames 0 0 (settled x)`.
 use Rattle.std.specs.Prelude.{ℕ, zero, suc, ◌+◌, max, Bool, true, ◌&&◌, List, [], ◌∷◌, ◌++◌, length, cond}
 use Rattle.ad_tree.specs.Tree.{Label, Tree, node, frame, Trees, none, more}
 use Rattle.ad_tree.specs.Names.{same_name, are_apart}
-use Rattle.ad_tree.specs.Frames.{Frame, attributes_at}
+use Rattle.ad_tree.specs.Frames.{Frame, empty_frame, attributes_at}
 
 -- a node with the trees below it, or an ad literal with its definitions in order
 mutual
@@ -60,6 +59,20 @@ abbrev mutual
   pub definitions_in : Defs → ℕ
   definitions_in no_defs = 0
   definitions_in (def name i ds) = suc (definitions i + definitions_in ds)
+
+-- the definitions of each ad literal, in the order of the opening brackets
+abbrev mutual
+  pub literals : Inline → List Defs
+  literals (shape label is) = literals_all is
+  literals (inner ds) = ds ∷ literals_in ds
+
+  pub literals_all : Inlines → List Defs
+  literals_all end = []
+  literals_all (next i is) = literals i ++ literals_all is
+
+  pub literals_in : Defs → List Defs
+  literals_in no_defs = []
+  literals_in (def name i ds) = literals i ++ literals_in ds
 
 -- the plain tree, with the numbers of the frames in the place of the ad literals: they are numbered from b, in the order of their opening brackets
 abbrev mutual
@@ -140,6 +153,18 @@ abbrev mutual
   pub settled_defs : Defs → Defs → Defs
   settled_defs done no_defs = done
   settled_defs done (def name i ds) = settled_defs (put name (settled i) done) ds
+
+-- the ad of a spelled ad literal
+abbrev pub ad_of : Inline → List Frame
+ad_of x = frames 0 0 (settled x)
+
+-- the ad of a spelled expression that stands alone: an empty root, and the frames of the expression's ad literals
+abbrev pub phrase_of : Inline → List Frame
+phrase_of x = empty_frame 0 ∷ frames 0 1 (settled x)
+
+-- and its plain tree
+abbrev pub phrase_tree : Inline → Tree
+phrase_tree x = number 1 (settled x)
 
 -- the names of definitions
 abbrev pub def_names : Defs → List (List ℕ)

@@ -1,5 +1,5 @@
 -- What a copy of a tree into an ad under construction has done: the copy is the numbered tree, and its frames stand behind those that were there.
-use Rattle.std.specs.Prelude.{ℕ, ◌≡◌, List, ◌++◌, length, map}
+use Rattle.std.specs.Prelude.{ℕ, suc, ◌≡◌, List, ◌∷◌, ◌++◌, length, map}
 use Rattle.ad_tree.specs.Tree.{Tree, Trees}
 use Rattle.ad_tree.specs.Frames.{Frame, settled_frame}
 use Rattle.ad_tree.specs.Inline.{Inline, Inlines, Defs, number, number_all, attributes_from, frames, frames_all, frames_in}
@@ -18,3 +18,8 @@ pub record AreAllPlaced (p : ℕ) (is : Inlines) (copies : Trees) (before after 
 pub record AreDefinitionsPlaced (parent p : ℕ) (ds : Defs) (copy : Frame) (before after : List Frame) : Type 0 where
   pub copied : copy ≡ settled_frame (record { parent = parent; attributes = attributes_from (length before) ds })
   pub opened : after ≡ before ++ map settled_frame (frames_in p (length before) ds)
+
+-- a frame of a draft with its definitions so far: it stands behind the frames that were there, and the frames of its ad literals stand behind it
+pub record HasDefined (parent : ℕ) (ds : Defs) (before after : List Frame) : Type 0 where
+  pub defined : after ≡ before ++ settled_frame (record { parent = parent; attributes = attributes_from (suc (length before)) ds })
+      ∷ map settled_frame (frames_in (length before) (suc (length before)) ds)

@@ -1,5 +1,5 @@
 -- Plain trees: what contracts see of an expression. Equal expressions are those whose plain trees are equal.
-use Rattle.std.specs.Prelude.{ℕ, suc, ◌+◌, List, [], ◌∷◌, ◌++◌}
+use Rattle.std.specs.Prelude.{ℕ, suc, ◌+◌, max, List, [], ◌∷◌, ◌++◌}
 use Rattle.pool_text.specs.declared.language.Lit.{Lit}
 use Rattle.pool_text.specs.declared.language.UnOp.{UnOp}
 use Rattle.pool_text.specs.declared.language.BinOp.{BinOp}
@@ -80,6 +80,16 @@ abbrev mutual
   pub size_all : Trees → ℕ
   size_all none = 0
   size_all (more t ts) = size t + size_all ts
+
+-- the height of a tree, where the number of a frame is a leaf
+abbrev mutual
+  pub height_of : Tree → ℕ
+  height_of (node label ts) = suc (highest_of ts)
+  height_of (frame f) = 1
+
+  pub highest_of : Trees → ℕ
+  highest_of none = 0
+  highest_of (more t ts) = max (height_of t) (highest_of ts)
 
 -- the frames whose numbers stand in a tree, from left to right
 abbrev mutual

@@ -56,6 +56,7 @@ AreSound-at fs b (f ∷ gs) zero g h e = subst (λ n. IsSound fs n g) at_start (
   where
     at_start : b ≡ b + 0
     at_start = omega arith
+
     same : f ≡ g
     same = cc
 AreSound-at fs b (f ∷ gs) (suc k) g h e = subst (λ n. IsSound fs n g) (one_on b k) (AreSound-at fs (suc b) gs k g h.1 e)
@@ -72,11 +73,11 @@ AreSound-from_start fs gs k g h e = subst (λ n. IsSound fs n g) at_start (AreSo
 -- frames that are sound where they stand make an ad
 pub IsAd-sound : (fs : List Frame) → 0 < length fs → AreSound fs 0 fs → IsAd fs
 IsAd-sound fs root h = record {
-    root = root;
-    lower = λ f parent e. lower f parent (slice_get fs f) refl e;
-    apart = λ f. apart f (slice_get fs f) refl;
-    nested = λ f g c. nested f g (slice_get fs f) refl c
-  }
+  root = root;
+  lower = λ f parent e. lower f parent (slice_get fs f) refl e;
+  apart = λ f. apart f (slice_get fs f) refl;
+  nested = λ f g c. nested f g (slice_get fs f) refl c;
+}
   where
     lower : (f parent : ℕ) (o : Option Frame) → slice_get fs f ≡ o → parent_of fs f ≡ Some parent → parent < f
     lower zero parent o at e = absurd (cc)
@@ -107,26 +108,26 @@ module _ (fs : List Frame) where
     cited-number_all p b end h s = tt
     cited-number_all p b (next i is) h s =
         Each-append (λ f. parent_of fs f ≡ Some p) (cited (number b i)) (cited_all (number_all (b + count i) is))
-            (cited-number p b i h (Stand-left as_it_is fs b (frames p b i) (frames_all p (b + count i) is) s))
-            (cited-number_all p (b + count i) is (omega (arith, h))
-                (subst (λ m. Stand as_it_is fs (b + m) (frames_all p (b + count i) is)) (length-frames p b i) (Stand-right as_it_is fs b (frames p b i) (frames_all p (b + count i) is) s)))
+        (cited-number p b i h (Stand-left as_it_is fs b (frames p b i) (frames_all p (b + count i) is) s))
+        (cited-number_all p (b + count i) is (omega (arith, h))
+        (subst (λ m. Stand as_it_is fs (b + m) (frames_all p (b + count i) is)) (length-frames p b i) (Stand-right as_it_is fs b (frames p b i) (frames_all p (b + count i) is) s)))
 
   cited-attributes : (p b : ℕ) (ds : Defs) → 0 < b → Stand as_it_is fs b (frames_in p b ds) → Each (λ f. parent_of fs f ≡ Some p) (cited_in (attributes_from b ds))
   cited-attributes p b no_defs h s = tt
   cited-attributes p b (def name i ds) h s =
       Each-append (λ f. parent_of fs f ≡ Some p) (cited (number b i)) (cited_in (attributes_from (b + count i) ds))
-          (cited-number p b i h (Stand-left as_it_is fs b (frames p b i) (frames_in p (b + count i) ds) s))
-          (cited-attributes p (b + count i) ds (omega (arith, h))
-              (subst (λ m. Stand as_it_is fs (b + m) (frames_in p (b + count i) ds)) (length-frames p b i) (Stand-right as_it_is fs b (frames p b i) (frames_in p (b + count i) ds) s)))
+      (cited-number p b i h (Stand-left as_it_is fs b (frames p b i) (frames_in p (b + count i) ds) s))
+      (cited-attributes p (b + count i) ds (omega (arith, h))
+      (subst (λ m. Stand as_it_is fs (b + m) (frames_in p (b + count i) ds)) (length-frames p b i) (Stand-right as_it_is fs b (frames p b i) (frames_in p (b + count i) ds) s)))
 
   -- an ad literal's frame is sound
   sound-inner : (p b : ℕ) (ds : Defs) → (0 < b → p < b) → is_apart (inner ds) ≡ true → Stand as_it_is fs (suc b) (frames_in b (suc b) ds)
       → IsSound fs b (record { parent = p; attributes = attributes_from (suc b) ds })
   sound-inner p b ds low h s = record {
-      nested = cited-attributes b (suc b) ds (omega arith) s;
-      lower = low;
-      apart = ap are_apart (names-attributes_from (suc b) ds) ∙ both_left _ _ h
-    }
+    nested = cited-attributes b (suc b) ds (omega arith) s;
+    lower = low;
+    apart = ap are_apart (names-attributes_from (suc b) ds) ∙ both_left _ _ h;
+  }
 
   -- and so are all frames of a tree
   mutual
@@ -138,19 +139,19 @@ module _ (fs : List Frame) where
     sound-frames_all p b end low h s = tt
     sound-frames_all p b (next i is) low h s =
         AreSound-append fs b (frames p b i) (frames_all p (b + count i) is)
-            (sound-frames p b i low (both_left _ _ h) (Stand-left as_it_is fs b (frames p b i) (frames_all p (b + count i) is) s))
-            (subst (λ m. AreSound fs (b + m) (frames_all p (b + count i) is)) (sym (length-frames p b i))
-                (sound-frames_all p (b + count i) is (omega (arith, low)) (both_right _ _ h)
-                    (subst (λ m. Stand as_it_is fs (b + m) (frames_all p (b + count i) is)) (length-frames p b i) (Stand-right as_it_is fs b (frames p b i) (frames_all p (b + count i) is) s))))
+        (sound-frames p b i low (both_left _ _ h) (Stand-left as_it_is fs b (frames p b i) (frames_all p (b + count i) is) s))
+        (subst (λ m. AreSound fs (b + m) (frames_all p (b + count i) is)) (sym (length-frames p b i))
+        (sound-frames_all p (b + count i) is (omega (arith, low)) (both_right _ _ h)
+        (subst (λ m. Stand as_it_is fs (b + m) (frames_all p (b + count i) is)) (length-frames p b i) (Stand-right as_it_is fs b (frames p b i) (frames_all p (b + count i) is) s))))
 
     sound-frames_in : (p b : ℕ) (ds : Defs) → p < b → defs_apart ds ≡ true → Stand as_it_is fs b (frames_in p b ds) → AreSound fs b (frames_in p b ds)
     sound-frames_in p b no_defs low h s = tt
     sound-frames_in p b (def name i ds) low h s =
         AreSound-append fs b (frames p b i) (frames_in p (b + count i) ds)
-            (sound-frames p b i low (both_left _ _ h) (Stand-left as_it_is fs b (frames p b i) (frames_in p (b + count i) ds) s))
-            (subst (λ m. AreSound fs (b + m) (frames_in p (b + count i) ds)) (sym (length-frames p b i))
-                (sound-frames_in p (b + count i) ds (omega (arith, low)) (both_right _ _ h)
-                    (subst (λ m. Stand as_it_is fs (b + m) (frames_in p (b + count i) ds)) (length-frames p b i) (Stand-right as_it_is fs b (frames p b i) (frames_in p (b + count i) ds) s))))
+        (sound-frames p b i low (both_left _ _ h) (Stand-left as_it_is fs b (frames p b i) (frames_in p (b + count i) ds) s))
+        (subst (λ m. AreSound fs (b + m) (frames_in p (b + count i) ds)) (sym (length-frames p b i))
+        (sound-frames_in p (b + count i) ds (omega (arith, low)) (both_right _ _ h)
+        (subst (λ m. Stand as_it_is fs (b + m) (frames_in p (b + count i) ds)) (length-frames p b i) (Stand-right as_it_is fs b (frames p b i) (frames_in p (b + count i) ds) s))))
 
 -- frames stand behind what is before them, as they are
 Stand-plainly : (before gs : List Frame) → Stand as_it_is (before ++ gs) (length before) gs
@@ -160,23 +161,25 @@ Stand-plainly before gs = subst (λ fs. Stand as_it_is (before ++ fs) (length be
 pub IsAd-frames : (ds : Defs) → is_apart (inner ds) ≡ true → IsAd (frames 0 0 (inner ds))
 IsAd-frames ds h =
     let s = Stand-plainly [] (frames 0 0 (inner ds)) in
-    IsAd-sound (frames 0 0 (inner ds)) (omega arith)
-        (sound-inner (frames 0 0 (inner ds)) 0 0 ds (λ w. absurd (omega (arith, w))) h s.1,
-            sound-frames_in (frames 0 0 (inner ds)) 0 1 ds (omega arith) (both_right _ _ h) s.1)
+    IsAd-sound (frames 0 0 (inner ds)) (omega arith) (
+      sound-inner (frames 0 0 (inner ds)) 0 0 ds (λ w. absurd (omega (arith, w))) h s.1,
+      sound-frames_in (frames 0 0 (inner ds)) 0 1 ds (omega arith) (both_right _ _ h) s.1,
+    )
 
 -- and so is an expression's, behind an empty root
 pub IsAd-phrase : (i : Inline) → is_apart i ≡ true → IsAd (empty_frame 0 ∷ frames 0 1 i)
 IsAd-phrase i h =
-    IsAd-sound (empty_frame 0 ∷ frames 0 1 i) (omega arith)
-        (record { nested = tt; lower = λ w. absurd (omega (arith, w)); apart = refl },
-            sound-frames (empty_frame 0 ∷ frames 0 1 i) 0 1 i (omega arith) h (Stand-plainly (empty_frame 0 ∷ []) (frames 0 1 i)))
+    IsAd-sound (empty_frame 0 ∷ frames 0 1 i) (omega arith) (
+      record { nested = tt; lower = λ w. absurd (omega (arith, w)); apart = refl },
+      sound-frames (empty_frame 0 ∷ frames 0 1 i) 0 1 i (omega arith) h (Stand-plainly (empty_frame 0 ∷ []) (frames 0 1 i)),
+    )
 
 -- frames with names apart spell trees without repeated names
 pub inside-apart : (fs : List Frame) → ((f : ℕ) → IsTrue (are_apart (names_in fs f))) → (n f : ℕ) → is_apart (inner (inside fs n f)) ≡ true
 inside-apart fs h zero f = refl
 inside-apart fs h (suc n) f =
     both _ _ (ap are_apart (names-defs_of (inside fs n) (attributes_at fs f)) ∙ h f)
-        (defs_of-apart (inside fs n) (inside-apart fs h n) (attributes_at fs f))
+    (defs_of-apart (inside fs n) (inside-apart fs h n) (attributes_at fs f))
 
 pub spelled_tree-apart : (fs : List Frame) → ((f : ℕ) → IsTrue (are_apart (names_in fs f))) → (t : Tree) → is_apart (spelled_tree fs t) ≡ true
 spelled_tree-apart fs h t = inlined-apart (inside fs (length fs)) (inside-apart fs h (length fs)) t
@@ -226,7 +229,7 @@ module _ (fs : List Frame) (ad : IsAd fs) where
   inside-enough (suc n) zero f h k = missing (suc n) f (omega (arith, k))
   inside-enough (suc n) (suc m) f h k =
       defs_of-along (inside fs n) (inside fs m) (attributes_at fs f)
-          (λ g c. let up = above-cited fs ad f g c in inside-enough n m g (omega (arith, h, up)) (omega (arith, k, up)))
+      (λ g c. let up = above-cited fs ad f g c in inside-enough n m g (omega (arith, h, up)) (omega (arith, k, up)))
 
   -- one level of an ad: what stands in a frame, with its ad literals opened in the same way
   pub inside-level : (f : ℕ) → inside fs (length fs) f ≡ defs_of (inside fs (length fs)) (attributes_at fs f)

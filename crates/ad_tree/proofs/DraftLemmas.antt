@@ -16,7 +16,7 @@ pub inner-read : (root : Frame) (fs : List AdFrame) (f : ℕ) (x : AdFrame) → 
 inner-read root fs zero x n h e = absurd (n refl)
 inner-read root fs (suc f) x n h e =
     sym (slice_get-map frame_of fs f
-        ∙ ap (option_map frame_of) (slice_get_read fs (length fs) f x refl (omega (arith, h)) (e ∙ ap (λ k. get_or fs k x) (less_one f))))
+    ∙ ap (option_map frame_of) (slice_get_read fs (length fs) f x refl (omega (arith, h)) (e ∙ ap (λ k. get_or fs k x) (less_one f))))
 
 -- past the last there is none
 pub inner-past : (root : Frame) (fs : List AdFrame) (f : ℕ) → (f ≡ 0 → ⊥) → length fs ≤ f - 1 → None ≡ slice_get (root ∷ frames_of fs) f
@@ -59,7 +59,7 @@ pub parent-read : (fs : List AdFrame) (f : ℕ) (x : AdFrame) → (f ≡ 0 → �
 parent-read fs zero x n h e = absurd (n refl)
 parent-read fs (suc f) x n h e =
     ap (option_map (λ g. g.parent)) (slice_get-map frame_of fs (suc f)
-        ∙ ap (option_map frame_of) (slice_get_read fs (length (frames_of fs)) (suc f) x (length-map fs frame_of) h e))
+    ∙ ap (option_map frame_of) (slice_get_read fs (length (frames_of fs)) (suc f) x (length-map fs frame_of) h e))
 
 -- what a result tells, told on
 pub on_ok : {A E : Type 0} (r : Result A E) {P Q : Type 0} → (P → Q) → OnOk r P → OnOk r Q

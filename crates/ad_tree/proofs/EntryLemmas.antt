@@ -46,7 +46,7 @@ module _ (key : Vec ℕ Global) (a : Attribute) (folds : key.items ≡ folded a.
     where
       by : (b : Bool) → attributes_of (insert_entry same_key es key a) ≡ put_attribute a.name (tree a.expr) (attributes_of es)
           → attributes_of (cond b ((e.0, a) ∷ es) (e ∷ insert_entry same_key es key a))
-            ≡ cond b (attribute_of a ∷ attributes_of es) (attribute_of e.1 ∷ put_attribute a.name (tree a.expr) (attributes_of es))
+          ≡ cond b (attribute_of a ∷ attributes_of es) (attribute_of e.1 ∷ put_attribute a.name (tree a.expr) (attributes_of es))
       by true k = refl
       by false k = ap (λ rest. attribute_of e.1 ∷ rest) k
 
@@ -82,7 +82,7 @@ module _ (q name : List ℕ) (folds : q ≡ folded name) where
   prefix_len-keys [] h = refl
   prefix_len-keys (e ∷ es) h =
       ap (λ b. cond (not b) (1 + prefix_len (λ k. not (pointwise nat_eq q k.items)) (keys_of es)) 0)
-          (ap (λ k. pointwise nat_eq k e.0.items) folds ∙ ap (pointwise nat_eq (folded name)) (heads h))
+      (ap (λ k. pointwise nat_eq k e.0.items) folds ∙ ap (pointwise nat_eq (folded name)) (heads h))
       ∙ ap (λ n. cond (not (same_name name e.1.name)) (1 + n) 0) (prefix_len-keys es (tails h))
 
   pub position-keys : (es : List Entry) → keys_fold_names es

@@ -56,7 +56,7 @@ number_all-last b end i = rw add-zero-of refl
     add-zero-of = omega arith
 number_all-last b (next j js) i =
     ap (more (number b j)) (number_all-last (b + count j) js i
-        ∙ ap (λ n. more_last (number_all (b + count j) js) (number n i)) (regroup b (count j) (count_all js)))
+    ∙ ap (λ n. more_last (number_all (b + count j) js) (number n i)) (regroup b (count j) (count_all js)))
   where
     regroup : (a b c : ℕ) → (a + b) + c ≡ a + (b + c)
     regroup a b c = omega arith
@@ -69,7 +69,7 @@ attributes_from-last b no_defs name i = ap (λ n. (name, number n i) ∷ []) at_
     at_start = omega arith
 attributes_from-last b (def other j ds) name i =
     ap (λ rest. (other, number b j) ∷ rest) (attributes_from-last (b + count j) ds name i
-        ∙ ap (λ n. attributes_from (b + count j) ds ++ (name, number n i) ∷ []) (regroup b (count j) (count_defs ds)))
+    ∙ ap (λ n. attributes_from (b + count j) ds ++ (name, number n i) ∷ []) (regroup b (count j) (count_defs ds)))
   where
     regroup : (a b c : ℕ) → (a + b) + c ≡ a + (b + c)
     regroup a b c = omega arith
@@ -82,7 +82,7 @@ frames_all-last p b end i = append-nil (frames p b i) ∙ ap (λ n. frames p n i
     at_start = omega arith
 frames_all-last p b (next j js) i =
     ap (λ rest. frames p b j ++ rest) (frames_all-last p (b + count j) js i
-        ∙ ap (λ n. frames_all p (b + count j) js ++ frames p n i) (regroup b (count j) (count_all js)))
+    ∙ ap (λ n. frames_all p (b + count j) js ++ frames p n i) (regroup b (count j) (count_all js)))
     ∙ sym (append_assoc (frames p b j) (frames_all p (b + count j) js) (frames p (b + (count j + count_all js)) i))
   where
     regroup : (a b c : ℕ) → (a + b) + c ≡ a + (b + c)
@@ -96,7 +96,7 @@ frames_in-last p b no_defs name i = append-nil (frames p b i) ∙ ap (λ n. fram
     at_start = omega arith
 frames_in-last p b (def other j ds) name i =
     ap (λ rest. frames p b j ++ rest) (frames_in-last p (b + count j) ds name i
-        ∙ ap (λ n. frames_in p (b + count j) ds ++ frames p n i) (regroup b (count j) (count_defs ds)))
+    ∙ ap (λ n. frames_in p (b + count j) ds ++ frames p n i) (regroup b (count j) (count_defs ds)))
     ∙ sym (append_assoc (frames p b j) (frames_in p (b + count j) ds) (frames p (b + (count j + count_defs ds)) i))
   where
     regroup : (a b c : ℕ) → (a + b) + c ≡ a + (b + c)
@@ -124,4 +124,3 @@ mutual
 pub defs_of-apart : (k : ℕ → Defs) → ((f : ℕ) → is_apart (inner (k f)) ≡ true) → (attributes : List (List ℕ × Tree)) → defs_apart (defs_of k attributes) ≡ true
 defs_of-apart k h [] = refl
 defs_of-apart k h (a ∷ rest) = both _ _ (inlined-apart k h a.1) (defs_of-apart k h rest)
-

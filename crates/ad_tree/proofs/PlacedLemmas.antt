@@ -28,29 +28,29 @@ module _ {p : ℕ} where
   pub last-placed : {is : Inlines} {ts : Trees} {i : Inline} {t : Tree} {before between after : List Frame}
       → AreAllPlaced p is ts before between → IsPlaced p i t between after → AreAllPlaced p (next_last is i) (more_last ts t) before after
   last-placed {is} {ts} {i} {t} {before} {between} {after} h k = record {
-      copied = ap (λ us. more_last us t) h.copied
-          ∙ ap (more_last (number_all (length before) is)) (k.copied ∙ ap (λ n. number n i) (length-all_placed h))
-          ∙ sym (number_all-last (length before) is i);
-      opened = k.opened
-          ∙ ap (λ n. between ++ map settled_frame (frames p n i)) (length-all_placed h)
-          ∙ ap (λ fs. fs ++ map settled_frame (frames p (length before + count_all is) i)) h.opened
-          ∙ append_assoc before (map settled_frame (frames_all p (length before) is)) (map settled_frame (frames p (length before + count_all is) i))
-          ∙ ap (λ fs. before ++ fs) (sym (map-append settled_frame (frames_all p (length before) is) (frames p (length before + count_all is) i))
-              ∙ ap (map settled_frame) (sym (frames_all-last p (length before) is i)))
-    }
+    copied = ap (λ us. more_last us t) h.copied
+        ∙ ap (more_last (number_all (length before) is)) (k.copied ∙ ap (λ n. number n i) (length-all_placed h))
+        ∙ sym (number_all-last (length before) is i);
+    opened = k.opened
+        ∙ ap (λ n. between ++ map settled_frame (frames p n i)) (length-all_placed h)
+        ∙ ap (λ fs. fs ++ map settled_frame (frames p (length before + count_all is) i)) h.opened
+        ∙ append_assoc before (map settled_frame (frames_all p (length before) is)) (map settled_frame (frames p (length before + count_all is) i))
+        ∙ ap (λ fs. before ++ fs) (sym (map-append settled_frame (frames_all p (length before) is) (frames p (length before + count_all is) i))
+        ∙ ap (map settled_frame) (sym (frames_all-last p (length before) is i)));
+  }
 
   -- one tree before others
   pub next-placed : {i : Inline} {t : Tree} {is : Inlines} {ts : Trees} {before between after : List Frame}
       → IsPlaced p i t before between → AreAllPlaced p is ts between after → AreAllPlaced p (next i is) (more t ts) before after
   next-placed {i} {t} {is} {ts} {before} {between} {after} h k = record {
-      copied = ap (λ u. more u ts) h.copied
-          ∙ ap (more (number (length before) i)) (k.copied ∙ ap (λ n. number_all n is) (length-placed h));
-      opened = k.opened
-          ∙ ap (λ n. between ++ map settled_frame (frames_all p n is)) (length-placed h)
-          ∙ ap (λ fs. fs ++ map settled_frame (frames_all p (length before + count i) is)) h.opened
-          ∙ append_assoc before (map settled_frame (frames p (length before) i)) (map settled_frame (frames_all p (length before + count i) is))
-          ∙ ap (λ fs. before ++ fs) (sym (map-append settled_frame (frames p (length before) i) (frames_all p (length before + count i) is)))
-    }
+    copied = ap (λ u. more u ts) h.copied
+        ∙ ap (more (number (length before) i)) (k.copied ∙ ap (λ n. number_all n is) (length-placed h));
+    opened = k.opened
+        ∙ ap (λ n. between ++ map settled_frame (frames_all p n is)) (length-placed h)
+        ∙ ap (λ fs. fs ++ map settled_frame (frames_all p (length before + count i) is)) h.opened
+        ∙ append_assoc before (map settled_frame (frames p (length before) i)) (map settled_frame (frames_all p (length before + count i) is))
+        ∙ ap (λ fs. before ++ fs) (sym (map-append settled_frame (frames p (length before) i) (frames_all p (length before + count i) is)));
+  }
 
   -- a node over its trees
   pub node-placed : (label : Label) {is : Inlines} {ts : Trees} {before after : List Frame} → AreAllPlaced p is ts before after → IsPlaced p (shape label is) (node label ts) before after
@@ -79,19 +79,19 @@ module _ {parent p : ℕ} where
       → AreDefinitionsPlaced parent p ds f before between → IsPlaced p i t between after
       → AreDefinitionsPlaced parent p (def_last ds name i) (defined_in f name t) before after
   def-placed {ds} {f} name {i} {t} {before} {between} {after} h k = record {
-      copied = ap (λ g. defined_in g name t) h.copied
-          ∙ ap (λ u. defined_in (settled_frame (record { parent = parent; attributes = attributes_from (length before) ds })) name u)
-              (k.copied ∙ ap (λ n. number n i) (length-defs_placed h))
-          ∙ ap (λ attributes. record { parent = parent; attributes = attributes })
-              (sym (put_all-push [] (attributes_from (length before) ds) name (number (length before + count_defs ds) i))
-              ∙ ap (put_all []) (sym (attributes_from-last (length before) ds name i)));
-      opened = k.opened
-          ∙ ap (λ n. between ++ map settled_frame (frames p n i)) (length-defs_placed h)
-          ∙ ap (λ fs. fs ++ map settled_frame (frames p (length before + count_defs ds) i)) h.opened
-          ∙ append_assoc before (map settled_frame (frames_in p (length before) ds)) (map settled_frame (frames p (length before + count_defs ds) i))
-          ∙ ap (λ fs. before ++ fs) (sym (map-append settled_frame (frames_in p (length before) ds) (frames p (length before + count_defs ds) i))
-              ∙ ap (map settled_frame) (sym (frames_in-last p (length before) ds name i)))
-    }
+    copied = ap (λ g. defined_in g name t) h.copied
+        ∙ ap (λ u. defined_in (settled_frame (record { parent = parent; attributes = attributes_from (length before) ds })) name u)
+        (k.copied ∙ ap (λ n. number n i) (length-defs_placed h))
+        ∙ ap (λ attributes. record { parent = parent; attributes = attributes })
+        (sym (put_all-push [] (attributes_from (length before) ds) name (number (length before + count_defs ds) i))
+        ∙ ap (put_all []) (sym (attributes_from-last (length before) ds name i)));
+    opened = k.opened
+        ∙ ap (λ n. between ++ map settled_frame (frames p n i)) (length-defs_placed h)
+        ∙ ap (λ fs. fs ++ map settled_frame (frames p (length before + count_defs ds) i)) h.opened
+        ∙ append_assoc before (map settled_frame (frames_in p (length before) ds)) (map settled_frame (frames p (length before + count_defs ds) i))
+        ∙ ap (λ fs. before ++ fs) (sym (map-append settled_frame (frames_in p (length before) ds) (frames p (length before + count_defs ds) i))
+        ∙ ap (map settled_frame) (sym (frames_in-last p (length before) ds name i)));
+  }
 
 -- a write to the frame behind those that were there
 pub set-behind : (before after : List Frame) (e f : Frame) → slice_set (before ++ e ∷ after) (length before) f ≡ before ++ f ∷ after
@@ -107,12 +107,12 @@ pub frame-placed : (parent : ℕ) {ds : Defs} {f : Frame} {before after : List F
     → AreDefinitionsPlaced parent (length before) ds f (before ++ empty_frame parent ∷ []) after
     → IsPlaced parent (inner ds) (frame (length before)) before (slice_set after (length before) f)
 frame-placed parent {ds} {f} {before} {after} h = record {
-    copied = refl;
-    opened = ap (λ fs. slice_set fs (length before) f) (h.opened ∙ append_assoc before (empty_frame parent ∷ []) (map settled_frame (frames_in (length before) (length (before ++ empty_frame parent ∷ [])) ds)))
-        ∙ set-behind before (map settled_frame (frames_in (length before) (length (before ++ empty_frame parent ∷ [])) ds)) (empty_frame parent) f
-        ∙ ap (λ g. before ++ g ∷ map settled_frame (frames_in (length before) (length (before ++ empty_frame parent ∷ [])) ds)) h.copied
-        ∙ ap (λ n. before ++ settled_frame (record { parent = parent; attributes = attributes_from n ds }) ∷ map settled_frame (frames_in (length before) n ds)) longer
-  }
+  copied = refl;
+  opened = ap (λ fs. slice_set fs (length before) f) (h.opened ∙ append_assoc before (empty_frame parent ∷ []) (map settled_frame (frames_in (length before) (length (before ++ empty_frame parent ∷ [])) ds)))
+      ∙ set-behind before (map settled_frame (frames_in (length before) (length (before ++ empty_frame parent ∷ [])) ds)) (empty_frame parent) f
+      ∙ ap (λ g. before ++ g ∷ map settled_frame (frames_in (length before) (length (before ++ empty_frame parent ∷ [])) ds)) h.copied
+      ∙ ap (λ n. before ++ settled_frame (record { parent = parent; attributes = attributes_from n ds }) ∷ map settled_frame (frames_in (length before) n ds)) longer;
+}
   where
     longer : length (before ++ empty_frame parent ∷ []) ≡ suc (length before)
     longer = omega (arith, length-append before (empty_frame parent ∷ []))
@@ -148,19 +148,19 @@ next-defined {parent} {ds} name {i} {t} {before} {between} {placed} {after} h k 
     let here : placed ≡ before ++ own ∷ (rest ++ new) = k.opened ∙ ap (λ fs. fs ++ new) h.defined ∙ append_assoc before (own ∷ rest) new in
     let copy : t ≡ number (b + count_defs ds) i = k.copied ∙ ap (λ n. number n i) (length-defined h) in
     let attributes : put_attribute name t (put_all [] (attributes_from b ds)) ≡ put_all [] (attributes_from b (def_last ds name i)) =
-            ap (λ u. put_attribute name u (put_all [] (attributes_from b ds))) copy
-            ∙ sym (put_all-push [] (attributes_from b ds) name (number (b + count_defs ds) i))
-            ∙ ap (put_all []) (sym (attributes_from-last b ds name i)) in
+    ap (λ u. put_attribute name u (put_all [] (attributes_from b ds))) copy
+    ∙ sym (put_all-push [] (attributes_from b ds) name (number (b + count_defs ds) i))
+    ∙ ap (put_all []) (sym (attributes_from-last b ds name i)) in
     let frames_behind : rest ++ new ≡ map settled_frame (frames_in (length before) b (def_last ds name i)) =
-            ap (λ n. rest ++ map settled_frame (frames (length before) n i)) (length-defined h)
-            ∙ sym (map-append settled_frame (frames_in (length before) b ds) (frames (length before) (b + count_defs ds) i))
-            ∙ ap (map settled_frame) (sym (frames_in-last (length before) b ds name i)) in
+    ap (λ n. rest ++ map settled_frame (frames (length before) n i)) (length-defined h)
+    ∙ sym (map-append settled_frame (frames_in (length before) b ds) (frames (length before) (b + count_defs ds) i))
+    ∙ ap (map settled_frame) (sym (frames_in-last (length before) b ds name i)) in
     record {
       defined = e
           ∙ ap (λ fs. defined fs (length before) name t) here
           ∙ defined-behind before (rest ++ new) own name t
           ∙ ap (λ as_put. before ++ (record { parent = parent; attributes = as_put }) ∷ (rest ++ new)) attributes
-          ∙ ap (λ fs. before ++ settled_frame (record { parent = parent; attributes = attributes_from b (def_last ds name i) }) ∷ fs) frames_behind
+          ∙ ap (λ fs. before ++ settled_frame (record { parent = parent; attributes = attributes_from b (def_last ds name i) }) ∷ fs) frames_behind;
     }
 
 -- a frame that has all its definitions is placed

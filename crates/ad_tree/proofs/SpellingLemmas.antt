@@ -37,8 +37,10 @@ slice_get-behind (b ∷ bs) after g = slice_get-behind bs after g
 
 pub Stand-behind : (h : Frame → Frame) (before gs : List Frame) → Stand h (before ++ map h gs) (length before) gs
 Stand-behind h before [] = tt
-Stand-behind h before (g ∷ gs) = (slice_get-behind before (map h gs) (h g),
-    subst (λ n. Stand h (before ++ h g ∷ map h gs) n gs) longer (subst (λ fs. Stand h fs (length (before ++ h g ∷ [])) gs) (append_assoc before (h g ∷ []) (map h gs)) (Stand-behind h (before ++ h g ∷ []) gs)))
+Stand-behind h before (g ∷ gs) = (
+  slice_get-behind before (map h gs) (h g),
+  subst (λ n. Stand h (before ++ h g ∷ map h gs) n gs) longer (subst (λ fs. Stand h fs (length (before ++ h g ∷ [])) gs) (append_assoc before (h g ∷ []) (map h gs)) (Stand-behind h (before ++ h g ∷ []) gs)),
+)
   where
     longer : length (before ++ h g ∷ []) ≡ suc (length before)
     longer = omega (arith, length-append before (h g ∷ []))
@@ -67,19 +69,19 @@ module _ (fs : List Frame) where
     spelled-number_all n p b end enough s = refl
     spelled-number_all n p b (next i is) enough s =
         ap (λ j. next j (inlined_all (inside fs n) (number_all (b + count i) is)))
-            (spelled-number n p b i (omega (arith, enough)) (Stand-left settled_frame fs b (frames p b i) (frames_all p (b + count i) is) s))
+        (spelled-number n p b i (omega (arith, enough)) (Stand-left settled_frame fs b (frames p b i) (frames_all p (b + count i) is) s))
         ∙ ap (next (settled i)) (spelled-number_all n p (b + count i) is (omega (arith, enough))
-            (subst (λ m. Stand settled_frame fs (b + m) (frames_all p (b + count i) is)) (length-frames p b i) (Stand-right settled_frame fs b (frames p b i) (frames_all p (b + count i) is) s)))
+        (subst (λ m. Stand settled_frame fs (b + m) (frames_all p (b + count i) is)) (length-frames p b i) (Stand-right settled_frame fs b (frames p b i) (frames_all p (b + count i) is) s)))
 
     pub spelled-attributes : (n p b : ℕ) (ds : Defs) (done : List (List ℕ × Tree)) → count_defs ds ≤ n → Stand settled_frame fs b (frames_in p b ds)
         → defs_of (inside fs n) (put_all done (attributes_from b ds)) ≡ settled_defs (defs_of (inside fs n) done) ds
     spelled-attributes n p b no_defs done enough s = refl
     spelled-attributes n p b (def name i ds) done enough s =
         spelled-attributes n p (b + count i) ds (put_attribute name (number b i) done) (omega (arith, enough))
-            (subst (λ m. Stand settled_frame fs (b + m) (frames_in p (b + count i) ds)) (length-frames p b i) (Stand-right settled_frame fs b (frames p b i) (frames_in p (b + count i) ds) s))
+        (subst (λ m. Stand settled_frame fs (b + m) (frames_in p (b + count i) ds)) (length-frames p b i) (Stand-right settled_frame fs b (frames p b i) (frames_in p (b + count i) ds) s))
         ∙ ap (λ before. settled_defs before ds) (defs_of-put (inside fs n) name (number b i) done
-            ∙ ap (λ j. put name j (defs_of (inside fs n) done))
-                (spelled-number n p b i (omega (arith, enough)) (Stand-left settled_frame fs b (frames p b i) (frames_in p (b + count i) ds) s)))
+        ∙ ap (λ j. put name j (defs_of (inside fs n) done))
+        (spelled-number n p b i (omega (arith, enough)) (Stand-left settled_frame fs b (frames p b i) (frames_in p (b + count i) ds) s)))
 
 -- frames as they are numbered are spelled back as they were
 abbrev pub as_it_is : Frame → Frame
@@ -98,17 +100,17 @@ module _ (fs : List Frame) where
     plain-number_all n p b end enough s = refl
     plain-number_all n p b (next i is) enough s =
         ap (λ j. next j (inlined_all (inside fs n) (number_all (b + count i) is)))
-            (plain-number n p b i (omega (arith, enough)) (Stand-left as_it_is fs b (frames p b i) (frames_all p (b + count i) is) s))
+        (plain-number n p b i (omega (arith, enough)) (Stand-left as_it_is fs b (frames p b i) (frames_all p (b + count i) is) s))
         ∙ ap (next i) (plain-number_all n p (b + count i) is (omega (arith, enough))
-            (subst (λ m. Stand as_it_is fs (b + m) (frames_all p (b + count i) is)) (length-frames p b i) (Stand-right as_it_is fs b (frames p b i) (frames_all p (b + count i) is) s)))
+        (subst (λ m. Stand as_it_is fs (b + m) (frames_all p (b + count i) is)) (length-frames p b i) (Stand-right as_it_is fs b (frames p b i) (frames_all p (b + count i) is) s)))
 
     pub plain-attributes : (n p b : ℕ) (ds : Defs) → count_defs ds ≤ n → Stand as_it_is fs b (frames_in p b ds) → defs_of (inside fs n) (attributes_from b ds) ≡ ds
     plain-attributes n p b no_defs enough s = refl
     plain-attributes n p b (def name i ds) enough s =
         ap (λ j. def name j (defs_of (inside fs n) (attributes_from (b + count i) ds)))
-            (plain-number n p b i (omega (arith, enough)) (Stand-left as_it_is fs b (frames p b i) (frames_in p (b + count i) ds) s))
+        (plain-number n p b i (omega (arith, enough)) (Stand-left as_it_is fs b (frames p b i) (frames_in p (b + count i) ds) s))
         ∙ ap (def name i) (plain-attributes n p (b + count i) ds (omega (arith, enough))
-            (subst (λ m. Stand as_it_is fs (b + m) (frames_in p (b + count i) ds)) (length-frames p b i) (Stand-right as_it_is fs b (frames p b i) (frames_in p (b + count i) ds) s)))
+        (subst (λ m. Stand as_it_is fs (b + m) (frames_in p (b + count i) ds)) (length-frames p b i) (Stand-right as_it_is fs b (frames p b i) (frames_in p (b + count i) ds) s)))
 
 pub map-as_it_is : (fs : List Frame) → map as_it_is fs ≡ fs
 map-as_it_is [] = refl
@@ -120,25 +122,25 @@ map-as_it_is (f ∷ fs) = ap (λ gs. f ∷ gs) (map-as_it_is fs)
 pub spelled-settled_frames : (ds : Defs) → spelled (map settled_frame (frames 0 0 (inner ds))) ≡ settled (inner ds)
 spelled-settled_frames ds =
     spelled-number (map settled_frame (frames 0 0 (inner ds))) (length (map settled_frame (frames 0 0 (inner ds)))) 0 0 (inner ds)
-        (omega (arith, length-map (frames 0 0 (inner ds)) settled_frame, length-frames 0 0 (inner ds))) (Stand-behind settled_frame [] (frames 0 0 (inner ds)))
+    (omega (arith, length-map (frames 0 0 (inner ds)) settled_frame, length-frames 0 0 (inner ds))) (Stand-behind settled_frame [] (frames 0 0 (inner ds)))
 
 pub spelled_tree-settled_frames : (i : Inline) → spelled_tree (empty_frame 0 ∷ map settled_frame (frames 0 1 i)) (number 1 i) ≡ settled i
 spelled_tree-settled_frames i =
     spelled-number (empty_frame 0 ∷ map settled_frame (frames 0 1 i)) (length (empty_frame 0 ∷ map settled_frame (frames 0 1 i))) 0 1 i
-        (omega (arith, length-map (frames 0 1 i) settled_frame, length-frames 0 1 i)) (Stand-behind settled_frame (empty_frame 0 ∷ []) (frames 0 1 i))
+    (omega (arith, length-map (frames 0 1 i) settled_frame, length-frames 0 1 i)) (Stand-behind settled_frame (empty_frame 0 ∷ []) (frames 0 1 i))
 
 -- what an ad in its numbering spells, so ads with equal spellings are equal
 pub spelled-frames : (ds : Defs) → spelled (frames 0 0 (inner ds)) ≡ inner ds
 spelled-frames ds =
     plain-number (frames 0 0 (inner ds)) (length (frames 0 0 (inner ds))) 0 0 (inner ds)
-        (omega (arith, length-frames 0 0 (inner ds)))
-        (subst (λ fs. Stand as_it_is fs 0 (frames 0 0 (inner ds))) (map-as_it_is (frames 0 0 (inner ds))) (Stand-behind as_it_is [] (frames 0 0 (inner ds))))
+    (omega (arith, length-frames 0 0 (inner ds)))
+    (subst (λ fs. Stand as_it_is fs 0 (frames 0 0 (inner ds))) (map-as_it_is (frames 0 0 (inner ds))) (Stand-behind as_it_is [] (frames 0 0 (inner ds))))
 
 pub spelled_tree-frames : (i : Inline) → spelled_tree (empty_frame 0 ∷ frames 0 1 i) (number 1 i) ≡ i
 spelled_tree-frames i =
     plain-number (empty_frame 0 ∷ frames 0 1 i) (length (empty_frame 0 ∷ frames 0 1 i)) 0 1 i
-        (omega (arith, length-frames 0 1 i))
-        (subst (λ fs. Stand as_it_is (empty_frame 0 ∷ fs) 1 (frames 0 1 i)) (map-as_it_is (frames 0 1 i)) (Stand-behind as_it_is (empty_frame 0 ∷ []) (frames 0 1 i)))
+    (omega (arith, length-frames 0 1 i))
+    (subst (λ fs. Stand as_it_is (empty_frame 0 ∷ fs) 1 (frames 0 1 i)) (map-as_it_is (frames 0 1 i)) (Stand-behind as_it_is (empty_frame 0 ∷ []) (frames 0 1 i)))
 
 -- so a draft that was filled by defining name by name is finished as the ad of the spelled tree
 pub ad_of-finished : (ds : Defs) {fs : List Frame} → fs ≡ map settled_frame (frames 0 0 (inner ds)) → frames 0 0 (spelled fs) ≡ ad_of (inner ds)
@@ -206,19 +208,19 @@ module _ (fs : List Frame) (n : ℕ) where
     literals_all-stand p b end enough s = tt
     literals_all-stand p b (next i is) enough s =
         AllStand-append fs n b (literals i) (literals_all is)
-            (literals-stand p b i (omega (arith, enough)) (Stand-left as_it_is fs b (frames p b i) (frames_all p (b + count i) is) s))
-            (subst (λ m. AllStand fs n (b + m) (literals_all is)) (sym (length-literals i))
-                (literals_all-stand p (b + count i) is (omega (arith, enough))
-                    (subst (λ m. Stand as_it_is fs (b + m) (frames_all p (b + count i) is)) (length-frames p b i) (Stand-right as_it_is fs b (frames p b i) (frames_all p (b + count i) is) s))))
+        (literals-stand p b i (omega (arith, enough)) (Stand-left as_it_is fs b (frames p b i) (frames_all p (b + count i) is) s))
+        (subst (λ m. AllStand fs n (b + m) (literals_all is)) (sym (length-literals i))
+        (literals_all-stand p (b + count i) is (omega (arith, enough))
+        (subst (λ m. Stand as_it_is fs (b + m) (frames_all p (b + count i) is)) (length-frames p b i) (Stand-right as_it_is fs b (frames p b i) (frames_all p (b + count i) is) s))))
 
     literals_in-stand : (p b : ℕ) (ds : Defs) → count_defs ds ≤ n → Stand as_it_is fs b (frames_in p b ds) → AllStand fs n b (literals_in ds)
     literals_in-stand p b no_defs enough s = tt
     literals_in-stand p b (def name i ds) enough s =
         AllStand-append fs n b (literals i) (literals_in ds)
-            (literals-stand p b i (omega (arith, enough)) (Stand-left as_it_is fs b (frames p b i) (frames_in p (b + count i) ds) s))
-            (subst (λ m. AllStand fs n (b + m) (literals_in ds)) (sym (length-literals i))
-                (literals_in-stand p (b + count i) ds (omega (arith, enough))
-                    (subst (λ m. Stand as_it_is fs (b + m) (frames_in p (b + count i) ds)) (length-frames p b i) (Stand-right as_it_is fs b (frames p b i) (frames_in p (b + count i) ds) s))))
+        (literals-stand p b i (omega (arith, enough)) (Stand-left as_it_is fs b (frames p b i) (frames_in p (b + count i) ds) s))
+        (subst (λ m. AllStand fs n (b + m) (literals_in ds)) (sym (length-literals i))
+        (literals_in-stand p (b + count i) ds (omega (arith, enough))
+        (subst (λ m. Stand as_it_is fs (b + m) (frames_in p (b + count i) ds)) (length-frames p b i) (Stand-right as_it_is fs b (frames p b i) (frames_in p (b + count i) ds) s))))
 
 -- frame k is the ad literal with the opening bracket k, counted from 0
 pub inside-literals : (ds : Defs) (k : ℕ) (es : Defs) → slice_get (literals (inner ds)) k ≡ Some es
@@ -227,8 +229,8 @@ inside-literals ds k es e =
     let fs : List Frame = frames 0 0 (inner ds) in
     ap (inside fs (length fs)) (at_start k)
     ∙ AllStand-at fs (length fs) 0 (literals (inner ds)) k es
-        (literals-stand fs (length fs) 0 0 (inner ds) (omega (arith, length-frames 0 0 (inner ds)))
-            (subst (λ gs. Stand as_it_is gs 0 (frames 0 0 (inner ds))) (map-as_it_is fs) (Stand-behind as_it_is [] fs))) e
+    (literals-stand fs (length fs) 0 0 (inner ds) (omega (arith, length-frames 0 0 (inner ds)))
+    (subst (λ gs. Stand as_it_is gs 0 (frames 0 0 (inner ds))) (map-as_it_is fs) (Stand-behind as_it_is [] fs))) e
   where
     at_start : (m : ℕ) → m ≡ 0 + m
     at_start m = omega arith
@@ -241,7 +243,7 @@ mutual
   settled_frame-frames p b (shape label is) h = settled_frame-frames_all p b is h
   settled_frame-frames p b (inner ds) h =
       ap (λ attributes. record { parent = p; attributes = attributes } ∷ map settled_frame (frames_in b (suc b) ds))
-          (put_all-apart (attributes_from (suc b) ds) (ap are_apart (names-attributes_from (suc b) ds) ∙ both_left _ _ h))
+      (put_all-apart (attributes_from (suc b) ds) (ap are_apart (names-attributes_from (suc b) ds) ∙ both_left _ _ h))
       ∙ ap (λ fs. record { parent = p; attributes = attributes_from (suc b) ds } ∷ fs) (settled_frame-frames_in b (suc b) ds (both_right _ _ h))
 
   pub settled_frame-frames_all : (p b : ℕ) (is : Inlines) → all_apart is ≡ true → map settled_frame (frames_all p b is) ≡ frames_all p b is
@@ -287,8 +289,8 @@ mutual
   apart-settled_defs done no_defs h k = both _ _ h k
   apart-settled_defs done (def name i ds) h k =
       apart-settled_defs (put name (settled i) done) ds
-          (ap are_apart (names-put name (settled i) done) ∙ apart-put_name name (def_names done) h)
-          (defs_apart-put name (settled i) done (apart-settled i) k)
+      (ap are_apart (names-put name (settled i) done) ∙ apart-put_name name (def_names done) h)
+      (defs_apart-put name (settled i) done (apart-settled i) k)
 
 pub settled-settled : (i : Inline) → settled (settled i) ≡ settled i
 settled-settled i = settled-apart (settled i) (apart-settled i)

@@ -23,10 +23,10 @@ pub list-placed : {p : ℕ} (k : ℕ → Defs) (ts : List Tree) (j : ℕ) (t : T
     → AreAllPlaced p (inlined_all k (pack (take (j + 1) ts))) (pack vs) before after
 list-placed {p} k ts j t us vs copy {before} {between} {after} at push h one =
     subst (λ is. AreAllPlaced p is (pack vs) before after)
-        (sym (ap (λ xs. inlined_all k (pack xs)) (take-next ts j t at) ∙ ap (inlined_all k) (pack-push (take j ts) t) ∙ inlined_all-last k (pack (take j ts)) t))
-        (subst (λ cs. AreAllPlaced p (next_last (inlined_all k (pack (take j ts))) (inlined k t)) cs before after)
-            (sym (ap pack push ∙ pack-push us copy))
-            (last-placed h one))
+    (sym (ap (λ xs. inlined_all k (pack xs)) (take-next ts j t at) ∙ ap (inlined_all k) (pack-push (take j ts) t) ∙ inlined_all-last k (pack (take j ts)) t))
+    (subst (λ cs. AreAllPlaced p (next_last (inlined_all k (pack (take j ts))) (inlined k t)) cs before after)
+    (sym (ap pack push ∙ pack-push us copy))
+    (last-placed h one))
 
 -- one definition of a frame more is placed
 pub defs-placed : {parent p : ℕ} (k : ℕ → Defs) (attributes : List (List ℕ × Tree)) (j : ℕ) (name : List ℕ) (t : Tree) (f g : Frame) (copy : Tree) {before between after : List Frame}
@@ -35,10 +35,10 @@ pub defs-placed : {parent p : ℕ} (k : ℕ → Defs) (attributes : List (List �
     → AreDefinitionsPlaced parent p (defs_of k (take (j + 1) attributes)) g before after
 defs-placed {parent} {p} k attributes j name t f g copy {before} {between} {after} at define h one =
     subst (λ ds. AreDefinitionsPlaced parent p ds g before after)
-        (sym (ap (defs_of k) (take-next attributes j (name, t) at) ∙ defs_of-push k (take j attributes) name t))
-        (subst (λ c. AreDefinitionsPlaced parent p (def_last (defs_of k (take j attributes)) name (inlined k t)) c before after)
-            (sym define)
-            (def-placed name h one))
+    (sym (ap (defs_of k) (take-next attributes j (name, t) at) ∙ defs_of-push k (take j attributes) name t))
+    (subst (λ c. AreDefinitionsPlaced parent p (def_last (defs_of k (take j attributes)) name (inlined k t)) c before after)
+    (sym define)
+    (def-placed name h one))
 
 -- what stands in a frame that is opened with turns left
 inside-turn : (fs : List Frame) (turns f : ℕ) (source : Frame) → (turns ≡ 0 → ⊥) → Some source ≡ slice_get fs f → inside fs turns f ≡ defs_of (inside fs (turns - 1)) source.attributes
@@ -60,8 +60,8 @@ pub missing-placed : (parent n : ℕ) (fs : List Frame) (turns f : ℕ) {before 
     → IsPlaced parent (opened fs turns f) (frame n) before after
 missing-placed parent n fs turns f {before} {after} at none push =
     subst (λ m. IsPlaced parent (opened fs turns f) (frame m) before after) (sym at)
-        (subst (λ ds. IsPlaced parent (inner ds) (frame (length before)) before after) (sym (inside-missing fs turns f none))
-            (subst (λ gs. IsPlaced parent (inner no_defs) (frame (length before)) before gs) (sym push) (empty-placed parent before)))
+    (subst (λ ds. IsPlaced parent (inner ds) (frame (length before)) before after) (sym (inside-missing fs turns f none))
+    (subst (λ gs. IsPlaced parent (inner no_defs) (frame (length before)) before gs) (sym push) (empty-placed parent before)))
 
 pub frame_opened : (parent n : ℕ) (fs : List Frame) (turns f : ℕ) (source copy : Frame) {before pushed after result : List Frame}
     → n ≡ length before → (turns ≡ 0 → ⊥) → Some source ≡ slice_get fs f → pushed ≡ before ++ empty_frame parent ∷ []
@@ -70,8 +70,8 @@ pub frame_opened : (parent n : ℕ) (fs : List Frame) (turns f : ℕ) (source co
 frame_opened parent n fs turns f source copy {before} {pushed} {after} {result} at left found push placed write =
     let ds : Defs = defs_of (inside fs (turns - 1)) source.attributes in
     subst (λ m. IsPlaced parent (opened fs turns f) (frame m) before result) (sym at)
-        (subst (λ es. IsPlaced parent (inner es) (frame (length before)) before result) (sym (inside-turn fs turns f source left found))
-            (subst (λ gs. IsPlaced parent (inner ds) (frame (length before)) before gs) (sym (write ∙ ap (λ m. slice_set after m copy) at))
-                (frame-placed parent
-                    (subst (λ m. AreDefinitionsPlaced parent m ds copy (before ++ empty_frame parent ∷ []) after) at
-                        (subst (λ gs. AreDefinitionsPlaced parent n ds copy gs after) push placed)))))
+    (subst (λ es. IsPlaced parent (inner es) (frame (length before)) before result) (sym (inside-turn fs turns f source left found))
+    (subst (λ gs. IsPlaced parent (inner ds) (frame (length before)) before gs) (sym (write ∙ ap (λ m. slice_set after m copy) at))
+    (frame-placed parent
+    (subst (λ m. AreDefinitionsPlaced parent m ds copy (before ++ empty_frame parent ∷ []) after) at
+    (subst (λ gs. AreDefinitionsPlaced parent n ds copy gs after) push placed)))))

@@ -57,6 +57,7 @@ impl Draft {
         requires { frame < length (draft_frames self.old) }
         ensures ok { OnOk result (draft_frames self.new ≡ defined (draft_frames self.old) frame name (tree expr)) }
         ensures err { OnErr result (draft_frames self.new ≡ draft_frames self.old) }
+        ensures len { length (draft_frames self.new) ≡ length (draft_frames self.old) }
     {
         if frame == 0 {
             self.root.define(self.alloc, name, expr)

@@ -110,7 +110,9 @@ impl AdFrame {
 fn place_of(attributes: &[Attribute], name: &[u8]) -> Option<usize>
     ensures { result ≡ position (λ a. same_name name.now a.name) attributes.now }
 {
-    attributes.iter().position(|attribute| attribute.is_named(name))
+    attributes
+        .iter()
+        .position(|attribute| attribute.is_named(name))
 }
 
 fn fold_in_place(bytes: &mut [u8])
@@ -124,6 +126,9 @@ fn fold_in_place(bytes: &mut [u8])
 fn folded_key(alloc: Global, name: &[u8]) -> Result<Vec<u8>, OutOfMemory>
     ensures { IfOk result (λ key. key.items ≡ folded name.now) }
 {
-    let key: Result<Vec<u8>, _> = name.iter().map(|byte| byte.to_ascii_lowercase()).collect(alloc);
+    let key: Result<Vec<u8>, _> = name
+        .iter()
+        .map(|byte| byte.to_ascii_lowercase())
+        .collect(alloc);
     Ok(key?)
 }

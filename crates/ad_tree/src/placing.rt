@@ -107,7 +107,7 @@ fn place_three(
 ) -> Result<(Box<Expr>, Box<Expr>, Box<Expr>), OutOfMemory>
     ensures { IfOk result (λ copies. AreAllPlaced parent
         (inlined_all (inside (draft_frames draft.now) turns)
-            (more (tree exprs.entry.0.now) (more (tree exprs.entry.1.now) (more (tree exprs.entry.2.now) none))))
+        (more (tree exprs.entry.0.now) (more (tree exprs.entry.1.now) (more (tree exprs.entry.2.now) none))))
         (more (tree copies.0.value) (more (tree copies.1.value) (more (tree copies.2.value) none)))
         (frames_of out.old.items) (frames_of out.new.items)) }
 {

@@ -31,9 +31,9 @@ decreases-place_definitions l = levels l.turns (draft_frames l.draft.now) + 4 * 
 abbrev pub invariant-place_all-loop-i : goal.invariant-place_all-loop-i
 invariant-place_all-loop-i l =
     AreAllPlaced l.parent (inlined_all (inside (draft_frames l.draft) l.turns) (pack (take l.i (trees l.list)))) (pack (trees l.copies))
-        (frames_of l.initial.out.items) (frames_of l.out.items)
+    (frames_of l.initial.out.items) (frames_of l.out.items)
 
 abbrev pub invariant-place_definitions-loop-i : goal.invariant-place_definitions-loop-i
 invariant-place_definitions-loop-i l =
     AreDefinitionsPlaced l.parent l.at (defs_of (inside (draft_frames l.draft) l.turns) (take l.i (frame_of l.source).attributes)) (frame_of l.copy)
-        (frames_of l.initial.out.items) (frames_of l.out.items)
+    (frames_of l.initial.out.items) (frames_of l.out.items)

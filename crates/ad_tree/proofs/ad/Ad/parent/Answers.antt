@@ -9,4 +9,4 @@ returns-else-frame-eq0-clause-parent c =
 pub returns-else-frame-eq0-clause-lower : goal.returns-else-frame-eq0-clause-lower
 returns-else-frame-eq0-clause-lower c =
     c.args.self.now.is_ad.lower c.args.frame c.index.result.now.parent
-        (parent-read c.args.self.now.frames.items c.args.frame c.index.result.now c.if-frame-eq0.false c.requires c.index.ensures)
+    (parent-read c.args.self.now.frames.items c.args.frame c.index.result.now c.if-frame-eq0.false c.requires c.index.ensures)

@@ -10,14 +10,14 @@ use Rattle.ad_tree.proofs.draft.Draft.finish_phrase.Goals as goal
 pub from_frames-requires : goal.from_frames-requires
 from_frames-requires c =
     phrase_is_ad (draft_frames c.args.self) (apart-draft c.args.self.root c.args.self.inner.items) c.count.result c.count.ensures (tree c.args.expr)
-        (frames_of-push c.new-frames.result.items c.push.new.self.items c.new.result (empty_frame 0) c.in_ok-push.ensures.items c.new.ensures
-            ∙ ap (λ fs. frames_of fs ++ empty_frame 0 ∷ []) c.new-frames.ensures.items)
-        c.in_ok-expr.ensures
+    (frames_of-push c.new-frames.result.items c.push.new.self.items c.new.result (empty_frame 0) c.in_ok-push.ensures.items c.new.ensures
+    ∙ ap (λ fs. frames_of fs ++ empty_frame 0 ∷ []) c.new-frames.ensures.items)
+    c.in_ok-expr.ensures
 
 pub returns-clause-frames : goal.returns-clause-frames
 returns-clause-frames c =
     c.in_ok-ad.ensures
     ∙ finished_phrase (draft_frames c.args.self) (apart-draft c.args.self.root c.args.self.inner.items) c.count.result c.count.ensures (tree c.args.expr)
-        (frames_of-push c.new-frames.result.items c.push.new.self.items c.new.result (empty_frame 0) c.in_ok-push.ensures.items c.new.ensures
-            ∙ ap (λ fs. frames_of fs ++ empty_frame 0 ∷ []) c.new-frames.ensures.items)
-        c.in_ok-expr.ensures
+    (frames_of-push c.new-frames.result.items c.push.new.self.items c.new.result (empty_frame 0) c.in_ok-push.ensures.items c.new.ensures
+    ∙ ap (λ fs. frames_of fs ++ empty_frame 0 ∷ []) c.new-frames.ensures.items)
+    c.in_ok-expr.ensures

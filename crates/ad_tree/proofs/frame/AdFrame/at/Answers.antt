@@ -10,7 +10,7 @@ returns c =
     let entries = c.args.self.now.attributes.entries in
     let items : c.as_slice-attributes.result.now ≡ map (λ e. e.1) entries = c.as_slice-attributes.ensures ∙ c.values.ensures.rest in
     attribute-at entries c.args.i _
-        (slice_get_read (map (λ e. e.1) entries) (length (attributes_of entries)) c.args.i _
-            (length-map entries _ ∙ sym (length-map entries _))
-            c.requires
-            (c.index-attributes-i.is ∙ ap (λ xs. get_or xs c.args.i c.index-attributes-i.result) items))
+    (slice_get_read (map (λ e. e.1) entries) (length (attributes_of entries)) c.args.i _
+    (length-map entries _ ∙ sym (length-map entries _))
+    c.requires
+    (c.index-attributes-i.is ∙ ap (λ xs. get_or xs c.args.i c.index-attributes-i.result) items))

@@ -7,4 +7,4 @@ pub returns : goal.returns
 returns c =
     c.get_index_of.ensures.index
     ∙ position-keys c.fold_in_place.new.bytes c.args.name.now (c.fold_in_place.ensures ∙ ap folded c.copy_from_slice.ensures.after)
-        c.args.self.now.attributes.entries c.args.self.now.keyed
+    c.args.self.now.attributes.entries c.args.self.now.keyed

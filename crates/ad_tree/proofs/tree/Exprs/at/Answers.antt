@@ -1,4 +1,4 @@
-use Rattle.ad_tree.proofs.TreeLemmas.{height_of-at} -- scratch
+use Rattle.ad_tree.proofs.TreeLemmas.{height_of-at}  -- scratch
 use Rattle.std.proofs.Common.{◌<◌, length, refl}
 use Rattle.std.proofs.lemmas.List.{length-map}
 use Rattle.std.proofs.lemmas.Option.{slice_get_read, slice_get-map}

@@ -90,7 +90,7 @@ impl Draft {
         Ok(Phrase { ad, expr })
     }
 
-    fn count(&self) -> usize
+    pub(crate) fn count(&self) -> usize
         ensures { result ≡ length (draft_frames self.now) }
     {
         self.inner.len() + 1

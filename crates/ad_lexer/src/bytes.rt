@@ -1,5 +1,5 @@
 // Runs of bytes of one class.
-ghost use Rattle.std.specs.Prelude.{◌≡◌, ◌≤◌, ◌<◌, length, slice_index};
+ghost use Rattle.std.specs.Prelude.{◌≡◌, ◌≤◌, ◌<◌, drop, length, slice_index};
 ghost use Rattle.std.specs.List.{prefix_len};
 ghost use Rattle.ad_lexer.specs.Reading.{is_in};
 
@@ -30,12 +30,12 @@ pub fn run_len(class: Class, text: &[u8]) -> usize
 {
     let mut len = 0;
     let mut rest = text;
-    while let [byte, behind @ ..] = rest {
+    while let [byte, more @ ..] = rest {
         if !is_in(class, *byte) {
             break;
         }
         len += 1;
-        rest = behind;
+        rest = more;
     }
     len
 }
@@ -46,4 +46,12 @@ pub fn byte_at(text: &[u8], place: usize) -> u8
     ensures within { 0 < result → place < length text.now }
 {
     if place < text.len() { text[place] } else { 0 }
+}
+
+/// The text without its first `len` bytes.
+pub fn behind(text: &[u8], len: usize) -> &[u8]
+    requires { len ≤ length text.now }
+    ensures { result.now ≡ drop len text.now }
+{
+    &text[len..]
 }

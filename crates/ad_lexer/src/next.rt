@@ -3,7 +3,7 @@ ghost use Rattle.std.specs.Prelude.{◌≡◌, ◌<◌, ◌≤◌, ◌^◌, leng
 ghost use Rattle.ad_lexer.specs.Reading as spec;
 ghost use Rattle.ad_lexer.specs.Words as words;
 
-use crate::bytes::{Class, byte_at, run_len};
+use crate::bytes::{Class, behind, byte_at, run_len};
 use crate::fault::LexKind;
 use crate::number::number;
 use crate::quoted::{name, string};
@@ -21,7 +21,7 @@ pub enum Step {
 
 /// What the first byte of a text begins.
 #[derive(Clone, Copy, Debug)]
-enum Begin {
+pub enum Begin {
     Space,
     Word,
     Number,
@@ -31,6 +31,7 @@ enum Begin {
     Symbol,
 }
 
+#[tactic(auto, unfolding(crate::specs::Reading::begin_of))]
 fn begin_of(byte: u8) -> Begin
     ensures { result ≡ spec.begin_of byte }
 {
@@ -52,6 +53,7 @@ fn begin_of(byte: u8) -> Begin
 }
 
 /// What stands at the front of a text: an item of it, or its fault.
+#[tactic(auto, unfolding(crate::specs::Reading::next))]
 pub fn next(text: &[u8]) -> Step
     requires { length text.now < 2 ^ 32 }
     ensures value { result ≡ spec.next text.now }
@@ -83,7 +85,8 @@ fn is_reserved(word: &[u8]) -> bool
 }
 
 fn word(text: &[u8]) -> Step
-    requires { spec.begin_of (slice_index text.now 0) ≡ Begin.Word }
+    requires some { 0 < length text.now }
+    requires begins { spec.begin_of (slice_index text.now 0) ≡ Begin.Word }
     ensures value { result ≡ spec.word text.now }
     ensures within { spec.IsWithin (length text.now) result }
 {
@@ -96,6 +99,7 @@ fn word(text: &[u8]) -> Step
     Step::Token(kind, len)
 }
 
+#[tactic(auto, unfolding(crate::specs::Reading::slash))]
 fn slash(text: &[u8]) -> Step
     requires some { 0 < length text.now }
     requires room { length text.now < 2 ^ 32 }
@@ -103,8 +107,8 @@ fn slash(text: &[u8]) -> Step
     ensures within { spec.IsWithin (length text.now) result }
 {
     match byte_at(text, 1) {
-        b'/' => Step::Blank(2 + run_len(Class::Line, &text[2..])),
-        b'*' => match comment_len(&text[2..]) {
+        b'/' => Step::Blank(2 + run_len(Class::Line, behind(text, 2))),
+        b'*' => match comment_len(behind(text, 2)) {
             Some(len) => Step::Blank(2 + len),
             None => Step::Fault(LexKind::CommentEnd, 0),
         },
@@ -120,12 +124,12 @@ fn comment_len(text: &[u8]) -> Option<usize>
 {
     let mut len = 0;
     let mut rest = text;
-    while let [byte, behind @ ..] = rest {
-        if *byte == b'*' && byte_at(behind, 0) == b'/' {
+    while let [byte, more @ ..] = rest {
+        if *byte == b'*' && byte_at(more, 0) == b'/' {
             return Some(len + 2);
         }
         len += 1;
-        rest = behind;
+        rest = more;
     }
     None
 }

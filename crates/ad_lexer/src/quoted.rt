@@ -3,7 +3,7 @@ ghost use Rattle.std.specs.Prelude.{◌≡◌, ◌+◌, ◌<◌, ◌≤◌, ◌^
 ghost use Rattle.ad_lexer.specs.Quoted as letters;
 ghost use Rattle.ad_lexer.specs.Reading as spec;
 
-use crate::bytes::byte_at;
+use crate::bytes::{behind, byte_at};
 use crate::fault::LexKind;
 use crate::next::Step;
 use crate::token::TokenKind;
@@ -20,6 +20,7 @@ pub enum Front {
 }
 
 /// The quoted name that the text begins with, or its fault.
+#[tactic(auto, unfolding(crate::specs::Reading::name))]
 pub fn name(text: &[u8]) -> Step
     requires some { 0 < length text.now }
     requires room { length text.now < 2 ^ 32 }
@@ -29,18 +30,19 @@ pub fn name(text: &[u8]) -> Step
     if byte_at(text, 1) == b'\'' {
         Step::Fault(LexKind::Character, 0)
     } else {
-        quoted(TokenKind::Quoted, b'\'', &text[1..])
+        quoted(TokenKind::Quoted, b'\'', behind(text, 1))
     }
 }
 
 /// The string that the text begins with, or its fault.
+#[tactic(auto, unfolding(crate::specs::Reading::string))]
 pub fn string(text: &[u8]) -> Step
     requires some { 0 < length text.now }
     requires room { length text.now < 2 ^ 32 }
     ensures value { result ≡ spec.string text.now }
     ensures within { spec.IsWithin (length text.now) result }
 {
-    quoted(TokenKind::Str, b'"', &text[1..])
+    quoted(TokenKind::Str, b'"', behind(text, 1))
 }
 
 /// The quoted text whose opening quote stands before these bytes, or its fault, with places from that quote.
@@ -55,7 +57,7 @@ fn quoted(kind: TokenKind, quote: u8, text: &[u8]) -> Step
         match front_of(quote, rest) {
             Front::Letter(len) => {
                 at += len;
-                rest = &rest[len..];
+                rest = behind(rest, len);
             }
             Front::Close => return Step::Token(kind, at + 1),
             Front::LineEnd => return Step::Fault(LexKind::StringEnd, 0),
@@ -65,11 +67,12 @@ fn quoted(kind: TokenKind, quote: u8, text: &[u8]) -> Step
     }
 }
 
+#[tactic(auto, unfolding(crate::specs::Reading::front))]
 fn front_of(quote: u8, text: &[u8]) -> Front
     ensures value { result ≡ spec.front quote text.now }
     ensures within { spec.IsLetterWithin 0 (length text.now) result }
 {
-    let [byte, behind @ ..] = text else {
+    let [byte, rest @ ..] = text else {
         return Front::LineEnd;
     };
     if *byte == quote {
@@ -78,12 +81,13 @@ fn front_of(quote: u8, text: &[u8]) -> Front
     match byte {
         b'\n' => Front::LineEnd,
         0 => Front::Nul,
-        b'\\' => escape(behind),
+        b'\\' => escape(rest),
         _ => Front::Letter(1),
     }
 }
 
 /// What a backslash before these bytes begins.
+#[tactic(auto, unfolding(crate::specs::Reading::escape))]
 fn escape(text: &[u8]) -> Front
     ensures value { result ≡ spec.escape text.now }
     ensures within { spec.IsLetterWithin 1 (length text.now) result }
@@ -104,6 +108,7 @@ fn is_escape(byte: u8) -> bool
     matches!(byte, b'b' | b't' | b'n' | b'f' | b'r' | b'\\' | b'"' | b'\'')
 }
 
+#[tactic(auto, unfolding(crate::specs::Reading::octal))]
 fn octal(first: u8, second: u8, third: u8) -> Front
     ensures value { result ≡ spec.octal first second third }
     ensures within { spec.HasOctal second third result }

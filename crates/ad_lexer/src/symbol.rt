@@ -1,5 +1,5 @@
 // Symbols.
-ghost use Rattle.std.specs.Prelude.{◌≡◌, ◌<◌, ◌∷◌, [], length};
+ghost use Rattle.std.specs.Prelude.{◌≡◌, ◌<◌, ◌≤◌, ◌∷◌, [], length, true};
 ghost use Rattle.ad_lexer.specs.Reading as spec;
 ghost use Rattle.ad_lexer.specs.Symbols.{is_symbol};
 
@@ -9,6 +9,7 @@ use crate::next::Step;
 use crate::token::TokenKind;
 
 /// The longest symbol that the text begins with, or its fault.
+#[tactic(auto, unfolding(crate::specs::Reading::symbol))]
 pub fn symbol(text: &[u8]) -> Step
     requires { 0 < length text.now }
     ensures value { result ≡ spec.symbol text.now }
@@ -25,8 +26,10 @@ pub fn symbol(text: &[u8]) -> Step
 }
 
 /// The length of the longest symbol that these bytes begin with, or 0.
+#[tactic(auto, unfolding(crate::specs::Reading::symbol_len))]
 fn symbol_len(first: u8, second: u8, third: u8) -> usize
-    ensures { result ≡ spec.symbol_len first second third }
+    ensures value { result ≡ spec.symbol_len first second third }
+    ensures within { (result ≤ 3) × (2 ≤ result → 0 < second) × (3 ≤ result → 0 < third) }
 {
     if is_triple(first, second, third) {
         3
@@ -40,7 +43,8 @@ fn symbol_len(first: u8, second: u8, third: u8) -> usize
 }
 
 fn is_triple(first: u8, second: u8, third: u8) -> bool
-    ensures { result ≡ is_symbol (first ∷ second ∷ third ∷ []) }
+    ensures value { result ≡ is_symbol (first ∷ second ∷ third ∷ []) }
+    ensures within { result ≡ true → (0 < second) × (0 < third) }
 {
     match first {
         b'=' => (second == b'?' || second == b'!') && third == b'=',
@@ -50,7 +54,8 @@ fn is_triple(first: u8, second: u8, third: u8) -> bool
 }
 
 fn is_double(first: u8, second: u8) -> bool
-    ensures { result ≡ is_symbol (first ∷ second ∷ []) }
+    ensures value { result ≡ is_symbol (first ∷ second ∷ []) }
+    ensures within { result ≡ true → 0 < second }
 {
     match second {
         b'=' => first == b'=' || first == b'!' || first == b'<' || first == b'>',

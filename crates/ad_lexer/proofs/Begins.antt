@@ -5,9 +5,10 @@ use Rattle.std.specs.Char.{is_ascii_digit}
 use Rattle.std.specs.List.{prefix_len}
 use Rattle.ad_lexer.specs.declared.next.Begin.{Begin}
 use Rattle.ad_lexer.specs.declared.next.Begin.TheVariants as begins
+use Rattle.ad_lexer.specs.Blanks.{is_space}
 use Rattle.ad_lexer.specs.Numbers.{is_hexadecimal, number_len}
 use Rattle.ad_lexer.specs.Words.{begins_word, is_word_byte}
-use Rattle.ad_lexer.specs.Reading.{is_space, begin_of}
+use Rattle.ad_lexer.specs.Reading.{begin_of}
 
 -- what is so of a byte that begins such a thing
 abbrev pub Tells : ℕ → Begin → Type 0

@@ -1,2 +1,6 @@
 mod Begins
+mod NumberLemmas
+mod Runs
+mod SymbolLemmas
 mod Turns
+mod WordLemmas

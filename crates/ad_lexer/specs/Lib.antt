@@ -1,6 +1,10 @@
+pub mod Blanks
+pub mod Faults
 pub mod Lexeme
 pub mod Numbers
 pub mod Quoted
 pub mod Reading
+pub mod Spelling
 pub mod Symbols
+pub mod Tokens
 pub mod Words

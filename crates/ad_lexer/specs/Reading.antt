@@ -14,6 +14,7 @@ use Rattle.ad_lexer.specs.declared.quoted.Front.{Front}
 use Rattle.ad_lexer.specs.declared.quoted.Front.TheVariants as fronts
 use Rattle.ad_lexer.specs.declared.token.TokenKind.{TokenKind}
 use Rattle.ad_lexer.specs.declared.token.TokenKind.TheVariants.{Plain, Reserved, Quoted, Str, Int, Symbol}
+use Rattle.ad_lexer.specs.Blanks.{is_space, is_line_byte}
 use Rattle.ad_lexer.specs.Numbers.{is_hexadecimal, is_integer, number_len}
 use Rattle.ad_lexer.specs.Quoted.{escaped, is_octal_digit}
 use Rattle.ad_lexer.specs.Symbols.{is_symbol}
@@ -24,10 +25,7 @@ abbrev pub is_in : Class → ℕ → Bool
 is_in class.Word byte = is_word_byte byte
 is_in class.Decimal byte = is_ascii_digit byte
 is_in class.Hexadecimal byte = is_ascii_hexdigit byte
-is_in class.Line byte = not (byte == 10)
-
-abbrev pub is_space : ℕ → Bool
-is_space byte = byte == 32 || byte == 9 || byte == 10 || byte == 13 || byte == 12
+is_in class.Line byte = is_line_byte byte
 
 -- what the first byte of a text begins
 unfoldable pub begin_of : ℕ → Begin
@@ -93,7 +91,7 @@ comment_of (Some len) = steps.Blank (2 + len)
 
 unfoldable pub slash : List ℕ → Step
 slash text =
-    if slice_index text 1 == 47 then steps.Blank (2 + prefix_len (is_in class.Line) (drop 2 text))
+    if slice_index text 1 == 47 then steps.Blank (2 + prefix_len is_line_byte (drop 2 text))
     else (if slice_index text 1 == 42 then comment_of (comment_len 0 (drop 2 text))
     else steps.Token Symbol 1)
 

@@ -1,4 +1,5 @@
 mod Begins
+mod BlankLemmas
 mod NumberLemmas
 mod Runs
 mod SymbolLemmas

@@ -1,6 +1,8 @@
 mod Begins
 mod BlankLemmas
+mod LetterLemmas
 mod NumberLemmas
+mod QuotedLemmas
 mod Runs
 mod SymbolLemmas
 mod Turns

@@ -135,7 +135,7 @@ read_by : (kind : TokenKind) (quote : ℕ) (text : List ℕ) (p : Parts quote te
 read_by kind quote text p (fronts.Letter n) more is reads stop back = absurd stop
 read_by kind quote text p fronts.Close more is reads stop back =
     let to = reads_to quote text p (quote ∷ reads.0) is reads.1 in
-    (refl, record { letters = p.letters; after = reads.0; text_is = to.text_is; are_letters = same_letters quote p.letters quote reads.0 [] to.are_letters; length_is = omega arith })
+    (refl, record { letters = to.letters; after = reads.0; text_is = to.text_is; are_letters = same_letters quote to.letters quote reads.0 [] to.are_letters; length_is = omega (arith, to.place_is) })
 read_by kind quote text p fronts.LineEnd more is reads stop back = ((quote, p.rest, 1 + length (spellings p.letters), reads_to quote text p p.rest is refl, reads), refl)
 read_by kind quote text p fronts.Nul more is reads stop back = (quote, reads.0, reads_to quote text p (0 ∷ reads.0) is reads.1)
 read_by kind quote text p fronts.Backslash more is reads stop back =
@@ -148,3 +148,92 @@ quoted_reads kind quote text is =
     let here = quoted_here kind quote (1 + length (spellings p.letters)) p.rest in
     let same : reading.quoted kind quote 1 0 text ≡ _ = ap (λ (l : List ℕ). reading.quoted kind quote 1 0 l) p.text_is ∙ over ∙ here in
     subst (λ s. QuotedReads kind quote (quote ∷ text) s) (sym same) (read_by kind quote text p (reading.front quote p.rest) _ is (front_reads quote p.rest) p.stops (λ e. p.stops))
+
+-- ---- what stands there is read
+
+front_close : (quote : ℕ) (more : List ℕ) → reading.front quote (quote ∷ more) ≡ fronts.Close
+unfolding reading.front
+front_close quote more = rw (eq-eqb quote quote refl) refl
+
+front_feed : (quote : ℕ) (more : List ℕ) → is_quote quote ≡ true → reading.front quote (10 ∷ more) ≡ fronts.LineEnd
+unfolding reading.front
+front_feed quote more is = rw (quote_differs quote 10 is (λ e. omega arith) (λ e. omega arith)) refl
+
+front_nul : (quote : ℕ) (more : List ℕ) → is_quote quote ≡ true → reading.front quote (0 ∷ more) ≡ fronts.Nul
+unfolding reading.front
+front_nul quote more is = rw (quote_differs quote 0 is (λ e. omega arith) (λ e. omega arith)) refl
+
+front_last : (quote : ℕ) → is_quote quote ≡ true → reading.front quote (92 ∷ []) ≡ fronts.LineEnd
+unfolding reading.front reading.escape
+front_last quote is = rw (quote_differs quote 92 is (λ e. omega arith) (λ e. omega arith)) refl
+
+front_end : (quote : ℕ) (rest : List ℕ) → is_quote quote ≡ true → IsLineEnd rest → reading.front quote rest ≡ fronts.LineEnd
+front_end quote rest is end =
+    elim end [
+      | inl nil ↦ ap (λ (l : List ℕ). reading.front quote l) nil ∙ front_nil quote
+      | inr (inl last) ↦ ap (λ (l : List ℕ). reading.front quote l) last ∙ front_last quote is
+      | inr (inr feed) ↦ ap (λ (l : List ℕ). reading.front quote l) feed.1 ∙ front_feed quote feed.0 is
+    ]
+
+bad_by : (quote byte : ℕ) (more : List ℕ) (front : Front) → is_quote quote ≡ true → FrontReads quote (92 ∷ byte ∷ more) front → ((letter : Letter) (after : List ℕ) → 92 ∷ byte ∷ more ≡ spelling letter ++ after → ¬ IsLetter quote letter after) → front ≡ fronts.Backslash
+bad_by quote byte more (fronts.Letter n) is reads none = absurd (none reads.letter reads.after reads.text_is reads.is_letter)
+bad_by quote byte more fronts.Close is reads none =
+    let e : 92 ≡ quote = ap (λ (l : List ℕ). slice_index l 0) reads.1 in
+    absurd (true≢false (sym (eq-eqb 92 quote e) ∙ quote_differs quote 92 is (λ f. omega arith) (λ f. omega arith)))
+bad_by quote byte more fronts.LineEnd is reads none =
+    elim reads [
+      | inl nil ↦ absurd (cc)
+      | inr (inl last) ↦ absurd (cc)
+      | inr (inr feed) ↦ absurd (true≢false (ap (λ (l : List ℕ). eqb (slice_index l 0) 92) feed.1))
+    ]
+bad_by quote byte more fronts.Nul is reads none = absurd (true≢false (ap (λ (l : List ℕ). eqb (slice_index l 0) 92) reads.1))
+bad_by quote byte more fronts.Backslash is reads none = refl
+
+front_bad : (quote byte : ℕ) (more : List ℕ) → is_quote quote ≡ true → ((letter : Letter) (after : List ℕ) → 92 ∷ byte ∷ more ≡ spelling letter ++ after → ¬ IsLetter quote letter after) → reading.front quote (92 ∷ byte ∷ more) ≡ fronts.Backslash
+front_bad quote byte more is none = bad_by quote byte more (reading.front quote (92 ∷ byte ∷ more)) is (front_reads quote (92 ∷ byte ∷ more)) none
+
+-- behind letters the rest of the string goes by what stands there
+stop_met : (kind : TokenKind) (quote : ℕ) (text rest : List ℕ) (place : ℕ) (front : Front) (to : ReadsTo quote text rest place) → reading.front quote rest ≡ front → reading.quoted kind quote 1 0 (drop 1 text) ≡ reading.quoted_by kind place front (λ n. reading.quoted kind quote (place + 1) (n - 1) (drop 1 rest))
+stop_met kind quote text rest place front to is =
+    ap (λ (l : List ℕ). reading.quoted kind quote 1 0 (drop 1 l)) to.text_is
+    ∙ quoted_over kind quote 1 to.letters rest to.is_quote to.are_letters
+    ∙ ap (λ (n : ℕ). reading.quoted kind quote n 0 rest) (sym to.place_is)
+    ∙ quoted_here kind quote place rest
+    ∙ ap (λ f. reading.quoted_by kind place f (λ n. reading.quoted kind quote (place + 1) (n - 1) (drop 1 rest))) is
+
+pub nul_met : (kind : TokenKind) (text : List ℕ) (place : ℕ) (has : HasNul text place) → reading.quoted kind has.0 1 0 (drop 1 text) ≡ steps.Fault kinds.Character place
+nul_met kind text place has = stop_met kind has.0 text (0 ∷ has.1) place fronts.Nul has.2 (front_nul has.0 has.1 has.2.is_quote)
+
+pub end_met : (kind : TokenKind) (text : List ℕ) (has : IsOpenString text) → reading.quoted kind has.0 1 0 (drop 1 text) ≡ steps.Fault kinds.StringEnd 0
+end_met kind text has = stop_met kind has.0 text has.1 has.2 fronts.LineEnd has.3 (front_end has.0 has.1 has.3.is_quote has.4)
+
+pub escape_met : (kind : TokenKind) (text : List ℕ) (place : ℕ) (has : HasBadEscape text place) → reading.quoted kind has.0 1 0 (drop 1 text) ≡ steps.Fault kinds.Escape place
+escape_met kind text place has = stop_met kind has.0 text (92 ∷ has.1 ∷ has.2) place fronts.Backslash has.3 (front_bad has.0 has.1 has.2 has.3.is_quote has.4)
+
+-- a quoted text is read whole, whatever follows
+closed_to : (quote : ℕ) (bytes after : List ℕ) (letters : List Letter) → is_quote quote ≡ true → bytes ≡ quote ∷ (spellings letters ++ quote ∷ []) → AreLetters quote letters (quote ∷ []) → ReadsTo quote (bytes ++ after) (quote ∷ after) (1 + length (spellings letters))
+closed_to quote bytes after letters is bytes_is are = record {
+  is_quote = is;
+  letters = letters;
+  text_is = ap (λ (l : List ℕ). l ++ after) bytes_is ∙ ap (λ (l : List ℕ). quote ∷ l) (append_assoc (spellings letters) (quote ∷ []) after);
+  are_letters = same_letters quote letters quote [] after are;
+  place_is = refl;
+}
+
+pub quoted_met : (kind : TokenKind) (quote : ℕ) (bytes text after : List ℕ) → is_quote quote ≡ true → IsQuoted quote bytes text → reading.quoted kind quote 1 0 (drop 1 (bytes ++ after)) ≡ steps.Token kind (length bytes)
+quoted_met kind quote bytes text after is quoted =
+    let letters = quoted.0 in
+    let place : ℕ = 1 + length (spellings letters) in
+    let len : place + 1 ≡ length bytes = omega (arith, ap (λ (l : List ℕ). length l) quoted.1, length-append (spellings letters) (quote ∷ [])) in
+    stop_met kind quote (bytes ++ after) (quote ∷ after) place fronts.Close (closed_to quote bytes after letters is quoted.1 quoted.2) (front_close quote after) ∙ ap (λ (n : ℕ). steps.Token kind n) len
+
+-- the first byte of letters isn't the quote
+letter_first : (quote : ℕ) (letter : Letter) (more after : List ℕ) → is_quote quote ≡ true → IsLetter quote letter after → eqb (slice_index (spelling letter ++ more) 0) quote ≡ false
+letter_first quote (plain b) more after is letter = (or_parts (eqb b quote) (eqb b 92) (or_parts _ (eqb b 10) (or_parts _ (eqb b 0) (not-true _ letter)).0).0).0
+letter_first quote (escape b m) more after is letter = quote_differs quote 92 is (λ e. omega arith) (λ e. omega arith)
+letter_first quote (octal ds) more after is letter = quote_differs quote 92 is (λ e. omega arith) (λ e. omega arith)
+
+pub letters_first : (quote : ℕ) (letters : List Letter) (rest : List ℕ) → is_quote quote ≡ true → AreLetters quote letters rest → (0 < length letters) ⊎ (eqb (slice_index rest 0) quote ≡ false) → eqb (slice_index (spellings letters ++ rest) 0) quote ≡ false
+letters_first quote [] rest is are other = elim other [ inl some ↦ absurd (omega arith) | inr differs ↦ differs ]
+letters_first quote (letter ∷ letters) rest is are other =
+    ap (λ (l : List ℕ). eqb (slice_index l 0) quote) (append_assoc (spelling letter) (spellings letters) rest) ∙ letter_first quote letter (spellings letters ++ rest) _ is are.0

@@ -1,9 +1,11 @@
 mod Begins
 mod BlankLemmas
 mod LetterLemmas
+mod NextLemmas
 mod NumberLemmas
 mod QuotedLemmas
 mod Runs
+mod Steps
 mod SymbolLemmas
 mod Turns
 mod WordLemmas

@@ -2,6 +2,7 @@
 use Rattle.std.proofs.Common.{◌≡◌, ◌⊎◌, ℕ, zero, suc, ◌+◌, ◌<◌, ◌≤◌, Bool, true, false, cond, not, eqb, ltb, ◌^◌, ◌&&◌, ◌||◌, List, [], ◌∷◌, ◌++◌, length, take, drop, slice_index, refl, sym, ◌∙◌, ap, subst, inl, inr, arith, lit<}
 use Rattle.std.proofs.lemmas.Bool.{cases_Bool, and_parts, and_from, ltb-true, true≢false}
 use Rattle.std.proofs.lemmas.Bool.Decides.{nat_tests}
+use Rattle.std.proofs.lemmas.List.Sums.{prefix_len-le-length}
 use Rattle.std.specs.Char.{is_ascii_digit, is_ascii_hexdigit, is_digit}
 use Rattle.std.specs.List.{list_all, prefix_len}
 use Rattle.ad_lexer.specs.Faults.{is_decimal, is_dot_digit, is_bad_number, behind_number}
@@ -87,6 +88,19 @@ integer_reaches bytes after is =
     elim (cases_Bool (is_hexadecimal bytes)) [
       | inl hexadecimal ↦ hexadecimal_more bytes after hexadecimal (integer_hexadecimal bytes is hexadecimal)
       | inr isnt ↦ decimal_more bytes after (integer_decimal bytes is isnt).1
+    ]
+
+-- the number that stands first is no longer than the text
+hexadecimal_fits : (text : List ℕ) → is_hexadecimal text ≡ true → 2 + prefix_len is_ascii_hexdigit (drop 2 text) ≤ length text
+hexadecimal_fits [] is = absurd (grind (arith, nat_tests))
+hexadecimal_fits (a ∷ []) is = absurd (grind (arith, nat_tests))
+hexadecimal_fits (a ∷ b ∷ text) is = omega (arith, prefix_len-le-length is_ascii_hexdigit text)
+
+pub number_fits : (text : List ℕ) → number_len text ≤ length text
+number_fits text =
+    elim (cases_Bool (is_hexadecimal text)) [
+      | inl hexadecimal ↦ rw hexadecimal (hexadecimal_fits text hexadecimal)
+      | inr isnt ↦ rw isnt (prefix_len-le-length is_ascii_digit text)
     ]
 
 -- ---- how the tests of a number choose

@@ -1,5 +1,6 @@
 mod Begins
 mod BlankLemmas
+mod ItemLemmas
 mod LetterLemmas
 mod NextLemmas
 mod NumberLemmas

@@ -30,20 +30,20 @@ use Rattle.ad_lexer.proofs.Turns.{is_integer_decimal}
 use Rattle.ad_lexer.proofs.WordLemmas.{word_spells}
 
 -- a text that begins with a byte is read by what that byte begins
-next_at : (text : List ℕ) (begin : Begin) → 0 < length text → begin_of (slice_index text 0) ≡ begin → next text ≡ at_begin begin text
+pub next_at : (text : List ℕ) (begin : Begin) → 0 < length text → begin_of (slice_index text 0) ≡ begin → next text ≡ at_begin begin text
 unfolding next
 next_at [] begin some is = absurd (omega arith)
 next_at (byte ∷ bytes) begin some is = ap (λ b. at_begin b (byte ∷ bytes)) is
 
-begin_39 : begin_of 39 ≡ begins.Name
+pub begin_39 : begin_of 39 ≡ begins.Name
 unfolding begin_of
 begin_39 = refl
 
-begin_34 : begin_of 34 ≡ begins.String
+pub begin_34 : begin_of 34 ≡ begins.String
 unfolding begin_of
 begin_34 = refl
 
-begin_47 : begin_of 47 ≡ begins.Slash
+pub begin_47 : begin_of 47 ≡ begins.Slash
 unfolding begin_of
 begin_47 = refl
 
@@ -51,7 +51,7 @@ begin_46 : begin_of 46 ≡ begins.Symbol
 unfolding begin_of
 begin_46 = refl
 
-begin_space : (byte : ℕ) → is_space byte ≡ true → begin_of byte ≡ begins.Space
+pub begin_space : (byte : ℕ) → is_space byte ≡ true → begin_of byte ≡ begins.Space
 unfolding begin_of
 begin_space byte is = rw is refl
 
@@ -62,15 +62,15 @@ pub record QuoteNext (quote : ℕ) (text : List ℕ) : Type 0 where
   pub kind : TokenKind
   pub next_is : next text ≡ quoted kind quote 1 0 (drop 1 text)
 
-name_next : (bytes : List ℕ) → eqb (slice_index bytes 0) 39 ≡ false → next (39 ∷ bytes) ≡ quoted Quoted 39 1 0 bytes
+pub name_next : (bytes : List ℕ) → eqb (slice_index bytes 0) 39 ≡ false → next (39 ∷ bytes) ≡ quoted Quoted 39 1 0 bytes
 unfolding name
 name_next bytes isnt = next_at (39 ∷ bytes) begins.Name (omega arith) begin_39 ∙ rw isnt refl
 
-string_next : (bytes : List ℕ) → next (34 ∷ bytes) ≡ quoted Str 34 1 0 bytes
+pub string_next : (bytes : List ℕ) → next (34 ∷ bytes) ≡ quoted Str 34 1 0 bytes
 unfolding string
 string_next bytes = next_at (34 ∷ bytes) begins.String (omega arith) begin_34
 
-quote_next : (quote : ℕ) (bytes : List ℕ) → is_quote quote ≡ true → eqb (slice_index bytes 0) quote ≡ false → QuoteNext quote (quote ∷ bytes)
+pub quote_next : (quote : ℕ) (bytes : List ℕ) → is_quote quote ≡ true → eqb (slice_index bytes 0) quote ≡ false → QuoteNext quote (quote ∷ bytes)
 quote_next quote bytes is isnt =
     elim (or_cases (eqb quote 34) (eqb quote 39) is) [
       | inl double ↦ let e : quote ≡ 34 = eqb-true quote 34 double in
@@ -123,7 +123,7 @@ some_first : (text : List ℕ) → is_ascii_digit (slice_index text 0) ≡ true 
 some_first [] is = absurd (true≢false (sym is))
 some_first (byte ∷ bytes) is = omega arith
 
-number_next : (text : List ℕ) → is_ascii_digit (slice_index text 0) ≡ true → next text ≡ number text
+pub number_next : (text : List ℕ) → is_ascii_digit (slice_index text 0) ≡ true → next text ≡ number text
 number_next text is = next_at text begins.Number (some_first text is) (begin_number (slice_index text 0) is)
 
 bad_next : (text : List ℕ) → is_bad_number text ≡ true → next text ≡ steps.Fault kinds.Number 0
@@ -202,7 +202,7 @@ wrong_next kinds.Encoding text place wrong = absurd wrong
 
 -- ---- blanks
 
-first_slash : (text : List ℕ) → slice_index text 0 ≡ 47 → next text ≡ slash text
+pub first_slash : (text : List ℕ) → slice_index text 0 ≡ 47 → next text ≡ slash text
 first_slash [] is = absurd (omega arith)
 first_slash (byte ∷ bytes) is = next_at (byte ∷ bytes) begins.Slash (omega arith) (ap begin_of is ∙ begin_47)
 

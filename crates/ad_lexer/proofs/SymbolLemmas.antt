@@ -40,7 +40,7 @@ no_nul : {A : Type 0} (before after : List ℕ) → is_symbol (before ++ 0 ∷ a
 no_nul before after is = absurd (no_nul_in before after (symbol_some (before ++ 0 ∷ after) is))
 
 -- a symbol begins with no white space, letter, digit, `_` or quote
-abbrev is_other : ℕ → Bool
+abbrev pub is_other : ℕ → Bool
 is_other byte = not (is_space byte || begins_word byte || is_ascii_digit byte || eqb byte 39 || eqb byte 34)
 
 pub symbol_other : (bytes : List ℕ) → is_symbol bytes ≡ true → is_other (slice_index bytes 0) ≡ true

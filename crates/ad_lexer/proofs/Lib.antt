@@ -5,8 +5,11 @@ mod LetterLemmas
 mod NextLemmas
 mod NumberLemmas
 mod QuotedLemmas
+mod Reached
 mod Runs
 mod Steps
 mod SymbolLemmas
+mod Texts
 mod Turns
+mod Utf8Lemmas
 mod WordLemmas

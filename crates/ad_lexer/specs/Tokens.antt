@@ -67,3 +67,7 @@ abbrev pub Answers : List ℕ → Result (List Lexeme) LexFault → Type 0
 Answers text (Ok list) = Tokens text list
 Answers text (Err (faults.At kind place)) = Fault text kind place
 Answers text (Err faults.OutOfMemory) = Unit {0}
+
+-- the answer is the wanted one, or memory ran out
+abbrev pub IsOrMemory : Result (List Lexeme) LexFault → Result (List Lexeme) LexFault → Type 0
+IsOrMemory answer wanted = (answer ≡ wanted) ⊎ (answer ≡ Err faults.OutOfMemory)

@@ -1,5 +1,5 @@
 // Runs of bytes of one class.
-ghost use Rattle.std.specs.Prelude.{◌≡◌, ◌≤◌, ◌<◌, drop, length, slice_index};
+ghost use Rattle.std.specs.Prelude.{◌≡◌, ◌≤◌, ◌<◌, drop, length, slice_index, take};
 ghost use Rattle.std.specs.List.{prefix_len};
 ghost use Rattle.ad_lexer.specs.Reading.{is_in};
 
@@ -46,6 +46,14 @@ pub fn byte_at(text: &[u8], place: usize) -> u8
     ensures within { 0 < result → place < length text.now }
 {
     if place < text.len() { text[place] } else { 0 }
+}
+
+/// The first `len` bytes of the text.
+pub fn front(text: &[u8], len: usize) -> &[u8]
+    requires { len ≤ length text.now }
+    ensures { result.now ≡ take len text.now }
+{
+    &text[..len]
 }
 
 /// The text without its first `len` bytes.

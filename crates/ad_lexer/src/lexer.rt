@@ -1,6 +1,10 @@
 // Divides a text into its tokens.
-ghost use Rattle.std.specs.Prelude.{◌<◌, ◌^◌, length};
+ghost use Rattle.std.specs.Prelude.{◌≡◌, ◌<◌, ◌^◌, ℕ, List, length, Ok, Err, IsUtf8};
+ghost use Rattle.ad_lexer.specs.declared.fault.LexKind.{LexKind};
+ghost use Rattle.ad_lexer.specs.Lexeme.{Lexeme};
+ghost use Rattle.ad_lexer.specs.Tokens as spec;
 
+use crate::bytes::{behind, front};
 use crate::fault::{LexFault, LexKind};
 use crate::next::{Step, next};
 use crate::token::{Token, Tokens};
@@ -12,10 +16,23 @@ use std::alloc::Global;
 /// the end of the line or of the text, or `/*` up to the next `*/`. Each token is the longest that begins where it does.
 pub fn lex(alloc: Global, text: &[u8]) -> Result<Tokens<'_>, LexFault>
     requires { length text.now < 2 ^ 32 }
+    // The tokens of the text, or its fault, or want of memory.
+    ensures answer { spec.Answers text.now result }
+    // Where the text has tokens, they are the answer; and where it has a fault, that is.
+    ensures tokens { (list : List Lexeme) → spec.Tokens text.now list → spec.IsOrMemory result (Ok list) }
+    ensures fault { (kind : LexKind) (place : ℕ) → spec.Fault text.now kind place → spec.IsOrMemory result (Err (LexFault.At kind place)) }
 {
-    if let Err(fault) = simdutf8::compat::from_utf8(text) {
-        return Err(fault_at(LexKind::Encoding, fault.valid_up_to()));
+    match simdutf8::compat::from_utf8(text) {
+        Ok(_) => divide(alloc, text),
+        Err(fault) => Err(fault_at(LexKind::Encoding, fault.valid_up_to())),
     }
+}
+
+fn divide(alloc: Global, text: &[u8]) -> Result<Tokens<'_>, LexFault>
+    requires utf8 { IsUtf8 text.now }
+    requires room { length text.now < 2 ^ 32 }
+    ensures { spec.Answers text.now result }
+{
     let mut tokens = Tokens::new(alloc);
     let mut at = 0;
     let mut rest = text;
@@ -24,17 +41,17 @@ pub fn lex(alloc: Global, text: &[u8]) -> Result<Tokens<'_>, LexFault>
             Step::End => return Ok(tokens),
             Step::Blank(len) => {
                 at += len;
-                rest = &rest[len..];
+                rest = behind(rest, len);
             }
             Step::Token(kind, len) => {
                 tokens.push(Token {
                     kind,
                     start: at as u32,
                     end: (at + len) as u32,
-                    text: &rest[..len],
+                    text: front(rest, len),
                 })?;
                 at += len;
-                rest = &rest[len..];
+                rest = behind(rest, len);
             }
             Step::Fault(kind, place) => return Err(fault_at(kind, at + place)),
         }
@@ -43,6 +60,7 @@ pub fn lex(alloc: Global, text: &[u8]) -> Result<Tokens<'_>, LexFault>
 
 fn fault_at(kind: LexKind, place: usize) -> LexFault
     requires { place < 2 ^ 32 }
+    ensures { result ≡ LexFault.At kind place }
 {
     LexFault::At {
         kind,

@@ -3,6 +3,7 @@
 
 mod bytes;
 mod fault;
+mod laws;
 mod lexer;
 mod next;
 mod number;
@@ -13,5 +14,6 @@ mod tests;
 mod token;
 
 pub use fault::{LexFault, LexKind};
+pub use laws::one_answer;
 pub use lexer::lex;
 pub use token::{Token, TokenKind, Tokens};

@@ -17,10 +17,10 @@ is_quote quote = eqb quote 34 || eqb quote 39
 pub quote_differs : (quote byte : ℕ) → is_quote quote ≡ true → byte ≢ 34 → byte ≢ 39 → eqb byte quote ≡ false
 quote_differs quote byte is double single = grind (arith, nat_tests)
 
-octal_value : (c : ℕ) → is_octal_digit c ≡ true → digit_value c ≡ c - 48
+pub octal_value : (c : ℕ) → is_octal_digit c ≡ true → digit_value c ≡ c - 48
 octal_value c is = grind (arith, nat_tests)
 
-octal_unescaped : (c : ℕ) → is_octal_digit c ≡ true → escaped c ≡ None
+pub octal_unescaped : (c : ℕ) → is_octal_digit c ≡ true → escaped c ≡ None
 octal_unescaped c is = grind (arith, nat_tests)
 
 -- ---- a letter that stands there is read

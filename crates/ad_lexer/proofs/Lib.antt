@@ -1,15 +1,16 @@
-mod Begins
-mod BlankLemmas
-mod ItemLemmas
-mod LetterLemmas
-mod NextLemmas
-mod NumberLemmas
-mod QuotedLemmas
+pub mod Begins
+pub mod BlankLemmas
+pub mod ContentLemmas
+pub mod ItemLemmas
+pub mod LetterLemmas
+pub mod NextLemmas
+pub mod NumberLemmas
+pub mod QuotedLemmas
 mod Reached
-mod Runs
-mod Steps
-mod SymbolLemmas
-mod Texts
+pub mod Runs
+pub mod Steps
+pub mod SymbolLemmas
+pub mod Texts
 mod Turns
-mod Utf8Lemmas
-mod WordLemmas
+pub mod Utf8Lemmas
+pub mod WordLemmas

@@ -228,7 +228,7 @@ quoted_met kind quote bytes text after is quoted =
     stop_met kind quote (bytes ++ after) (quote ∷ after) place fronts.Close (closed_to quote bytes after letters is quoted.1 quoted.2) (front_close quote after) ∙ ap (λ (n : ℕ). steps.Token kind n) len
 
 -- the first byte of letters isn't the quote
-letter_first : (quote : ℕ) (letter : Letter) (more after : List ℕ) → is_quote quote ≡ true → IsLetter quote letter after → eqb (slice_index (spelling letter ++ more) 0) quote ≡ false
+pub letter_first : (quote : ℕ) (letter : Letter) (more after : List ℕ) → is_quote quote ≡ true → IsLetter quote letter after → eqb (slice_index (spelling letter ++ more) 0) quote ≡ false
 letter_first quote (plain b) more after is letter = (or_parts (eqb b quote) (eqb b 92) (or_parts _ (eqb b 10) (or_parts _ (eqb b 0) (not-true _ letter)).0).0).0
 letter_first quote (escape b m) more after is letter = quote_differs quote 92 is (λ e. omega arith) (λ e. omega arith)
 letter_first quote (octal ds) more after is letter = quote_differs quote 92 is (λ e. omega arith) (λ e. omega arith)

@@ -1,4 +1,5 @@
 pub mod Blanks
+pub mod Content
 pub mod Faults
 pub mod Lexeme
 pub mod Numbers

@@ -106,7 +106,7 @@ block_met bytes after is =
     let joined : inner ++ 42 ∷ 47 ∷ [] ++ after ≡ inner ++ 42 ∷ 47 ∷ after = append_assoc inner (42 ∷ 47 ∷ []) after in
     let e : 2 + (0 + (length inner + 2)) ≡ suc (suc (length (inner ++ 42 ∷ 47 ∷ []))) = omega (arith, length-append inner (42 ∷ 47 ∷ [])) in
     subst (λ (b : List ℕ). slash (b ++ after) ≡ steps.Blank (length b)) (sym is.1) (
-      ap (λ (l : List ℕ). comment_of (comment_len 0 l)) joined ∙ ap comment_of (comment_exact 0 inner after open_until) ∙ ap (λ (n : ℕ). steps.Blank n) e
+    ap (λ (l : List ℕ). comment_of (comment_len 0 l)) joined ∙ ap comment_of (comment_exact 0 inner after open_until) ∙ ap (λ (n : ℕ). steps.Blank n) e
     )
 
 pub open_met : (text : List ℕ) → IsOpenComment text → slash text ≡ steps.Fault kinds.CommentEnd 0

@@ -56,7 +56,7 @@ begin_symbol byte is =
     let d = or_parts (is_space byte) (begins_word byte) c.0 in
     rw (d.0, d.1, c.1, b.1, a.1) (by_slash byte (eqb byte 47) refl)
 
-symbol_begins : (bytes after : List ℕ) → is_symbol bytes ≡ true → BeginsBy Symbol (begin_of (slice_index (bytes ++ after) 0))
+pub symbol_begins : (bytes after : List ℕ) → is_symbol bytes ≡ true → BeginsBy Symbol (begin_of (slice_index (bytes ++ after) 0))
 symbol_begins [] after is = absurd (true≢false (sym is))
 symbol_begins (byte ∷ bytes) after is = begin_symbol byte (symbol_other (byte ∷ bytes) is)
 
@@ -132,7 +132,7 @@ number_reaches bytes after read n is reads =
     omega (arith, integer_reaches bytes after is)
 
 -- a symbol that begins with `/` is `/`
-slash_alone : (bytes : List ℕ) → is_symbol bytes ≡ true → slice_index bytes 0 ≡ 47 → length bytes ≤ 1
+pub slash_alone : (bytes : List ℕ) → is_symbol bytes ≡ true → slice_index bytes 0 ≡ 47 → length bytes ≤ 1
 slash_alone bytes is first =
     let one = symbol_passes (λ b. not (eqb (slice_index b 0) 47) || leb (length b) 1) bytes refl is in
     grind (arith, nat_tests)
@@ -154,7 +154,7 @@ symbol_longest bytes after read n is reads =
 slash_short : (text : List ℕ) (read : TokenKind) (n : ℕ) → SlashReads text (steps.Token read n) → n ≡ 1
 slash_short text read n reads = reads.1
 
-same_first : (bytes after : List ℕ) → 0 < length bytes → slice_index (bytes ++ after) 0 ≡ slice_index bytes 0
+pub same_first : (bytes after : List ℕ) → 0 < length bytes → slice_index (bytes ++ after) 0 ≡ slice_index bytes 0
 same_first [] after some = absurd (omega arith)
 same_first (byte ∷ bytes) after some = refl
 
@@ -164,13 +164,13 @@ symbol_next_reaches bytes after read n is reads =
     let some = (symbol_short bytes is).0 in
     elim (symbol_begins bytes after is) [
       | inl slashed ↦
-        let first : slice_index text 0 ≡ 47 = begin_is (slice_index text 0) begins.Slash slashed in
-        let here = next_at text begins.Slash (some_more bytes after some) slashed in
-        let one = slash_short text read n (subst (λ s. SlashReads text s) (sym here ∙ reads) (slash_reads text first)) in
-        omega (arith, slash_alone bytes is (sym (same_first bytes after some) ∙ first))
+          let first : slice_index text 0 ≡ 47 = begin_is (slice_index text 0) begins.Slash slashed in
+          let here = next_at text begins.Slash (some_more bytes after some) slashed in
+          let one = slash_short text read n (subst (λ s. SlashReads text s) (sym here ∙ reads) (slash_reads text first)) in
+          omega (arith, slash_alone bytes is (sym (same_first bytes after some) ∙ first))
       | inr other ↦
-        let here = next_at text begins.Symbol (some_more bytes after some) other in
-        symbol_longest bytes after read n is (sym here ∙ reads)
+          let here = next_at text begins.Symbol (some_more bytes after some) other in
+          symbol_longest bytes after read n is (sym here ∙ reads)
     ]
 
 -- a string or quoted name is read whole, whatever follows
@@ -209,8 +209,8 @@ token_found kind text n at reads =
     record {
       spelled = at.spelled;
       longest = λ other longer rest same spells.
-        let reach = token_reaches other longer rest kind n spells (ap next (sym same) ∙ here) in
-        omega (arith, at.length_is);
+          let reach = token_reaches other longer rest kind n spells (ap next (sym same) ∙ here) in
+          omega (arith, at.length_is);
       no_comment = subst (λ (l : List ℕ). begins_comment l ≡ false) at.text_is at.no_comment;
       no_fault = λ fault place wrong. absurd (cc (sym (wrong_next fault (at.bytes ++ at.after) place wrong) ∙ here));
     }
@@ -222,7 +222,7 @@ step_of (blank bytes) = steps.Blank (length bytes)
 step_of (token kind bytes) = steps.Token kind (length bytes)
 
 -- bytes that begin a text are its first ones
-first_same : (bytes after other rest : List ℕ) → bytes ++ after ≡ other ++ rest → length bytes ≡ length other → bytes ≡ other
+pub first_same : (bytes after other rest : List ℕ) → bytes ++ after ≡ other ++ rest → length bytes ≡ length other → bytes ≡ other
 first_same bytes after other rest same len =
     sym (take_at bytes after (length bytes) refl) ∙ ap (λ (l : List ℕ). take (length bytes) l) same ∙ take_at other rest (length bytes) (sym len)
 
@@ -242,8 +242,8 @@ blank_by : (kind : TokenKind) (bytes after blank_bytes rest : List ℕ) → IsTo
 blank_by kind bytes after blank_bytes rest is same blank_is =
     elim blank_is [
       | inl space ↦
-        let first : slice_index (bytes ++ after) 0 ≡ space.0 = ap (λ (l : List ℕ). slice_index l 0) same ∙ first_byte blank_bytes [] rest space.0 space.1 in
-        no_space kind (begin_of (slice_index (bytes ++ after) 0)) (spelled_begins kind bytes after is.spelled) (ap begin_of first ∙ begin_space space.0 space.2)
+          let first : slice_index (bytes ++ after) 0 ≡ space.0 = ap (λ (l : List ℕ). slice_index l 0) same ∙ first_byte blank_bytes [] rest space.0 space.1 in
+          no_space kind (begin_of (slice_index (bytes ++ after) 0)) (spelled_begins kind bytes after is.spelled) (ap begin_of first ∙ begin_space space.0 space.2)
       | inr (inl line) ↦ comment_begins (bytes ++ after) blank_bytes rest same (subst (λ (b : List ℕ). begins_comment (b ++ rest) ≡ true) (sym line.1) refl) is.no_comment
       | inr (inr block) ↦ comment_begins (bytes ++ after) blank_bytes rest same (subst (λ (b : List ℕ). begins_comment (b ++ rest) ≡ true) (sym block.1) refl) is.no_comment
     ]

@@ -108,10 +108,10 @@ digits_read quote digits after value some most each whole is byte more begins =
     elim (cases_Bool (eqb value 0 || ltb 127 value)) [
       | inl out ↦ rw out (byte, more, ap (λ (l : List ℕ). 92 ∷ l) begins)
       | inr inside ↦
-        let both = or_parts (eqb value 0) (ltb 127 value) inside in
-        let positive : 0 < value = grind (arith, nat_tests) in
-        let small : value < 128 = grind (arith, nat_tests) in
-        rw inside (record {
+          let both = or_parts (eqb value 0) (ltb 127 value) inside in
+          let positive : 0 < value = grind (arith, nat_tests) in
+          let small : value < 128 = grind (arith, nat_tests) in
+          rw inside (record {
             letter = octal digits;
             after = after;
             text_is = refl;

@@ -1,3 +1,4 @@
+pub mod AloneLemmas
 pub mod Begins
 pub mod BlankLemmas
 pub mod ContentLemmas

@@ -74,10 +74,10 @@ pub quote_next : (quote : ℕ) (bytes : List ℕ) → is_quote quote ≡ true �
 quote_next quote bytes is isnt =
     elim (or_cases (eqb quote 34) (eqb quote 39) is) [
       | inl double ↦ let e : quote ≡ 34 = eqb-true quote 34 double in
-        record { kind = Str; next_is = subst (λ (q : ℕ). next (q ∷ bytes) ≡ quoted Str q 1 0 bytes) (sym e) (string_next bytes) }
+          record { kind = Str; next_is = subst (λ (q : ℕ). next (q ∷ bytes) ≡ quoted Str q 1 0 bytes) (sym e) (string_next bytes) }
       | inr single ↦ let e : quote ≡ 39 = eqb-true quote 39 single in
-        let other : eqb (slice_index bytes 0) 39 ≡ false = ap (λ (q : ℕ). eqb (slice_index bytes 0) q) (sym e) ∙ isnt in
-        record { kind = Quoted; next_is = subst (λ (q : ℕ). next (q ∷ bytes) ≡ quoted Quoted q 1 0 bytes) (sym e) (name_next bytes other) }
+          let other : eqb (slice_index bytes 0) 39 ≡ false = ap (λ (q : ℕ). eqb (slice_index bytes 0) q) (sym e) ∙ isnt in
+          record { kind = Quoted; next_is = subst (λ (q : ℕ). next (q ∷ bytes) ≡ quoted Quoted q 1 0 bytes) (sym e) (name_next bytes other) }
     ]
 
 to_next : (quote : ℕ) (text rest : List ℕ) (place : ℕ) → ReadsTo quote text rest place → eqb (slice_index rest 0) quote ≡ false → QuoteNext quote text

@@ -87,11 +87,11 @@ reached_token text rest list at kind n reached reads =
       items = reached.items ++ item ∷ [];
       divides = subst (λ (l : List ℕ). Divides text (reached.items ++ item ∷ []) l) (behind rest here.bytes here.after n here.text_is here.length_is) (divides_push reached.items text rest item here.after reached.divides here.text_is is);
       list_is =
-        let starts : at ≡ 0 + len_of reached.items = omega (arith, reached.at_is) in
-        let ends : at + n ≡ 0 + len_of reached.items + length here.bytes = omega (arith, reached.at_is, here.length_is) in
-        let text_same : take n rest ≡ here.bytes = ap (λ (l : List ℕ). take n l) here.text_is ∙ take_at here.bytes here.after n here.length_is in
-        let same = lexeme_same kind at (0 + len_of reached.items) (at + n) (0 + len_of reached.items + length here.bytes) (take n rest) here.bytes starts ends text_same in
-        ap (λ (l : List Lexeme). l ++ lexeme_at kind at (at + n) (take n rest) ∷ []) reached.list_is ∙ ap (λ (x : Lexeme). lexemes 0 reached.items ++ x ∷ []) same ∙ sym (lexemes_push 0 reached.items item);
+          let starts : at ≡ 0 + len_of reached.items = omega (arith, reached.at_is) in
+          let ends : at + n ≡ 0 + len_of reached.items + length here.bytes = omega (arith, reached.at_is, here.length_is) in
+          let text_same : take n rest ≡ here.bytes = ap (λ (l : List ℕ). take n l) here.text_is ∙ take_at here.bytes here.after n here.length_is in
+          let same = lexeme_same kind at (0 + len_of reached.items) (at + n) (0 + len_of reached.items + length here.bytes) (take n rest) here.bytes starts ends text_same in
+          ap (λ (l : List Lexeme). l ++ lexeme_at kind at (at + n) (take n rest) ∷ []) reached.list_is ∙ ap (λ (x : Lexeme). lexemes 0 reached.items ++ x ∷ []) same ∙ sym (lexemes_push 0 reached.items item);
       at_is = omega (arith, reached.at_is, here.length_is, len_push reached.items item);
     }
 

@@ -65,8 +65,8 @@ word_stands byte bytes is =
     let n : ℕ = prefix_len is_word_byte text in
     let begins : begins_word byte ≡ true = begin_is byte begins.Word is in
     first_bytes _ text n (prefix_len-le-length is_word_byte text)
-      (word_spells (take n text) (word_found text (omega arith) is (word_some text (omega arith) is)))
-      (no_slash byte bytes (grind (arith, nat_tests)))
+    (word_spells (take n text) (word_found text (omega arith) is (word_some text (omega arith) is)))
+    (no_slash byte bytes (grind (arith, nat_tests)))
 
 number_by : (text : List ℕ) (step : Step) → is_ascii_digit (slice_index text 0) ≡ true → begins_comment text ≡ false → number_len text ≤ length text → NumberReads text step → Stands text step
 number_by text steps.End digit no_comment fits reads = absurd reads

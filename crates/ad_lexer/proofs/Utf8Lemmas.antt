@@ -19,15 +19,15 @@ longest text (suc most) =
     elim (cases_Bool (is_utf8 (take (suc most) text))) [
       | inl whole ↦ record { len = suc most; front = IsUtf8-from_is_utf8 _ whole; above = λ k above within. absurd (omega arith) }
       | inr isnt ↦
-        let rest = longest text most in
-        record {
-          len = rest.len;
-          front = rest.front;
-          above = λ k above within is. elim (cases_lt most k) [
-                | inl top ↦ let e : k ≡ suc most = omega arith in not_utf8 _ isnt (subst (λ (n : ℕ). IsUtf8 (take n text)) e is)
-                | inr low ↦ rest.above k above low is
-              ];
-        }
+          let rest = longest text most in
+          record {
+            len = rest.len;
+            front = rest.front;
+            above = λ k above within is. elim (cases_lt most k) [
+              | inl top ↦ let e : k ≡ suc most = omega arith in not_utf8 _ isnt (subst (λ (n : ℕ). IsUtf8 (take n text)) e is)
+              | inr low ↦ rest.above k above low is
+            ];
+          }
     ]
 
 whole_is : (text : List ℕ) (n : ℕ) → length text ≤ n → IsUtf8 (take n text) → IsUtf8 text
@@ -39,10 +39,14 @@ utf8_cases text =
     elim (cases_Bool (is_utf8 text)) [
       | inl is ↦ inl (IsUtf8-from_is_utf8 text is)
       | inr isnt ↦
-        let none = not_utf8 text isnt in
-        inr (found.len, none, record {
-            short = elim (cases_lt found.len (length text)) [ inl short ↦ short | inr most ↦ absurd (none (whole_is text found.len most found.front)) ];
-            front = found.front;
-            longest = λ m above is. elim (cases_lt (length text) m) [ inl past ↦ none (whole_is text m (omega arith) is) | inr within ↦ found.above m above within is ];
-          })
+          let none = not_utf8 text isnt in
+          inr (
+            found.len,
+            none,
+            record {
+              short = elim (cases_lt found.len (length text)) [ inl short ↦ short | inr most ↦ absurd (none (whole_is text found.len most found.front)) ];
+              front = found.front;
+              longest = λ m above is. elim (cases_lt (length text) m) [ inl past ↦ none (whole_is text m (omega arith) is) | inr within ↦ found.above m above within is ];
+            },
+          )
     ]

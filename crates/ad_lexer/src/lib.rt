@@ -14,6 +14,6 @@ mod tests;
 mod token;
 
 pub use fault::{LexFault, LexKind};
-pub use laws::one_answer;
+pub use laws::{integer_fits, one_answer, one_content, one_kind, spelling_stands};
 pub use lexer::lex;
 pub use token::{Token, TokenKind, Tokens};

@@ -105,7 +105,10 @@ fn escape(text: &[u8]) -> Front
 fn is_escape(byte: u8) -> bool
     ensures { result ≡ is_some (letters.escaped byte) }
 {
-    matches!(byte, b'b' | b't' | b'n' | b'f' | b'r' | b'\\' | b'"' | b'\'')
+    matches!(
+        byte,
+        b'b' | b't' | b'n' | b'f' | b'r' | b'\\' | b'"' | b'\''
+    )
 }
 
 #[tactic(auto, unfolding(crate::specs::Reading::octal))]

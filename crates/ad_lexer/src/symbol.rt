@@ -67,6 +67,30 @@ fn is_double(first: u8, second: u8) -> bool
 fn is_single(byte: u8) -> bool
     ensures { result ≡ is_symbol (byte ∷ []) }
 {
-    matches!(byte, b'(' | b')' | b'[' | b']' | b'{' | b'}' | b',' | b';' | b'.' | b'=' | b'?' | b':' | b'|' | b'^'
-        | b'&' | b'<' | b'>' | b'+' | b'-' | b'*' | b'/' | b'%' | b'!' | b'~')
+    matches!(
+        byte,
+        b'(' | b')'
+            | b'['
+            | b']'
+            | b'{'
+            | b'}'
+            | b','
+            | b';'
+            | b'.'
+            | b'='
+            | b'?'
+            | b':'
+            | b'|'
+            | b'^'
+            | b'&'
+            | b'<'
+            | b'>'
+            | b'+'
+            | b'-'
+            | b'*'
+            | b'/'
+            | b'%'
+            | b'!'
+            | b'~'
+    )
 }

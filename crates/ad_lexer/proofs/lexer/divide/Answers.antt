@@ -28,9 +28,8 @@ loop-tokens-preserved c =
     let tokens = c.loop-tokens.tokens in
     let shorter : length c.behind-rest-in-Token.result.now ≡ length rest - n = ap (λ (l : List ℕ). length l) c.behind-rest-in-Token.ensures ∙ length-drop n rest in
     let pushed : tokens ++ lexeme_at kind at (at + n) (take n rest) ∷ [] ≡ c.push.new.self =
-        ap (λ (l : List ℕ). tokens ++ lexeme_at kind at (at + n) l ∷ []) (sym c.front.ensures) ∙ sym c.in_ok-push-in-Token.ensures.ok in
-    let reached = reached_token text rest tokens at kind n c.loop-tokens.invariant.0 c.in-Token.ensures.value in
-    (
+    ap (λ (l : List ℕ). tokens ++ lexeme_at kind at (at + n) l ∷ []) (sym c.front.ensures) ∙ sym c.in_ok-push-in-Token.ensures.ok in
+    let reached = reached_token text rest tokens at kind n c.loop-tokens.invariant.0 c.in-Token.ensures.value in (
       subst (λ (l : List ℕ). Reached text l c.push.new.self (at + n)) (sym c.behind-rest-in-Token.ensures) (subst (λ (ts : List Lexeme). Reached text (drop n rest) ts (at + n)) pushed reached),
       omega (arith, c.in-Token.ensures.within.1),
     )

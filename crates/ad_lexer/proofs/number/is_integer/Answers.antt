@@ -20,7 +20,7 @@ pub returns-then-number-gt0 : goal.returns-then-number-gt0
 returns-then-number-gt0 c =
     let bytes = c.args.number.now in
     let other : (eqb (slice_index bytes 0) 48 && ltb 1 (length bytes)) ≡ false =
-        elim c.else-byte_at-eq48.branch [ else-byte_at-eq48-via-then-byte_at-eq48+else-number-gt1 w ↦ grind (arith, nat_tests) | else-byte_at-eq48-via-else-byte_at-eq48 w ↦ grind (arith, nat_tests) ] in
+    elim c.else-byte_at-eq48.branch [ else-byte_at-eq48-via-then-byte_at-eq48+else-number-gt1 w ↦ grind (arith, nat_tests) | else-byte_at-eq48-via-else-byte_at-eq48 w ↦ grind (arith, nat_tests) ] in
     let some : ltb 0 (length bytes) ≡ true = grind (arith, nat_tests) in
     let isnt : is_hexadecimal bytes ≡ false = cc in
     c.has_value-then-number-gt0.ensures ∙ sym (is_integer_decimal bytes isnt other ∙ ap (λ (b : Bool). b && has_value 10 0 bytes) some)

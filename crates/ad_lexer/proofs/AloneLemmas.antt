@@ -1,28 +1,26 @@
 -- What is spelled as a token is one, before bytes that don't change it.
-use Rattle.std.proofs.Common.{◌≡◌, ◌≢◌, ◌⊎◌, ℕ, zero, suc, ◌+◌, ◌-◌, ◌<◌, ◌≤◌, Bool, true, false, cond, eqb, ltb, leb, not, ◌&&◌, ◌||◌, List, [], ◌∷◌, ◌++◌, length, map, take, drop, slice_index, refl, sym, ◌∙◌, ap, subst, inl, inr, arith, length-append, append_assoc, take-append-drop}
-use Rattle.std.proofs.lemmas.Bool.{cases_Bool, cases_lt, and_parts, or_parts, or_cases, and_left, and_right, and_cases, or_left, or_right, not-true, not-false, not_from_true, not_from_false, false_from_ne_true, true≢false, eqb-true, eqb-false, eq-eqb}
+use Rattle.std.proofs.Common.{◌≡◌, ℕ, zero, suc, ◌<◌, ◌≤◌, Bool, true, false, cond, eqb, leb, not, ◌&&◌, ◌||◌, List, [], ◌∷◌, ◌++◌, length, take, drop, slice_index, refl, sym, ◌∙◌, ap, subst, inl, inr, arith, length-append}
+use Rattle.std.proofs.lemmas.Bool.{cases_Bool, cases_lt, and_parts, or_parts, or_cases, and_left, and_right, or_left, or_right, not-true, true≢false, eq-eqb}
 use Rattle.std.proofs.lemmas.Bool.Decides.{nat_tests}
-use Rattle.std.proofs.lemmas.List.{take_at, drop_at, take-take, append_cancel_left}
+use Rattle.std.proofs.lemmas.List.{take_at, append_cancel_left}
 use Rattle.std.proofs.lemmas.Slice.Eq.{bytes_eq-Decides}
 use Rattle.std.specs.Char.{is_ascii_digit, is_ascii_hexdigit}
-use Rattle.std.specs.List.{list_all, list_any, prefix_len, starts_with}
+use Rattle.std.specs.List.{list_all, list_any, prefix_len}
 use Rattle.std.specs.Str.{bytes_eq}
 use Rattle.ad_lexer.specs.declared.next.Begin.TheVariants as begins
-use Rattle.ad_lexer.specs.declared.next.Step.{Step}
 use Rattle.ad_lexer.specs.declared.next.Step.TheVariants as steps
 use Rattle.ad_lexer.specs.declared.token.TokenKind.{TokenKind}
 use Rattle.ad_lexer.specs.declared.token.TokenKind.TheVariants.{Plain, Reserved, Quoted, Str, Int, Symbol}
 use Rattle.ad_lexer.specs.Alone.{ends_word, ends_integer, goes_on, ends_symbol, Ends}
-use Rattle.ad_lexer.specs.Blanks.{is_space}
 use Rattle.ad_lexer.specs.Faults.{behind_number, is_dot_digit}
 use Rattle.ad_lexer.specs.Numbers.{is_hexadecimal, is_integer, number_len}
 use Rattle.ad_lexer.specs.Spelling.{Spells}
 use Rattle.ad_lexer.specs.Symbols.{symbols, is_symbol}
 use Rattle.ad_lexer.specs.Tokens.{IsToken}
 use Rattle.ad_lexer.specs.Words.{is_word, is_word_byte, is_reserved}
-use Rattle.ad_lexer.specs.Reading.{begin_of, at_begin, next, word, number, symbol, symbol_len, symbol_of, slash, is_decimal_mark}
-use Rattle.ad_lexer.proofs.Begins.{begin_is, begin_word, begin_number}
-use Rattle.ad_lexer.proofs.ItemLemmas.{BeginsBy, symbol_begins, string_whole, name_whole, first_same, slash_alone, same_first, same_kind, token_found}
+use Rattle.ad_lexer.specs.Reading.{begin_of, next, symbol, symbol_len, symbol_of, slash, is_decimal_mark}
+use Rattle.ad_lexer.proofs.Begins.{begin_is}
+use Rattle.ad_lexer.proofs.ItemLemmas.{symbol_begins, string_whole, name_whole, first_same, slash_alone, same_first, token_found}
 use Rattle.ad_lexer.proofs.NextLemmas.{next_at, number_next}
 use Rattle.ad_lexer.proofs.NumberLemmas.{integer_begins, integer_decimal, integer_hexadecimal, chosen, number_chosen}
 use Rattle.ad_lexer.proofs.Runs.{run_exact}

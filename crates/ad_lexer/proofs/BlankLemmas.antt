@@ -1,10 +1,9 @@
 -- White space and comments at the front of a text.
-use Rattle.std.proofs.Common.{◌≡◌, ◌⊎◌, ℕ, zero, suc, ◌+◌, ◌<◌, ◌≤◌, Bool, true, false, cond, not, eqb, ◌&&◌, ◌||◌, List, [], ◌∷◌, ◌++◌, length, take, drop, slice_index, Option, Some, None, refl, sym, ◌∙◌, ap, subst, inl, inr, arith, length-append, length-take-le, append_assoc, take-append-drop}
-use Rattle.std.proofs.lemmas.Bool.{cases_Bool, and_parts, and_from, and_right, or_parts, or_from, not-false, true≢false, eqb-true}
-use Rattle.std.proofs.lemmas.Bool.Decides.{nat_tests}
+use Rattle.std.proofs.Common.{◌≡◌, ℕ, suc, ◌+◌, Bool, true, false, cond, eqb, ◌&&◌, List, [], ◌∷◌, ◌++◌, length, take, drop, slice_index, Option, Some, None, refl, sym, ◌∙◌, ap, subst, inl, inr, arith, length-append, length-take-le, append_assoc, take-append-drop}
+use Rattle.std.proofs.lemmas.Bool.{cases_Bool, and_parts, and_right, or_parts, or_from, not-false, eqb-true}
 use Rattle.std.proofs.lemmas.List.Sums.{prefix_len-le-length}
-use Rattle.std.specs.List.{list_all, prefix_len}
-use Rattle.ad_lexer.specs.Blanks.{is_space, is_line_byte, begins_comment, has_close, IsSpace, IsLineComment, IsBlockComment, IsBlank}
+use Rattle.std.specs.List.{prefix_len}
+use Rattle.ad_lexer.specs.Blanks.{is_line_byte, begins_comment, has_close, IsLineComment, IsBlockComment, IsBlank}
 use Rattle.ad_lexer.specs.Faults.{IsOpenComment}
 use Rattle.ad_lexer.specs.declared.fault.LexKind.TheVariants as kinds
 use Rattle.ad_lexer.specs.declared.next.Step.{Step}

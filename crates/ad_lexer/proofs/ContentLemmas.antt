@@ -1,15 +1,14 @@
 -- What a string or a quoted name means, letter by letter.
-use Rattle.std.proofs.Common.{◌≡◌, ◌≢◌, ◌⊎◌, ℕ, zero, suc, ◌+◌, ◌-◌, ◌*◌, ◌<◌, ◌≤◌, Bool, true, false, cond, eqb, not, ◌&&◌, ◌||◌, List, [], ◌∷◌, ◌++◌, length, map, take, drop, slice_index, Option, Some, None, is_some, refl, sym, ◌∙◌, ap, subst, inl, inr, arith, length-append, append_assoc}
-use Rattle.std.proofs.lemmas.Bool.{and_parts, or_parts, not-true, true≢false, eq-eqb}
+use Rattle.std.proofs.Common.{◌≡◌, ℕ, zero, suc, ◌-◌, ◌<◌, Bool, true, false, cond, eqb, List, [], ◌∷◌, ◌++◌, length, map, drop, slice_index, is_some, refl, sym, ◌∙◌, ap, arith, length-append, append_assoc}
+use Rattle.std.proofs.lemmas.Bool.{and_parts, or_parts, not-true, eq-eqb}
 use Rattle.std.proofs.lemmas.Bool.Decides.{nat_tests}
 use Rattle.std.proofs.lemmas.List.{drop_at}
 use Rattle.std.specs.Str.Parse.{digits_value}
 use Rattle.ad_lexer.specs.Content.{octal_value, octal_len, or_octal, meaning_at, letter_len, content_from, content}
 use Rattle.ad_lexer.specs.Quoted.{Letter, plain, escape, octal, spelling, spellings, meaning, is_plain, escaped, is_octal_digit, IsOctal, IsLetter, AreLetters, IsQuoted}
-use Rattle.ad_lexer.specs.Spelling.{Spells}
 use Rattle.ad_lexer.proofs.LetterLemmas as letters
 use Rattle.ad_lexer.proofs.LetterLemmas.{is_quote, spelling_some}
-use Rattle.ad_lexer.proofs.QuotedLemmas.{letter_first, same_letters}
+use Rattle.ad_lexer.proofs.QuotedLemmas.{letter_first}
 
 -- skipping bytes is going on behind them
 content-skip : (quote skip : ℕ) (text : List ℕ) → content_from quote skip text ≡ content_from quote 0 (drop skip text)

@@ -1,11 +1,10 @@
 -- An item stands at the front of a text exactly where it is read there.
-use Rattle.std.proofs.Common.{◌≡◌, ◌≢◌, ◌⊎◌, ℕ, zero, suc, ◌+◌, ◌-◌, ◌<◌, ◌≤◌, Bool, true, false, cond, eqb, leb, not, ◌&&◌, ◌||◌, List, [], ◌∷◌, ◌++◌, length, map, take, drop, slice_index, refl, sym, ◌∙◌, ap, subst, inl, inr, arith, length-append, append_assoc}
-use Rattle.std.proofs.lemmas.Bool.{cases_Bool, and_parts, or_parts, or_cases, and_right, or_from, or_left, or_right, not-true, not_from_false, true≢false, eqb-true, eqb-false, eq-eqb}
+use Rattle.std.proofs.Common.{◌≡◌, ◌⊎◌, ℕ, zero, suc, ◌<◌, ◌≤◌, Bool, true, false, cond, eqb, leb, not, ◌||◌, List, [], ◌∷◌, ◌++◌, length, take, drop, slice_index, refl, sym, ◌∙◌, ap, subst, inl, inr, arith, length-append, append_assoc}
+use Rattle.std.proofs.lemmas.Bool.{or_parts, not-true, true≢false}
 use Rattle.std.proofs.lemmas.Bool.Decides.{nat_tests}
-use Rattle.std.proofs.lemmas.List.{take_at, drop_at, length-map}
+use Rattle.std.proofs.lemmas.List.{take_at, length-map}
 use Rattle.std.specs.Char.{is_ascii_digit}
-use Rattle.std.specs.List.{list_all, prefix_len}
-use Rattle.ad_lexer.specs.declared.fault.LexKind.{LexKind}
+use Rattle.std.specs.List.{prefix_len}
 use Rattle.ad_lexer.specs.declared.fault.LexKind.TheVariants as kinds
 use Rattle.ad_lexer.specs.declared.next.Begin.{Begin}
 use Rattle.ad_lexer.specs.declared.next.Begin.TheVariants as begins
@@ -14,9 +13,8 @@ use Rattle.ad_lexer.specs.declared.next.Step.TheVariants as steps
 use Rattle.ad_lexer.specs.declared.token.TokenKind.{TokenKind}
 use Rattle.ad_lexer.specs.declared.token.TokenKind.TheVariants.{Plain, Reserved, Quoted, Str, Int, Symbol}
 use Rattle.ad_lexer.specs.Blanks.{is_space, begins_comment, IsBlank}
-use Rattle.ad_lexer.specs.Faults.{Wrong}
 use Rattle.ad_lexer.specs.Numbers.{is_integer, number_len}
-use Rattle.ad_lexer.specs.Quoted.{Letter, spelling, spellings, meaning, AreLetters, IsQuoted}
+use Rattle.ad_lexer.specs.Quoted.{spellings, meaning, IsQuoted}
 use Rattle.ad_lexer.specs.Spelling.{Spells}
 use Rattle.ad_lexer.specs.Symbols.{is_symbol}
 use Rattle.ad_lexer.specs.Tokens.{IsToken, Item, blank, token, bytes_of, IsItem}
@@ -25,7 +23,7 @@ use Rattle.ad_lexer.specs.Reading as reading
 use Rattle.ad_lexer.specs.Reading.{begin_of, at_begin, next, word, number, symbol, symbol_len, symbol_of, slash}
 use Rattle.ad_lexer.proofs.Begins.{begin_is, begin_number}
 use Rattle.ad_lexer.proofs.BlankLemmas.{BlankAt, SlashReads, slash_reads}
-use Rattle.ad_lexer.proofs.NextLemmas.{next_at, begin_39, begin_34, begin_47, quote_next, name_next, string_next, begin_space, number_next, wrong_next, blank_next}
+use Rattle.ad_lexer.proofs.NextLemmas.{next_at, begin_39, begin_34, name_next, string_next, begin_space, number_next, wrong_next, blank_next}
 use Rattle.ad_lexer.proofs.NumberLemmas.{NumberReads, number_reads, integer_begins, integer_nonempty, integer_reaches}
 use Rattle.ad_lexer.proofs.QuotedLemmas.{letters_first, quoted_met, same_letters}
 use Rattle.ad_lexer.proofs.Runs.{run_reaches}

@@ -1,13 +1,13 @@
 -- The letter at the front of the rest of a string.
-use Rattle.std.proofs.Common.{◌≡◌, ◌≢◌, ◌⊎◌, ℕ, zero, suc, ◌+◌, ◌-◌, ◌*◌, ◌<◌, ◌≤◌, Bool, true, false, cond, not, eqb, ltb, ◌&&◌, ◌||◌, List, [], ◌∷◌, ◌++◌, length, take, drop, slice_index, Option, Some, None, is_some, refl, sym, ◌∙◌, ap, subst, inl, inr, arith}
-use Rattle.std.proofs.lemmas.Bool.{cases_Bool, and_parts, and_from, or_parts, or_from, or_cases, not-true, not-false, true≢false, eqb-true, eq-eqb, leb-true, leb-false, ltb-false, le-ltb}
+use Rattle.std.proofs.Common.{◌≡◌, ◌≢◌, ◌⊎◌, ℕ, suc, ◌+◌, ◌-◌, ◌*◌, ◌<◌, ◌≤◌, Bool, true, false, cond, not, eqb, ltb, ◌||◌, List, [], ◌∷◌, ◌++◌, length, slice_index, Option, Some, None, is_some, refl, sym, ◌∙◌, ap, subst, inl, inr, arith}
+use Rattle.std.proofs.lemmas.Bool.{cases_Bool, and_parts, and_from, or_parts, not-true, true≢false, eqb-true}
 use Rattle.std.proofs.lemmas.Bool.Decides.{nat_tests}
 use Rattle.std.specs.Char.{digit_value}
 use Rattle.std.specs.List.{list_all}
 use Rattle.std.specs.Str.Parse.{digits_value}
 use Rattle.ad_lexer.specs.declared.quoted.Front.{Front}
 use Rattle.ad_lexer.specs.declared.quoted.Front.TheVariants as fronts
-use Rattle.ad_lexer.specs.Quoted.{Letter, plain, escape, octal, spelling, meaning, is_plain, escaped, is_octal_digit, IsOctal, IsLetter}
+use Rattle.ad_lexer.specs.Quoted.{Letter, plain, escape, octal, spelling, is_plain, escaped, is_octal_digit, IsOctal, IsLetter}
 use Rattle.ad_lexer.specs.Reading as reading
 
 -- 34 or 39

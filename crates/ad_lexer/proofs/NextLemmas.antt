@@ -1,30 +1,26 @@
 -- What stands at the front of a text is read.
-use Rattle.std.proofs.Common.{◌≡◌, ◌≢◌, ◌⊎◌, ℕ, zero, suc, ◌+◌, ◌-◌, ◌<◌, ◌≤◌, Bool, true, false, cond, eqb, ltb, ◌*◌, ◌^◌, not, ◌&&◌, ◌||◌, List, [], ◌∷◌, ◌++◌, length, map, take, drop, slice_index, refl, sym, ◌∙◌, ap, subst, inl, inr, arith}
-use Rattle.std.proofs.lemmas.Bool.{cases_Bool, and_parts, or_parts, or_cases, and_right, not-true, true≢false, eqb-true, eqb-false, eq-eqb}
+use Rattle.std.proofs.Common.{◌≡◌, ◌⊎◌, ℕ, zero, suc, ◌+◌, ◌<◌, true, false, eqb, ltb, ◌*◌, ◌^◌, List, [], ◌∷◌, ◌++◌, length, take, drop, slice_index, refl, sym, ◌∙◌, ap, subst, inl, inr, arith}
+use Rattle.std.proofs.lemmas.Bool.{cases_Bool, and_parts, or_cases, and_right, true≢false, eqb-true}
 use Rattle.std.proofs.lemmas.Bool.Decides.{nat_tests}
 use Rattle.std.specs.Char.{is_ascii_digit, is_digit, digit_value}
-use Rattle.std.specs.List.{list_all, prefix_len}
 use Rattle.ad_lexer.specs.declared.fault.LexKind.{LexKind}
 use Rattle.ad_lexer.specs.declared.fault.LexKind.TheVariants as kinds
 use Rattle.ad_lexer.specs.declared.next.Begin.{Begin}
 use Rattle.ad_lexer.specs.declared.next.Begin.TheVariants as begins
-use Rattle.ad_lexer.specs.declared.next.Step.{Step}
 use Rattle.ad_lexer.specs.declared.next.Step.TheVariants as steps
 use Rattle.ad_lexer.specs.declared.token.TokenKind.{TokenKind}
-use Rattle.ad_lexer.specs.declared.token.TokenKind.TheVariants.{Plain, Reserved, Quoted, Str, Int, Symbol}
-use Rattle.ad_lexer.specs.Blanks.{is_space, begins_comment, IsBlank}
+use Rattle.ad_lexer.specs.declared.token.TokenKind.TheVariants.{Quoted, Str, Int, Symbol}
+use Rattle.ad_lexer.specs.Blanks.{is_space, IsBlank}
 use Rattle.ad_lexer.specs.Faults.{ReadsTo, BeginsNothing, HasNul, IsEmptyName, IsOpenString, HasBadEscape, is_decimal, is_dot_digit, is_bad_number, Wrong}
-use Rattle.ad_lexer.specs.Numbers.{number_len, is_integer}
-use Rattle.ad_lexer.specs.Quoted.{Letter, plain, spelling, spellings, meaning, AreLetters, IsQuoted}
+use Rattle.ad_lexer.specs.Numbers.{is_integer}
+use Rattle.ad_lexer.specs.Quoted.{plain, spellings}
 use Rattle.ad_lexer.specs.Spelling.{Spells}
-use Rattle.ad_lexer.specs.Symbols.{is_symbol}
-use Rattle.ad_lexer.specs.Words.{begins_word, is_word_byte, is_word, is_reserved}
-use Rattle.ad_lexer.specs.Reading.{begin_of, at_begin, next, word, number, name, string, slash, symbol, symbol_len, symbol_of, quoted}
-use Rattle.ad_lexer.proofs.Begins.{Tells, begin_is, begin_tells, begin_number, begin_word}
+use Rattle.ad_lexer.specs.Reading.{begin_of, at_begin, next, number, name, string, slash, symbol, symbol_len, symbol_of, quoted}
+use Rattle.ad_lexer.proofs.Begins.{begin_is, begin_number}
 use Rattle.ad_lexer.proofs.BlankLemmas.{line_met, block_met, open_met}
 use Rattle.ad_lexer.proofs.LetterLemmas.{is_quote, quote_differs}
 use Rattle.ad_lexer.proofs.NumberLemmas.{decimal_met, number_met}
-use Rattle.ad_lexer.proofs.QuotedLemmas.{letters_first, nul_met, end_met, escape_met, quoted_met}
+use Rattle.ad_lexer.proofs.QuotedLemmas.{letters_first, nul_met, end_met, escape_met}
 use Rattle.ad_lexer.proofs.SymbolLemmas.{symbol_found}
 use Rattle.ad_lexer.proofs.Turns.{is_integer_decimal}
 use Rattle.ad_lexer.proofs.WordLemmas.{word_spells}

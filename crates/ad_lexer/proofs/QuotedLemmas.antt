@@ -1,18 +1,15 @@
 -- The string or quoted name at the front of a text.
-use Rattle.std.proofs.Common.{◌≡◌, ◌≢◌, ◌⊎◌, ℕ, zero, suc, ◌+◌, ◌-◌, ◌<◌, ◌≤◌, Bool, true, false, cond, eqb, ◌||◌, List, [], ◌∷◌, ◌++◌, length, map, take, drop, slice_index, refl, sym, ◌∙◌, ap, subst, inl, inr, arith, length-append, append_assoc}
-use Rattle.std.proofs.lemmas.Bool.{cases_Bool, and_parts, or_parts, not-true, true≢false, eqb-true, eqb-false, eq-eqb}
-use Rattle.std.proofs.lemmas.Bool.Decides.{nat_tests}
+use Rattle.std.proofs.Common.{◌≡◌, ◌⊎◌, ℕ, zero, suc, ◌+◌, ◌-◌, ◌<◌, ◌≤◌, true, false, eqb, List, [], ◌∷◌, ◌++◌, length, drop, slice_index, refl, sym, ◌∙◌, ap, subst, inl, inr, arith, length-append, append_assoc}
+use Rattle.std.proofs.lemmas.Bool.{or_parts, not-true, true≢false, eq-eqb}
 use Rattle.std.proofs.lemmas.List.{drop_at}
-use Rattle.ad_lexer.specs.declared.fault.LexKind.{LexKind}
 use Rattle.ad_lexer.specs.declared.fault.LexKind.TheVariants as kinds
 use Rattle.ad_lexer.specs.declared.next.Step.{Step}
 use Rattle.ad_lexer.specs.declared.next.Step.TheVariants as steps
 use Rattle.ad_lexer.specs.declared.quoted.Front.{Front}
 use Rattle.ad_lexer.specs.declared.quoted.Front.TheVariants as fronts
 use Rattle.ad_lexer.specs.declared.token.TokenKind.{TokenKind}
-use Rattle.ad_lexer.specs.declared.token.TokenKind.TheVariants.{Quoted, Str}
-use Rattle.ad_lexer.specs.Faults.{ReadsTo, HasNul, IsEmptyName, IsOpenString, HasBadEscape}
-use Rattle.ad_lexer.specs.Quoted.{Letter, plain, escape, octal, spelling, spellings, meaning, is_plain, IsOctal, IsLetter, AreLetters, IsQuoted}
+use Rattle.ad_lexer.specs.Faults.{ReadsTo, HasNul, IsOpenString, HasBadEscape}
+use Rattle.ad_lexer.specs.Quoted.{Letter, plain, escape, octal, spelling, spellings, IsLetter, AreLetters, IsQuoted}
 use Rattle.ad_lexer.specs.Reading as reading
 use Rattle.ad_lexer.proofs.LetterLemmas.{is_quote, quote_differs, letter_met, spelling_some, LetterAt, IsLineEnd, FrontReads, front_reads}
 use Rattle.ad_lexer.proofs.Turns.{quoted_here, quoted_turn}

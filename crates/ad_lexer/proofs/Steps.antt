@@ -1,11 +1,10 @@
 -- What is read at the front of a text stands there.
-use Rattle.std.proofs.Common.{◌≡◌, ◌≢◌, ◌⊎◌, ℕ, zero, suc, ◌+◌, ◌-◌, ◌<◌, ◌≤◌, Bool, true, false, cond, eqb, not, ◌&&◌, ◌||◌, List, [], ◌∷◌, ◌++◌, length, map, take, drop, slice_index, refl, sym, ◌∙◌, ap, subst, inl, inr, arith, length-append, length-take-le, take-append-drop, append_assoc}
-use Rattle.std.proofs.lemmas.Bool.{cases_Bool, and_parts, or_parts, or_left, or_right, not-true, true≢false, eqb-true, eqb-false, eq-eqb}
+use Rattle.std.proofs.Common.{◌≡◌, ℕ, zero, suc, ◌<◌, ◌≤◌, Bool, true, false, cond, eqb, List, [], ◌∷◌, ◌++◌, length, map, take, drop, slice_index, refl, sym, ◌∙◌, ap, subst, inl, inr, arith, length-append, length-take-le, take-append-drop, append_assoc}
+use Rattle.std.proofs.lemmas.Bool.{and_parts, or_left, or_right, true≢false, eqb-true, eq-eqb}
 use Rattle.std.proofs.lemmas.Bool.Decides.{nat_tests}
 use Rattle.std.proofs.lemmas.List.Sums.{prefix_len-le-length}
 use Rattle.std.specs.Char.{is_ascii_digit}
 use Rattle.std.specs.List.{prefix_len}
-use Rattle.ad_lexer.specs.declared.fault.LexKind.{LexKind}
 use Rattle.ad_lexer.specs.declared.fault.LexKind.TheVariants as kinds
 use Rattle.ad_lexer.specs.declared.next.Begin.{Begin}
 use Rattle.ad_lexer.specs.declared.next.Begin.TheVariants as begins
@@ -13,17 +12,16 @@ use Rattle.ad_lexer.specs.declared.next.Step.{Step}
 use Rattle.ad_lexer.specs.declared.next.Step.TheVariants as steps
 use Rattle.ad_lexer.specs.declared.token.TokenKind.{TokenKind}
 use Rattle.ad_lexer.specs.declared.token.TokenKind.TheVariants.{Plain, Reserved, Quoted, Str, Int, Symbol}
-use Rattle.ad_lexer.specs.Blanks.{is_space, begins_comment, IsBlank}
-use Rattle.ad_lexer.specs.Faults.{BeginsNothing, HasNul, is_decimal, is_dot_digit, Wrong}
-use Rattle.ad_lexer.specs.Numbers.{number_len, is_integer}
-use Rattle.ad_lexer.specs.Quoted.{Letter, spelling, spellings, meaning, AreLetters, IsQuoted}
+use Rattle.ad_lexer.specs.Blanks.{begins_comment}
+use Rattle.ad_lexer.specs.Faults.{is_decimal, is_dot_digit, Wrong}
+use Rattle.ad_lexer.specs.Numbers.{number_len}
+use Rattle.ad_lexer.specs.Quoted.{Letter, spellings, meaning, IsQuoted}
 use Rattle.ad_lexer.specs.Spelling.{Spells}
 use Rattle.ad_lexer.specs.Symbols.{is_symbol}
-use Rattle.ad_lexer.specs.Words.{begins_word, is_word_byte, is_reserved}
+use Rattle.ad_lexer.specs.Words.{begins_word, is_word_byte}
 use Rattle.ad_lexer.specs.Reading.{begin_of, at_begin, next, word, number, name, string, slash, symbol, symbol_len, symbol_of, quoted}
 use Rattle.ad_lexer.proofs.Begins.{Tells, begin_is, word_some}
 use Rattle.ad_lexer.proofs.BlankLemmas.{BlankAt, SlashReads, slash_reads}
-use Rattle.ad_lexer.proofs.LetterLemmas.{spelling_some}
 use Rattle.ad_lexer.proofs.NumberLemmas.{NumberReads, number_reads, number_fits, integer_begins}
 use Rattle.ad_lexer.proofs.QuotedLemmas.{QuotedAt, QuotedReads, quoted_reads}
 use Rattle.ad_lexer.proofs.SymbolLemmas.{symbol_first, symbol_reaches, symbol_found}

@@ -1,5 +1,5 @@
 -- A text is UTF-8, or its longest front that is UTF-8 has a length.
-use Rattle.std.proofs.Common.{◌≡◌, ◌⊎◌, ℕ, zero, suc, ◌<◌, ◌≤◌, Bool, true, false, List, length, take, IsUtf8, refl, sym, ◌∙◌, subst, inl, inr, ⊎_elim, arith, take_all}
+use Rattle.std.proofs.Common.{◌≡◌, ◌⊎◌, ℕ, zero, suc, ◌<◌, ◌≤◌, false, List, length, take, IsUtf8, sym, ◌∙◌, subst, inl, inr, arith, take_all}
 use Rattle.std.proofs.lemmas.Bool.{cases_Bool, cases_lt, true≢false}
 use Rattle.std.proofs.lemmas.Str.{IsUtf8-from_is_utf8, is_utf8-from_IsUtf8, IsUtf8-nil}
 use Rattle.std.specs.Str.{IsValidUpTo, is_utf8}

@@ -1,15 +1,14 @@
 -- The word at the front of a text.
-use Rattle.std.proofs.Common.{◌≡◌, ℕ, zero, suc, ◌+◌, ◌<◌, ◌≤◌, Bool, true, false, cond, ◌&&◌, List, [], ◌∷◌, ◌++◌, length, take, drop, slice_index, refl, sym, ◌∙◌, ap, subst, inl, inr, arith}
-use Rattle.std.proofs.lemmas.Bool.{cases_Bool, and_parts, and_from, true≢false}
+use Rattle.std.proofs.Common.{◌≡◌, ℕ, zero, suc, ◌<◌, Bool, true, false, cond, List, [], ◌∷◌, ◌++◌, length, take, slice_index, refl, sym, arith}
+use Rattle.std.proofs.lemmas.Bool.{and_parts, and_from, true≢false}
 use Rattle.std.specs.List.{list_all, prefix_len}
 use Rattle.ad_lexer.specs.declared.next.Begin.TheVariants as begins
-use Rattle.ad_lexer.specs.declared.token.TokenKind.{TokenKind}
 use Rattle.ad_lexer.specs.declared.token.TokenKind.TheVariants.{Plain, Reserved}
 use Rattle.ad_lexer.specs.Spelling.{Spells}
 use Rattle.ad_lexer.specs.Words.{begins_word, is_word_byte, is_word, is_reserved}
 use Rattle.ad_lexer.specs.Reading.{begin_of}
 use Rattle.ad_lexer.proofs.Begins.{begin_is, begin_word, word_byte}
-use Rattle.ad_lexer.proofs.Runs.{run_passes, run_reaches}
+use Rattle.ad_lexer.proofs.Runs.{run_passes}
 
 -- a word of its first byte and the run of a text is a word
 word_from : (byte : ℕ) (bytes : List ℕ) (n : ℕ) → begins_word byte ≡ true → 0 < n → list_all is_word_byte (take n (byte ∷ bytes)) ≡ true → is_word (take n (byte ∷ bytes)) ≡ true

@@ -1,5 +1,4 @@
 use Rattle.std.proofs.Common.{◌≡◌, ℕ, ◌+◌, ◌-◌, List, ◌∷◌, [], ◌++◌, take, drop, length, sym, ◌∙◌, ap, subst, Err, arith, length-drop}
-use Rattle.ad_lexer.specs.declared.fault.LexFault.TheVariants as faults
 use Rattle.ad_lexer.specs.Lexeme.{Lexeme}
 use Rattle.ad_lexer.specs.Tokens.{Answers}
 use Rattle.ad_lexer.proofs.Reached.{Reached, lexeme_at, reached_blank, reached_token, reached_end, reached_fault}

@@ -1,4 +1,4 @@
-use Rattle.std.proofs.Common.{◌≡◌, ◌<◌, ℕ, List, Bool, true, false, ◌&&◌, ltb, eqb, slice_index, drop, length, ◌∙◌, sym, ap, arith}
+use Rattle.std.proofs.Common.{◌≡◌, ℕ, List, Bool, true, false, ◌&&◌, ltb, eqb, slice_index, drop, length, ◌∙◌, sym, ap, arith}
 use Rattle.std.proofs.lemmas.Bool.Decides.{nat_tests}
 use Rattle.ad_lexer.specs.Numbers.{is_hexadecimal}
 use Rattle.ad_lexer.specs.Reading.{has_value}

@@ -1,4 +1,4 @@
-use Rattle.std.proofs.Common.{◌≡◌, ℕ, ◌+◌, ◌<◌, ◌≤◌, List, length, length-drop, ◌-◌, drop, sym, ◌∙◌, ap, arith}
+use Rattle.std.proofs.Common.{◌≡◌, ℕ, ◌+◌, List, length, length-drop, ◌-◌, sym, ◌∙◌, ap, arith}
 use Rattle.ad_lexer.specs.declared.quoted.Front.TheVariants.{Close, LineEnd, Nul, Backslash}
 use Rattle.ad_lexer.specs.Reading.{quoted}
 use Rattle.ad_lexer.proofs.Turns.{quoted_stop, quoted_turn}

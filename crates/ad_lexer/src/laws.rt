@@ -1,0 +1,41 @@
+// Laws of the definitions, each on a function that does nothing.
+ghost use Rattle.std.specs.Prelude.{◌≡◌, ◌⊎◌, ◌<◌, ◌^◌, ℕ, List, slice_index};
+ghost use Rattle.ad_lexer.specs.declared.fault.LexKind.{LexKind};
+ghost use Rattle.ad_lexer.specs.declared.token.TokenKind.{TokenKind};
+ghost use Rattle.ad_lexer.specs.Alone.{Ends};
+ghost use Rattle.ad_lexer.specs.Content.{content};
+ghost use Rattle.ad_lexer.specs.Lexeme.{Lexeme};
+ghost use Rattle.ad_lexer.specs.Numbers.{value};
+ghost use Rattle.ad_lexer.specs.Quoted.{IsQuoted};
+ghost use Rattle.ad_lexer.specs.Spelling.{Spells};
+ghost use Rattle.ad_lexer.specs.Tokens.{IsToken, Tokens, Fault};
+
+/// Each text has one list of tokens or one fault, and not both.
+pub fn one_answer(text: &[u8])
+    ensures some { ((list : List Lexeme) × Tokens text.now list) ⊎ ((kind : LexKind) × (place : ℕ) × Fault text.now kind place) }
+    ensures one_list { (list other : List Lexeme) → Tokens text.now list → Tokens text.now other → list ≡ other }
+    ensures one_fault { (kind other : LexKind) (place next : ℕ) → Fault text.now kind place → Fault text.now other next → (kind ≡ other) × (place ≡ next) }
+    ensures not_both { (list : List Lexeme) (kind : LexKind) (place : ℕ) → Tokens text.now list → Fault text.now kind place → ⊥ }
+{}
+
+/// What is spelled as a token of a kind is one, whatever follows a string or a quoted name, and before a byte that
+/// doesn't go on with a word, an integer or a symbol.
+pub fn spelling_stands(spelling: &[u8], after: &[u8])
+    ensures { (kind : TokenKind) → Spells kind spelling.now → Ends kind spelling.now (slice_index after.now 0) → IsToken kind spelling.now after.now }
+{}
+
+/// Bytes spell one kind of token only.
+pub fn one_kind(spelling: &[u8])
+    ensures { (kind other : TokenKind) → Spells kind spelling.now → Spells other spelling.now → kind ≡ other }
+{}
+
+/// The text that a string or a quoted name means is the content of its bytes.
+pub fn one_content(spelling: &[u8])
+    ensures string { (text : List ℕ) → IsQuoted 34 spelling.now text → content spelling.now ≡ text }
+    ensures name { (text : List ℕ) → IsQuoted 39 spelling.now text → content spelling.now ≡ text }
+{}
+
+/// The value of an integer fits 63 bits.
+pub fn integer_fits(spelling: &[u8])
+    ensures { Spells TokenKind.Int spelling.now → value spelling.now < 2 ^ 63 }
+{}

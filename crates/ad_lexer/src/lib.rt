@@ -1,0 +1,19 @@
+//! Divides a ClassAd text into its tokens, or tells the first fault and its place.
+#![tactic(auto)]
+
+mod bytes;
+mod fault;
+mod laws;
+mod lexer;
+mod next;
+mod number;
+mod quoted;
+mod symbol;
+#[cfg(test)]
+mod tests;
+mod token;
+
+pub use fault::{LexFault, LexKind};
+pub use laws::{integer_fits, one_answer, one_content, one_kind, spelling_stands};
+pub use lexer::lex;
+pub use token::{Token, TokenKind, Tokens};

@@ -1,0 +1,6 @@
+pub mod Answers
+pub mod Grammar
+pub mod Limits
+pub mod Rules
+pub mod Shapes
+pub mod Words

@@ -1,0 +1,2 @@
+mod QuoteLemmas
+mod WordLemmas

@@ -3,5 +3,9 @@
 
 mod fault;
 mod mark;
+mod number;
+mod quoted;
+mod symbol;
+mod word;
 
 pub use fault::ParseFault;

@@ -1,2 +1,3 @@
+mod NodeLemmas
 mod QuoteLemmas
 mod WordLemmas

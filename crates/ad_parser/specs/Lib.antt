@@ -1,7 +1,10 @@
 pub mod Answers
 pub mod Grammar
+pub mod Heights
 pub mod Limits
 pub mod Meaning
+pub mod Nodes
+pub mod Parts
 pub mod Quotes
 pub mod Rules
 pub mod Shapes

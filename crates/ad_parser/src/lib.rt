@@ -2,9 +2,14 @@
 #![tactic(auto)]
 
 mod fault;
+mod joining;
+mod literal;
 mod mark;
+mod node;
 mod number;
+mod part;
 mod quoted;
+mod stop;
 mod symbol;
 mod word;
 

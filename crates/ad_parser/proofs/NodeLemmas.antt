@@ -1,0 +1,102 @@
+-- Laws of the parser's own trees.
+use Rattle.std.proofs.Common.{refl, arith, ◌≡◌, ℕ, suc, max, Bool, true, false, List, [], ◌∷◌, ◌++◌, ap, sym, ◌∙◌}
+use Rattle.std.specs.declared.boxed.Box.{Box}
+use Rattle.std.specs.declared.alloc.Global.{Global}
+use Rattle.pool_text.specs.declared.language.Lit.{Lit}
+use Rattle.pool_text.specs.declared.language.UnOp.{UnOp}
+use Rattle.pool_text.specs.declared.language.BinOp.{BinOp}
+use Rattle.ad_tree.specs.declared.tree.Scope.{Scope}
+use Rattle.ad_tree.specs.Tree.{literal, name, unary, binary, all, any, choice, select, subscript, call, list}
+use Rattle.ad_tree.specs.Tree as labels
+use Rattle.ad_tree.specs.Inline.{Inline, Inlines, Defs, shape, inner, end, next, no_defs, def, height, highest, highest_def}
+use Rattle.ad_parser.specs.declared.node.Node.{Node, fold-roll-Node}
+use Rattle.ad_parser.specs.declared.node.Node.TheVariants as nodes
+use Rattle.ad_parser.specs.declared.node.Nodes.{Nodes}
+use Rattle.ad_parser.specs.declared.node.Definitions.{Definitions}
+use Rattle.ad_parser.specs.Nodes.{inline, inlines, definitions, layer, before, pack, defined_before, pack_definitions}
+use Rattle.ad_parser.specs.Parts.{extends, joined_height}
+use Rattle.ad_parser.specs.Shapes.{leaf, over_one, over_two, over_three, followed_by, Infix, conjunction, disjunction, operator, joined}
+
+-- trees before others, one more
+pub before-push : (is : List Inline) (i : Inline) (js : Inlines) → before (is ++ i ∷ []) js ≡ before is (next i js)
+before-push [] i js = refl
+before-push (h ∷ hs) i js = ap (next h) (before-push hs i js)
+
+pub defined_before-push : (ds : List (List ℕ × Inline)) (d : List ℕ × Inline) (es : Defs) → defined_before (ds ++ d ∷ []) es ≡ defined_before ds (def d.0 d.1 es)
+defined_before-push [] d es = refl
+defined_before-push (e ∷ ds) d es = ap (def e.0 e.1) (defined_before-push ds d es)
+
+-- the last tree of a list follows the others
+pub pack-followed : (is : List Inline) (i : Inline) → pack (is ++ i ∷ []) ≡ followed_by (pack is) i
+pack-followed [] i = refl
+pack-followed (h ∷ hs) i = ap (next h) (pack-followed hs i)
+
+-- the greatest height of one tree more
+pub highest-push : (is : List Inline) (i : Inline) → highest (pack (is ++ i ∷ [])) ≡ max (highest (pack is)) (height i)
+highest-push [] i = omega arith
+highest-push (h ∷ hs) i = omega (arith, highest-push hs i)
+
+pub highest_def-push : (ds : List (List ℕ × Inline)) (d : List ℕ × Inline) → highest_def (pack_definitions (ds ++ d ∷ [])) ≡ max (highest_def (pack_definitions ds)) (height d.1)
+highest_def-push [] d = omega arith
+highest_def-push (e ∷ ds) d = omega (arith, highest_def-push ds d)
+
+followed_by-highest : (xs : Inlines) (y : Inline) → highest (followed_by xs y) ≡ max (highest xs) (height y)
+followed_by-highest end y = omega arith
+followed_by-highest (next x xs) y = omega (arith, followed_by-highest xs y)
+
+two-high : (label : labels.Label) (x y : Inline) → height (over_two label x y) ≡ suc (max (height x) (height y))
+two-high label x y = omega arith
+
+-- the height of two joined trees
+pub height-joined : (op : Infix) (x y : Inline) → height (joined op x y) ≡ joined_height (extends op x) (height x) (height y)
+height-joined conjunction (shape label xs) y =
+    elim label as (λ l. height (joined conjunction (shape l xs) y) ≡ joined_height (extends conjunction (shape l xs)) (height (shape l xs)) (height y)) [
+      all ↦ omega (arith, followed_by-highest xs y)
+      | _ ↦ omega arith
+    ]
+height-joined conjunction (inner ds) y = omega arith
+height-joined disjunction (shape label xs) y =
+    elim label as (λ l. height (joined disjunction (shape l xs) y) ≡ joined_height (extends disjunction (shape l xs)) (height (shape l xs)) (height y)) [
+      any ↦ omega (arith, followed_by-highest xs y)
+      | _ ↦ omega arith
+    ]
+height-joined disjunction (inner ds) y = omega arith
+height-joined (operator op) x y = omega arith
+
+-- ---- the spelled tree of each kind of node ----
+
+pub inline-Literal : (lit : Lit) → inline (nodes.Literal lit) ≡ leaf (literal lit)
+inline-Literal lit = ap inline (sym (nodes.rolls-Literal lit)) ∙ fold-roll-Node Inline (List ℕ × Inline) (List (List ℕ × Inline)) (List Inline) layer (λ d. (d.name, d.node)) (λ l. l.items.items) (λ l. l.items.items) _
+
+pub inline-Name : (scope : Scope) (text : List ℕ) → inline (nodes.Name scope text) ≡ leaf (name scope text)
+inline-Name scope text = ap inline (sym (nodes.rolls-Name scope text)) ∙ fold-roll-Node Inline (List ℕ × Inline) (List (List ℕ × Inline)) (List Inline) layer (λ d. (d.name, d.node)) (λ l. l.items.items) (λ l. l.items.items) _
+
+pub inline-Unary : (op : UnOp) (a : Box Node Global) → inline (nodes.Unary op a) ≡ over_one (unary op) (inline a.value)
+inline-Unary op a = ap inline (sym (nodes.rolls-Unary op a)) ∙ fold-roll-Node Inline (List ℕ × Inline) (List (List ℕ × Inline)) (List Inline) layer (λ d. (d.name, d.node)) (λ l. l.items.items) (λ l. l.items.items) _
+
+pub inline-Binary : (op : BinOp) (a b : Box Node Global) → inline (nodes.Binary op a b) ≡ over_two (binary op) (inline a.value) (inline b.value)
+inline-Binary op a b = ap inline (sym (nodes.rolls-Binary op a b)) ∙ fold-roll-Node Inline (List ℕ × Inline) (List (List ℕ × Inline)) (List Inline) layer (λ d. (d.name, d.node)) (λ l. l.items.items) (λ l. l.items.items) _
+
+pub inline-And : (items : Nodes) → inline (nodes.And items) ≡ shape all (pack (inlines items))
+inline-And items = ap inline (sym (nodes.rolls-And items)) ∙ fold-roll-Node Inline (List ℕ × Inline) (List (List ℕ × Inline)) (List Inline) layer (λ d. (d.name, d.node)) (λ l. l.items.items) (λ l. l.items.items) _
+
+pub inline-Or : (items : Nodes) → inline (nodes.Or items) ≡ shape any (pack (inlines items))
+inline-Or items = ap inline (sym (nodes.rolls-Or items)) ∙ fold-roll-Node Inline (List ℕ × Inline) (List (List ℕ × Inline)) (List Inline) layer (λ d. (d.name, d.node)) (λ l. l.items.items) (λ l. l.items.items) _
+
+pub inline-Choice : (a b c : Box Node Global) → inline (nodes.Choice a b c) ≡ over_three choice (inline a.value) (inline b.value) (inline c.value)
+inline-Choice a b c = ap inline (sym (nodes.rolls-Choice a b c)) ∙ fold-roll-Node Inline (List ℕ × Inline) (List (List ℕ × Inline)) (List Inline) layer (λ d. (d.name, d.node)) (λ l. l.items.items) (λ l. l.items.items) _
+
+pub inline-Select : (a : Box Node Global) (text : List ℕ) → inline (nodes.Select a text) ≡ over_one (select text) (inline a.value)
+inline-Select a text = ap inline (sym (nodes.rolls-Select a text)) ∙ fold-roll-Node Inline (List ℕ × Inline) (List (List ℕ × Inline)) (List Inline) layer (λ d. (d.name, d.node)) (λ l. l.items.items) (λ l. l.items.items) _
+
+pub inline-Subscript : (a b : Box Node Global) → inline (nodes.Subscript a b) ≡ over_two subscript (inline a.value) (inline b.value)
+inline-Subscript a b = ap inline (sym (nodes.rolls-Subscript a b)) ∙ fold-roll-Node Inline (List ℕ × Inline) (List (List ℕ × Inline)) (List Inline) layer (λ d. (d.name, d.node)) (λ l. l.items.items) (λ l. l.items.items) _
+
+pub inline-Call : (text : List ℕ) (items : Nodes) → inline (nodes.Call text items) ≡ shape (call text) (pack (inlines items))
+inline-Call text items = ap inline (sym (nodes.rolls-Call text items)) ∙ fold-roll-Node Inline (List ℕ × Inline) (List (List ℕ × Inline)) (List Inline) layer (λ d. (d.name, d.node)) (λ l. l.items.items) (λ l. l.items.items) _
+
+pub inline-List : (items : Nodes) → inline (nodes.List items) ≡ shape list (pack (inlines items))
+inline-List items = ap inline (sym (nodes.rolls-List items)) ∙ fold-roll-Node Inline (List ℕ × Inline) (List (List ℕ × Inline)) (List Inline) layer (λ d. (d.name, d.node)) (λ l. l.items.items) (λ l. l.items.items) _
+
+pub inline-Ad : (items : Definitions) → inline (nodes.Ad items) ≡ inner (pack_definitions (definitions items))
+inline-Ad items = ap inline (sym (nodes.rolls-Ad items)) ∙ fold-roll-Node Inline (List ℕ × Inline) (List (List ℕ × Inline)) (List Inline) layer (λ d. (d.name, d.node)) (λ l. l.items.items) (λ l. l.items.items) _

@@ -1,0 +1,55 @@
+-- What contracts see of the parser's own trees.
+use Rattle.std.specs.Prelude.{ℕ, List, [], ◌∷◌}
+use Rattle.ad_tree.specs.Tree.{literal, name, unary, binary, all, any, choice, select, subscript, call, list}
+use Rattle.ad_tree.specs.Inline.{Inline, Inlines, Defs, shape, inner, end, next, no_defs, def}
+use Rattle.ad_parser.specs.declared.node.Node.{Node}
+use Rattle.ad_parser.specs.declared.node.Node.TheOpen.{Node-F}
+use Rattle.ad_parser.specs.declared.node.Node.TheFolds.{fold-Node}
+use Rattle.ad_parser.specs.declared.node.Nodes.{Nodes, fold-Nodes}
+use Rattle.ad_parser.specs.declared.node.Definitions.{Definitions, fold-Definitions}
+use Rattle.ad_parser.specs.Shapes.{leaf, over_one, over_two, over_three}
+
+-- trees in front of others
+abbrev pub before : List Inline → Inlines → Inlines
+before [] js = js
+before (i ∷ is) js = next i (before is js)
+
+-- the trees of a list
+abbrev pub pack : List Inline → Inlines
+pack is = before is end
+
+-- definitions in front of others
+abbrev pub defined_before : List (List ℕ × Inline) → Defs → Defs
+defined_before [] es = es
+defined_before (d ∷ ds) es = def d.0 d.1 (defined_before ds es)
+
+-- the definitions of a list
+abbrev pub pack_definitions : List (List ℕ × Inline) → Defs
+pack_definitions ds = defined_before ds no_defs
+
+-- one layer of a tree, with a spelled tree in each place below it
+abbrev pub layer : Node-F Inline (List ℕ × Inline) (List (List ℕ × Inline)) (List Inline) → Inline
+layer (Node-F.Literal lit) = leaf (literal lit)
+layer (Node-F.Name scope text) = leaf (name scope text)
+layer (Node-F.Unary op a) = over_one (unary op) a.value
+layer (Node-F.Binary op a b) = over_two (binary op) a.value b.value
+layer (Node-F.And is) = shape all (pack is)
+layer (Node-F.Or is) = shape any (pack is)
+layer (Node-F.Choice a b c) = over_three choice a.value b.value c.value
+layer (Node-F.Select a text) = over_one (select text) a.value
+layer (Node-F.Subscript a b) = over_two subscript a.value b.value
+layer (Node-F.Call text is) = shape (call text) (pack is)
+layer (Node-F.List is) = shape list (pack is)
+layer (Node-F.Ad ds) = inner (pack_definitions ds)
+
+-- the spelled tree of a node
+abbrev pub inline : Node → Inline
+inline = fold-Node Inline (List ℕ × Inline) (List (List ℕ × Inline)) (List Inline) layer (λ d. (d.name, d.node)) (λ l. l.items.items) (λ l. l.items.items)
+
+-- the spelled trees of nodes
+abbrev pub inlines : Nodes → List Inline
+inlines = fold-Nodes Inline (List ℕ × Inline) (List (List ℕ × Inline)) (List Inline) layer (λ d. (d.name, d.node)) (λ l. l.items.items) (λ l. l.items.items)
+
+-- names with the spelled trees of their definitions
+abbrev pub definitions : Definitions → List (List ℕ × Inline)
+definitions = fold-Definitions Inline (List ℕ × Inline) (List (List ℕ × Inline)) (List Inline) layer (λ d. (d.name, d.node)) (λ l. l.items.items) (λ l. l.items.items)

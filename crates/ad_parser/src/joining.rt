@@ -1,0 +1,274 @@
+// Parts of a tree are made of parts.
+ghost use Rattle.std.specs.Prelude.{◌≡◌, [], ◌≤◌, Some, None, IfOk};
+ghost use Rattle.ad_tree.specs.Inline.{height, end, no_defs};
+ghost use Rattle.ad_tree.specs.Tree as labels;
+ghost use Rattle.ad_parser.specs.Limits.{height_limit};
+ghost use Rattle.ad_parser.specs.Nodes.{inline};
+ghost use Rattle.ad_parser.specs.Parts.{part, parts, definition_parts, as_infix, cut_last, cut_last_def, cut_before, cut_defined_before, extends, joined_height};
+ghost use Rattle.ad_parser.specs.Rules.{cut, cut_one, cut_two, cut_three, cut_shape, cut_ad};
+ghost use Rattle.ad_parser.specs.Shapes as shapes;
+
+use crate::node::{Definitions, Node, Nodes};
+use crate::part::{DefinitionParts, HEIGHT_LIMIT, Part, Parts};
+use pool_text::{BinOp, OutOfMemory, Text, UnOp};
+use std::alloc::Global;
+
+/// An operator between two operands.
+#[derive(Clone, Copy, Debug)]
+pub enum Joint {
+    Conjunction,
+    Disjunction,
+    Operator(BinOp),
+}
+
+/// The tree, where it isn't too high.
+pub fn cut(node: Node, height: u32) -> Part
+    requires { height (inline node) ≡ height }
+    ensures { part result ≡ cut height_limit (inline node) }
+{
+    if height <= HEIGHT_LIMIT {
+        Part {
+            node: Some(node),
+            height,
+        }
+    } else {
+        nothing()
+    }
+}
+
+pub fn nothing() -> Part
+    ensures { part result ≡ None }
+{
+    Part {
+        node: None,
+        height: 0,
+    }
+}
+
+pub fn leaf(node: Node) -> Part
+    requires { height (inline node) ≡ 1 }
+    ensures { part result ≡ Some (inline node) }
+{
+    Part {
+        node: Some(node),
+        height: 1,
+    }
+}
+
+/// An operator before an operand.
+pub fn unary(alloc: Global, op: UnOp, operand: Part) -> Result<Part, OutOfMemory>
+    ensures { IfOk result (λ p. part p ≡ cut_one height_limit (shapes.over_one (labels.unary op)) (part operand)) }
+{
+    let Part { node, height } = operand;
+    match node {
+        Some(node) => Ok(cut(Node::Unary(op, Box::new(alloc, node)?), height + 1)),
+        None => Ok(nothing()),
+    }
+}
+
+/// A name behind a dot.
+pub fn selection(alloc: Global, base: Part, name: Text) -> Result<Part, OutOfMemory>
+    ensures { IfOk result (λ p. part p ≡ cut_one height_limit (shapes.over_one (labels.select name)) (part base)) }
+{
+    let Part { node, height } = base;
+    match node {
+        Some(node) => Ok(cut(Node::Select(Box::new(alloc, node)?, name), height + 1)),
+        None => Ok(nothing()),
+    }
+}
+
+/// A place in brackets.
+pub fn subscript(alloc: Global, base: Part, place: Part) -> Result<Part, OutOfMemory>
+    ensures { IfOk result (λ p. part p ≡ cut_two height_limit (shapes.over_two labels.subscript) (part base) (part place)) }
+{
+    let height = base.height.max(place.height) + 1;
+    match (base.node, place.node) {
+        (Some(a), Some(b)) => {
+            let node = Node::Subscript(Box::new(alloc, a)?, Box::new(alloc, b)?);
+            Ok(cut(node, height))
+        }
+        _ => Ok(nothing()),
+    }
+}
+
+/// A conditional.
+pub fn choice(alloc: Global, condition: Part, first: Part, second: Part) -> Result<Part, OutOfMemory>
+    ensures { IfOk result (λ p. part p
+        ≡ cut_three height_limit (shapes.over_three labels.choice) (part condition) (part first) (part second)) }
+{
+    let height = condition.height.max(first.height.max(second.height)) + 1;
+    match (condition.node, first.node, second.node) {
+        (Some(a), Some(b), Some(c)) => {
+            let node = Node::Choice(Box::new(alloc, a)?, Box::new(alloc, b)?, Box::new(alloc, c)?);
+            Ok(cut(node, height))
+        }
+        _ => Ok(nothing()),
+    }
+}
+
+/// An operator between two operands. A chain of `&&` is one node, to which an operand on the right is added, and so with
+/// `||`.
+pub fn join(alloc: Global, joint: Joint, left: Part, right: Part) -> Result<Part, OutOfMemory>
+    ensures { IfOk result (λ p. part p ≡ cut_two height_limit (shapes.joined (as_infix joint)) (part left) (part right)) }
+{
+    match (left.node, right.node) {
+        (Some(a), Some(b)) => {
+            let height = joined_height(extends(joint, &a), left.height, right.height);
+            Ok(cut(join_nodes(alloc, joint, a, b)?, height))
+        }
+        _ => Ok(nothing()),
+    }
+}
+
+fn joined_height(extends: bool, left: u32, right: u32) -> u32
+    requires left { left ≤ height_limit }
+    requires right { right ≤ height_limit }
+    ensures { result ≡ joined_height extends left right }
+{
+    if extends {
+        left.max(right + 1)
+    } else {
+        left.max(right) + 1
+    }
+}
+
+fn extends(joint: Joint, node: &Node) -> bool
+    ensures { result ≡ extends (as_infix joint) (inline node.now) }
+{
+    match (joint, node) {
+        (Joint::Conjunction, Node::And(_)) => true,
+        (Joint::Disjunction, Node::Or(_)) => true,
+        _ => false,
+    }
+}
+
+fn join_nodes(alloc: Global, joint: Joint, left: Node, right: Node) -> Result<Node, OutOfMemory>
+    ensures { IfOk result (λ node. inline node ≡ shapes.joined (as_infix joint) (inline left) (inline right)) }
+{
+    match joint {
+        Joint::Conjunction => conjunction(alloc, left, right),
+        Joint::Disjunction => disjunction(alloc, left, right),
+        Joint::Operator(op) => Ok(Node::Binary(
+            op,
+            Box::new(alloc, left)?,
+            Box::new(alloc, right)?,
+        )),
+    }
+}
+
+fn conjunction(alloc: Global, left: Node, right: Node) -> Result<Node, OutOfMemory>
+    ensures { IfOk result (λ node. inline node ≡ shapes.joined shapes.conjunction (inline left) (inline right)) }
+{
+    match left {
+        Node::And(mut nodes) => {
+            nodes.push(right)?;
+            Ok(Node::And(nodes))
+        }
+        first => Ok(Node::And(Nodes::pair(alloc, first, right)?)),
+    }
+}
+
+fn disjunction(alloc: Global, left: Node, right: Node) -> Result<Node, OutOfMemory>
+    ensures { IfOk result (λ node. inline node ≡ shapes.joined shapes.disjunction (inline left) (inline right)) }
+{
+    match left {
+        Node::Or(mut nodes) => {
+            nodes.push(right)?;
+            Ok(Node::Or(nodes))
+        }
+        first => Ok(Node::Or(Nodes::pair(alloc, first, right)?)),
+    }
+}
+
+/// No trees.
+pub fn no_parts(alloc: Global) -> Parts
+    ensures { parts result ≡ Some [] }
+{
+    Parts {
+        nodes: Some(Nodes::new(alloc)),
+        highest: 0,
+    }
+}
+
+/// One tree more.
+pub fn add_part(list: Parts, last: Part) -> Result<Parts, OutOfMemory>
+    ensures { IfOk result (λ p. parts p ≡ cut_last (parts list) (part last)) }
+{
+    let highest = list.highest.max(last.height);
+    match (list.nodes, last.node) {
+        (Some(mut nodes), Some(node)) => {
+            nodes.push(node)?;
+            Ok(Parts {
+                nodes: Some(nodes),
+                highest,
+            })
+        }
+        _ => Ok(Parts {
+            nodes: None,
+            highest: 0,
+        }),
+    }
+}
+
+/// A call with its arguments.
+pub fn call(name: Text, arguments: Parts) -> Part
+    ensures { part result ≡ cut_shape height_limit (labels.call name) (cut_before (parts arguments) (Some end)) }
+{
+    let Parts { nodes, highest } = arguments;
+    match nodes {
+        Some(nodes) => cut(Node::Call(name, nodes), highest + 1),
+        None => nothing(),
+    }
+}
+
+/// A list of its elements.
+pub fn list(elements: Parts) -> Part
+    ensures { part result ≡ cut_shape height_limit labels.list (cut_before (parts elements) (Some end)) }
+{
+    let Parts { nodes, highest } = elements;
+    match nodes {
+        Some(nodes) => cut(Node::List(nodes), highest + 1),
+        None => nothing(),
+    }
+}
+
+/// No definitions.
+pub fn no_definitions(alloc: Global) -> DefinitionParts
+    ensures { definition_parts result ≡ Some [] }
+{
+    DefinitionParts {
+        definitions: Some(Definitions::new(alloc)),
+        highest: 0,
+    }
+}
+
+/// One definition more.
+pub fn add_definition(list: DefinitionParts, name: Text, last: Part) -> Result<DefinitionParts, OutOfMemory>
+    ensures { IfOk result (λ p. definition_parts p ≡ cut_last_def (definition_parts list) name (part last)) }
+{
+    let highest = list.highest.max(last.height);
+    match (list.definitions, last.node) {
+        (Some(mut definitions), Some(node)) => {
+            definitions.push(name, node)?;
+            Ok(DefinitionParts {
+                definitions: Some(definitions),
+                highest,
+            })
+        }
+        _ => Ok(DefinitionParts {
+            definitions: None,
+            highest: 0,
+        }),
+    }
+}
+
+/// An ad with its definitions.
+pub fn ad(list: DefinitionParts) -> Part
+    ensures { part result ≡ cut_ad height_limit (cut_defined_before (definition_parts list) (Some no_defs)) }
+{
+    let DefinitionParts { definitions, highest } = list;
+    match definitions {
+        Some(definitions) => cut(Node::Ad(definitions), highest + 1),
+        None => nothing(),
+    }
+}

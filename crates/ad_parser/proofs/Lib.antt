@@ -1,3 +1,4 @@
 mod NodeLemmas
 mod QuoteLemmas
+mod ReaderLemmas
 mod WordLemmas

@@ -1,4 +1,5 @@
 pub mod Answers
+pub mod Chains
 pub mod Grammar
 pub mod Heights
 pub mod Limits
@@ -8,4 +9,5 @@ pub mod Parts
 pub mod Quotes
 pub mod Rules
 pub mod Shapes
+pub mod Steps
 pub mod Words

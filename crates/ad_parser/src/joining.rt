@@ -1,7 +1,8 @@
 // Parts of a tree are made of parts.
 ghost use Rattle.std.specs.Prelude.{◌≡◌, [], ◌≤◌, Some, None, IfOk};
-ghost use Rattle.ad_tree.specs.Inline.{height, end, no_defs};
+ghost use Rattle.ad_tree.specs.Inline.{end, no_defs};
 ghost use Rattle.ad_tree.specs.Tree as labels;
+ghost use Rattle.ad_parser.specs.Heights.{node_height};
 ghost use Rattle.ad_parser.specs.Limits.{height_limit};
 ghost use Rattle.ad_parser.specs.Nodes.{inline};
 ghost use Rattle.ad_parser.specs.Parts.{part, parts, definition_parts, as_infix, cut_last, cut_last_def, cut_before, cut_defined_before, extends, joined_height};
@@ -23,7 +24,7 @@ pub enum Joint {
 
 /// The tree, where it isn't too high.
 pub fn cut(node: Node, height: u32) -> Part
-    requires { height (inline node) ≡ height }
+    requires { node_height node ≡ height }
     ensures { part result ≡ cut height_limit (inline node) }
 {
     if height <= HEIGHT_LIMIT {
@@ -46,7 +47,7 @@ pub fn nothing() -> Part
 }
 
 pub fn leaf(node: Node) -> Part
-    requires { height (inline node) ≡ 1 }
+    requires { node_height node ≡ 1 }
     ensures { part result ≡ Some (inline node) }
 {
     Part {

@@ -1,0 +1,48 @@
+// The tables of operators.
+ghost use Rattle.std.specs.Prelude.{◌≡◌, option_map};
+ghost use Rattle.ad_parser.specs.Parts.{as_infix};
+ghost use Rattle.ad_parser.specs.Shapes.{infix_of, looseness, prefix_of};
+
+use crate::joining::Joint;
+use crate::mark::Mark;
+use pool_text::{BinOp, UnOp};
+
+/// The operator that a mark is between two operands, and how loosely it binds.
+pub fn joint_of(mark: Mark) -> Option<(usize, Joint)>
+    ensures { option_map (λ r. (r.0, as_infix r.1)) result ≡ infix_of mark }
+{
+    match mark {
+        Mark::Binary(op) => Some((looseness(op), Joint::Operator(op))),
+        Mark::And => Some((9, Joint::Conjunction)),
+        Mark::Or => Some((10, Joint::Disjunction)),
+        _ => None,
+    }
+}
+
+fn looseness(op: BinOp) -> usize
+    ensures { result ≡ looseness op }
+{
+    match op {
+        BinOp::Mul | BinOp::Div | BinOp::Rem => 1,
+        BinOp::Add | BinOp::Sub => 2,
+        BinOp::ShiftLeft | BinOp::ShiftRight | BinOp::ShiftZero => 3,
+        BinOp::Less | BinOp::AtMost | BinOp::Greater | BinOp::AtLeast => 4,
+        BinOp::Equal | BinOp::Unequal | BinOp::Same | BinOp::NotSame => 5,
+        BinOp::BitAnd => 6,
+        BinOp::BitXor => 7,
+        BinOp::BitOr => 8,
+    }
+}
+
+/// The operator that a mark is before one operand.
+pub fn prefix_of(mark: Mark) -> Option<UnOp>
+    ensures { result ≡ prefix_of mark }
+{
+    match mark {
+        Mark::Binary(BinOp::Add) => Some(UnOp::Plus),
+        Mark::Binary(BinOp::Sub) => Some(UnOp::Minus),
+        Mark::Not => Some(UnOp::Not),
+        Mark::Complement => Some(UnOp::Complement),
+        _ => None,
+    }
+}

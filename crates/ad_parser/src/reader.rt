@@ -1,0 +1,150 @@
+// The parser's place in its words.
+ghost use Rattle.std.specs.Prelude.{◌≤◌, length};
+
+use crate::joining::Joint;
+use crate::mark::Mark;
+use crate::operators::{joint_of, prefix_of};
+use crate::stop::Stop;
+use crate::word::Word;
+use pool_text::{Text, UnOp};
+use std::alloc::Global;
+
+/// The words of a text from a place on.
+#[derive(Debug)]
+pub struct Reader<'a> {
+    words: &'a [Word<'a>],
+    at: usize,
+    ghost within: { at ≤ length words.now },
+}
+
+impl<'a> Reader<'a> {
+    ghost use Rattle.std.specs.Prelude.{◌≡◌, ◌∷◌, ℕ, List, drop, length, map, option_map, Some, None, Ok, Err};
+    ghost use Rattle.std.specs.Bool.{Decides};
+    ghost use Rattle.ad_parser.specs.Meaning.{meaning};
+    ghost use Rattle.ad_parser.specs.Parts.{as_infix};
+    ghost use Rattle.ad_parser.specs.Rules.{name_at, infix_at};
+    ghost use Rattle.ad_parser.specs.Steps.{left, front, front_mark, prefix_at, Takes, Gives, Finds, Continues};
+    ghost use Rattle.ad_parser.specs.Words.{Word as MeantWord, mark as mark_word};
+    ghost use Rattle.ad_parser.specs.declared.stop.Stop.TheVariants as stops;
+
+    /// The place in front of the first word.
+    pub fn new(words: &'a [Word<'a>]) -> Reader<'a>
+        ensures { left result ≡ map meaning words.now }
+    {
+        Reader { words, at: 0 }
+    }
+
+    /// How many words are left.
+    pub fn count(&self) -> usize
+        ensures { result ≡ length (left self.now) }
+    {
+        self.words.len() - self.at
+    }
+
+    pub fn peek(&self) -> Option<&'a Word<'a>>
+        ensures { option_map (λ w. meaning w.now) result ≡ front (left self.now) }
+    {
+        self.words.get(self.at)
+    }
+
+    pub fn skip(&mut self)
+        ensures { left self.new ≡ drop 1 (left self.old) }
+    {
+        if self.at < self.words.len() {
+            self.at += 1;
+        }
+    }
+
+    /// The next word, where it is a mark.
+    pub fn mark(&self) -> Option<Mark>
+        ensures { result ≡ front_mark (left self.now) }
+    {
+        match self.peek() {
+            Some(Word::Mark(mark)) => Some(*mark),
+            _ => None,
+        }
+    }
+
+    fn sees(&self, mark: Mark) -> bool
+        ensures { Decides result (front_mark (left self.now) ≡ Some mark) }
+    {
+        match self.mark() {
+            Some(front) => front == mark,
+            None => false,
+        }
+    }
+
+    /// Takes the mark, where it stands next.
+    pub fn takes(&mut self, mark: Mark) -> bool
+        ensures { Takes mark (left self.old) (left self.new) result }
+    {
+        if !self.sees(mark) {
+            return false;
+        }
+        self.skip();
+        true
+    }
+
+    /// Takes the mark, which is to stand next.
+    pub fn expect(&mut self, mark: Mark) -> Result<(), Stop>
+        ensures ok { (done : Unit {0}) → result ≡ Ok done → left self.old ≡ mark_word mark ∷ left self.new }
+        ensures none { result ≡ Err stops.Grammar → (rest : List MeantWord) → left self.old ≡ mark_word mark ∷ rest → ⊥ }
+    {
+        if self.takes(mark) {
+            Ok(())
+        } else {
+            Err(Stop::Grammar)
+        }
+    }
+
+    /// Takes a name.
+    pub fn name(&mut self, alloc: Global) -> Result<Text, Stop>
+        ensures { Gives (λ (t : List ℕ). t) (name_at (left self.old)) result (left self.new) }
+    {
+        match self.peek() {
+            Some(Word::Plain(text)) => {
+                self.skip();
+                Ok(Text::from_bytes(alloc, text)?)
+            }
+            Some(Word::Quoted(text)) => {
+                self.skip();
+                Ok(text.copy()?)
+            }
+            _ => Err(Stop::Grammar),
+        }
+    }
+
+    /// Takes an operator that binds so loosely between two operands.
+    pub fn joint(&mut self, looseness: usize) -> Option<Joint>
+        ensures { Finds as_infix (infix_at looseness (left self.old)) result (left self.old) (left self.new) }
+    {
+        let mark = self.mark()?;
+        let (found, joint) = joint_of(mark)?;
+        if found != looseness {
+            return None;
+        }
+        self.skip();
+        Some(joint)
+    }
+
+    /// Takes an operator before an operand.
+    pub fn prefix(&mut self) -> Option<UnOp>
+        ensures { Finds (λ (op : UnOp). op) (prefix_at (left self.old)) result (left self.old) (left self.new) }
+    {
+        let mark = self.mark()?;
+        let op = prefix_of(mark)?;
+        self.skip();
+        Some(op)
+    }
+
+    /// Whether another definition stands behind one, with the marks between or behind them taken.
+    pub fn goes_on(&mut self) -> Result<bool, Stop>
+        ensures { Continues (left self.old) (left self.new) result }
+    {
+        if self.takes(Mark::CloseBracket) {
+            return Ok(false);
+        }
+        self.expect(Mark::Semicolon)?;
+        Ok(!self.takes(Mark::CloseBracket))
+    }
+}

@@ -1,3 +1,4 @@
+mod ChainLemmas
 mod NodeLemmas
 mod QuoteLemmas
 mod ReaderLemmas

@@ -1,5 +1,5 @@
 -- Laws of the parser's own trees.
-use Rattle.std.proofs.Common.{refl, arith, ◌≡◌, ℕ, suc, max, Bool, true, false, List, [], ◌∷◌, ◌++◌, ap, sym, ◌∙◌}
+use Rattle.std.proofs.Common.{refl, arith, ◌≡◌, ℕ, suc, max, Bool, true, false, List, [], ◌∷◌, ◌++◌, Option, None, Some, ap, sym, ◌∙◌}
 use Rattle.std.specs.declared.boxed.Box.{Box}
 use Rattle.std.specs.declared.alloc.Global.{Global}
 use Rattle.pool_text.specs.declared.language.Lit.{Lit}
@@ -14,7 +14,9 @@ use Rattle.ad_parser.specs.declared.node.Node.TheVariants as nodes
 use Rattle.ad_parser.specs.declared.node.Nodes.{Nodes}
 use Rattle.ad_parser.specs.declared.node.Definitions.{Definitions}
 use Rattle.ad_parser.specs.Nodes.{inline, inlines, definitions, layer, before, pack, defined_before, pack_definitions}
+use Rattle.ad_parser.specs.Limits.{height_limit}
 use Rattle.ad_parser.specs.Parts.{extends, joined_height}
+use Rattle.ad_parser.specs.Rules.{cut_one, cut_two, cut_three}
 use Rattle.ad_parser.specs.Shapes.{leaf, over_one, over_two, over_three, followed_by, Infix, conjunction, disjunction, operator, joined}
 
 -- trees before others, one more
@@ -100,3 +102,17 @@ inline-List items = ap inline (sym (nodes.rolls-List items)) ∙ fold-roll-Node 
 
 pub inline-Ad : (items : Definitions) → inline (nodes.Ad items) ≡ inner (pack_definitions (definitions items))
 inline-Ad items = ap inline (sym (nodes.rolls-Ad items)) ∙ fold-roll-Node Inline (List ℕ × Inline) (List (List ℕ × Inline)) (List Inline) layer (λ d. (d.name, d.node)) (λ l. l.items.items) (λ l. l.items.items) _
+
+-- ---- nothing is made of nothing ----
+
+pub none-two : (f : Inline → Inline → Inline) (x y : Option Inline) → y ≡ None → cut_two height_limit f x y ≡ None
+none-two f None y h = refl
+none-two f (Some a) y h = ap (cut_one height_limit (f a)) h
+
+pub none-three : (f : Inline → Inline → Inline → Inline) (x y z : Option Inline) → z ≡ None → cut_three height_limit f x y z ≡ None
+none-three f None y z h = refl
+none-three f (Some a) y z h = none-two (f a) y z h
+
+pub none-middle : (f : Inline → Inline → Inline → Inline) (x y z : Option Inline) → y ≡ None → cut_three height_limit f x y z ≡ None
+none-middle f None y z h = refl
+none-middle f (Some a) y z h = ap (λ o. cut_two height_limit (f a) o z) h

@@ -50,3 +50,44 @@ decreases-definitions l = 40 * l.fuel + 6
 
 abbrev pub decreases-some_definitions : goal.decreases-some_definitions
 decreases-some_definitions l = 40 * l.fuel + 5
+
+abbrev pub invariant-conditionals-loop-turns : goal.invariant-conditionals-loop-turns
+invariant-conditionals-loop-turns l =
+    rules.conditionals height_limit (rules.expression height_limit l.fuel) (suc (length (left l.initial.reader))) (left l.initial.reader)
+    ≡ choices (map held l.choices.items) (rules.conditionals height_limit (rules.expression height_limit l.fuel) l.turns (left l.reader))
+
+abbrev pub decreases-conditionals-loop-turns : goal.decreases-conditionals-loop-turns
+decreases-conditionals-loop-turns l = l.turns
+
+abbrev pub invariant-operations-loop-turns : goal.invariant-operations-loop-turns
+invariant-operations-loop-turns l =
+    rules.operations height_limit (rules.level_at height_limit (rules.expression height_limit l.fuel) (l.looseness - 1)) l.looseness
+    (length (left l.initial.reader)) (part l.initial.operand) (left l.initial.reader)
+    ≡ rules.operations height_limit (rules.level_at height_limit (rules.expression height_limit l.fuel) (l.looseness - 1)) l.looseness l.turns (part l.operand) (left l.reader)
+
+abbrev pub decreases-operations-loop-turns : goal.decreases-operations-loop-turns
+decreases-operations-loop-turns l = l.turns
+
+abbrev pub invariant-suffixes-loop-turns : goal.invariant-suffixes-loop-turns
+invariant-suffixes-loop-turns l =
+    rules.suffixes height_limit (rules.expression height_limit l.fuel) (length (left l.initial.reader)) (part l.initial.operand) (left l.initial.reader)
+    ≡ rules.suffixes height_limit (rules.expression height_limit l.fuel) l.turns (part l.operand) (left l.reader)
+
+abbrev pub decreases-suffixes-loop-turns : goal.decreases-suffixes-loop-turns
+decreases-suffixes-loop-turns l = l.turns
+
+abbrev pub invariant-several-loop-turns : goal.invariant-several-loop-turns
+invariant-several-loop-turns l =
+    rules.several (rules.expression height_limit l.fuel) (length (left l.initial.reader)) (left l.initial.reader)
+    ≡ collected (parts l.list) (rules.several (rules.expression height_limit l.fuel) l.turns (left l.reader))
+
+abbrev pub decreases-several-loop-turns : goal.decreases-several-loop-turns
+decreases-several-loop-turns l = l.turns
+
+abbrev pub invariant-some_definitions-loop-turns : goal.invariant-some_definitions-loop-turns
+invariant-some_definitions-loop-turns l =
+    rules.definitions_at (rules.expression height_limit l.fuel) (length (left l.initial.reader)) (left l.initial.reader)
+    ≡ collected_definitions (definition_parts l.list) (rules.definitions_at (rules.expression height_limit l.fuel) l.turns (left l.reader))
+
+abbrev pub decreases-some_definitions-loop-turns : goal.decreases-some_definitions-loop-turns
+decreases-some_definitions-loop-turns l = l.turns

@@ -1,0 +1,17 @@
+use Rattle.std.proofs.Common.{refl, arith, ap, sym, ◌∙◌}
+use Rattle.ad_parser.specs.Limits.{height_limit}
+use Rattle.ad_parser.specs.Rules.{prefixes}
+use Rattle.ad_parser.specs.Steps.{left, wrapped}
+use Rattle.ad_parser.proofs.ChainLemmas.{prefixes-turn, prefix-shorter}
+use Rattle.ad_parser.proofs.chains.read_operators.Goals as goal
+
+pub loop-turns-preserved : goal.loop-turns-preserved
+loop-turns-preserved c =
+    let found = c.in-Some.ensures.some c.in-Some.operator refl in
+    record {
+      read = λ e.
+          c.loop-turns.invariant.read e
+          ∙ prefixes-turn e c.loop-turns.operators.items c.in-Some.operator (left c.loop-turns.reader) (left c.prefix.new.self) found
+          ∙ ap (λ ops. wrapped ops (prefixes height_limit e (left c.prefix.new.self))) (sym c.in_ok-push.ensures.items);
+      count = omega (arith, c.loop-turns.invariant.count, prefix-shorter (left c.loop-turns.reader) (left c.prefix.new.self) c.in-Some.operator found);
+    }

@@ -26,12 +26,20 @@ wrapped-push : (ops : List UnOp) (op : UnOp) (r : Reading (Option Inline)) → w
 wrapped-push ops op None = refl
 wrapped-push ops op (Some read) = ap (λ x. Some (x, read.1)) (sym (applied-push ops op read.0))
 
-prefix_cases : (limit : ℕ) (e : Rule) (w : Word) (ws : List Word) (found : Option UnOp) (op : UnOp) (rest : List Word) → option_map (λ o. (o, ws)) found ≡ Some (op, rest)
+abbrev first_of_read : UnOp → Option (UnOp × List Word) → UnOp
+first_of_read op None = op
+first_of_read op (Some read) = read.0
+
+abbrev rest_of_read : List Word → Option (UnOp × List Word) → List Word
+rest_of_read ws None = ws
+rest_of_read ws (Some read) = read.1
+
+prefix_cases : (limit : ℕ) (e : Rule) (w : Word) (ws : List Word) (found : Option UnOp) (op : UnOp) (rest : List Word) → option_map {U = UnOp × List Word} (λ o. (o, ws)) found ≡ Some (op, rest)
     → prefixed_or limit found (prefixes limit e ws) (postfix limit e (w ∷ ws)) ≡ and_then (prefixes limit e rest) (λ x behind. Some (cut_one limit (over_one (unary op)) x, behind))
 prefix_cases limit e w ws None op rest h = absurd (cc)
 prefix_cases limit e w ws (Some o) op rest h =
-    let same : o ≡ op = cc in
-    let behind : ws ≡ rest = cc in
+    let same : o ≡ op = ap (λ (r : Option (UnOp × List Word)). first_of_read o r) h in
+    let behind : ws ≡ rest = ap (λ (r : Option (UnOp × List Word)). rest_of_read ws r) h in
     ap (λ p. and_then (prefixes limit e ws) (λ x more. Some (cut_one limit (over_one (unary p)) x, more))) same
     ∙ ap (λ us. and_then (prefixes limit e us) (λ x more. Some (cut_one limit (over_one (unary op)) x, more))) behind
 
@@ -41,7 +49,7 @@ pub prefixes-turn : (e : Rule) (ops : List UnOp) (op : UnOp) (old new : List Wor
 prefixes-turn e ops op [] new h = absurd (cc)
 prefixes-turn e ops op (w ∷ ws) new h = ap (wrapped ops) (prefix_cases height_limit e w ws (prefix_word w) op new h) ∙ wrapped-push ops op (prefixes height_limit e new)
 
-prefix_none : (limit : ℕ) (e : Rule) (w : Word) (ws : List Word) (found : Option UnOp) → option_map (λ o. (o, ws)) found ≡ None
+prefix_none : (limit : ℕ) (e : Rule) (w : Word) (ws : List Word) (found : Option UnOp) → option_map {U = UnOp × List Word} (λ o. (o, ws)) found ≡ None
     → prefixed_or limit found (prefixes limit e ws) (postfix limit e (w ∷ ws)) ≡ postfix limit e (w ∷ ws)
 prefix_none limit e w ws None h = refl
 prefix_none limit e w ws (Some o) h = absurd (cc)
@@ -55,9 +63,9 @@ pub prefixes-empty : (e : Rule) (ws : List Word) → length ws ≡ 0 → prefixe
 prefixes-empty e [] h = refl
 prefixes-empty e (w ∷ ws) h = absurd (omega arith)
 
-prefix_behind : (ws : List Word) (found : Option UnOp) (op : UnOp) (rest : List Word) → option_map (λ o. (o, ws)) found ≡ Some (op, rest) → ws ≡ rest
+prefix_behind : (ws : List Word) (found : Option UnOp) (op : UnOp) (rest : List Word) → option_map {U = UnOp × List Word} (λ o. (o, ws)) found ≡ Some (op, rest) → ws ≡ rest
 prefix_behind ws None op rest h = absurd (cc)
-prefix_behind ws (Some o) op rest h = cc
+prefix_behind ws (Some o) op rest h = ap (λ (r : Option (UnOp × List Word)). rest_of_read ws r) h
 
 pub prefix-shorter : (old new : List Word) (op : UnOp) → prefix_at old ≡ Some (op, new) → length old ≡ suc (length new)
 prefix-shorter [] new op h = absurd (cc)

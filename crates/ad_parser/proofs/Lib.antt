@@ -2,4 +2,5 @@ mod ChainLemmas
 mod NodeLemmas
 mod QuoteLemmas
 mod ReaderLemmas
+mod RuleLemmas
 mod WordLemmas

@@ -25,7 +25,7 @@ impl<'a> Reader<'a> {
     ghost use Rattle.ad_parser.specs.Rules.{name_at, infix_at};
     ghost use Rattle.ad_parser.specs.Steps.{left, front, front_mark, prefix_at, Takes, Gives, Finds, Continues};
     ghost use Rattle.ad_parser.specs.Words.{Word as MeantWord, mark as mark_word};
-    ghost use Rattle.ad_parser.specs.declared.stop.Stop.TheVariants as stops;
+    ghost use Rattle.ad_parser.specs.declared.stop.Stop.{Stop};
 
     /// The place in front of the first word.
     pub fn new(words: &'a [Word<'a>]) -> Reader<'a>
@@ -88,7 +88,7 @@ impl<'a> Reader<'a> {
     /// Takes the mark, which is to stand next.
     pub fn expect(&mut self, mark: Mark) -> Result<(), Stop>
         ensures ok { (done : Unit {0}) → result ≡ Ok done → left self.old ≡ mark_word mark ∷ left self.new }
-        ensures none { result ≡ Err stops.Grammar → (rest : List MeantWord) → left self.old ≡ mark_word mark ∷ rest → ⊥ }
+        ensures none { (stop : Stop) → result ≡ Err stop → (rest : List MeantWord) → left self.old ≡ mark_word mark ∷ rest → ⊥ }
     {
         if self.takes(mark) {
             Ok(())

@@ -1,3 +1,6 @@
+mod CompleteLemmas
 pub mod CutLemmas
+mod Follows
+pub mod GrammarLaws
 mod Readings
 mod SoundLemmas

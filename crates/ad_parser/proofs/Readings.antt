@@ -27,6 +27,10 @@ whole-holds P None a h e = absurd cc
 whole-holds P (Some (b, [])) a h e = let same : b ≡ a = cc in rw (← same) h
 whole-holds P (Some (b, w ∷ ws)) a h e = absurd cc
 
+-- a reading that gives this
+abbrev pub read : {A : Type 0} → A → List Word → Reading A
+read a ws = Some (a, ws)
+
 -- a reading that is known, and then another
 pub and_then-at : {A B : Type 0} (r : Reading A) (f : A → List Word → Reading B) (a : A) (ws : List Word) → r ≡ Some (a, ws) → and_then r f ≡ f a ws
 and_then-at {A} {B} r f a ws e = ap (λ (read : Reading A). and_then read f) e

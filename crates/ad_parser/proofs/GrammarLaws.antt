@@ -7,7 +7,7 @@ use Rattle.ad_parser.specs.Words.{Word, mark}
 use Rattle.ad_parser.specs.Grammar.{IsExpr, conditional, level, IsLevel, operation, tighter, single, IsUnary, prefixed, bare, IsPostfix, selection, subscripted, operand, IsPrimary, constant_operand, scoped, own, called, named, listed, ad_literal, grouped, IsList, nothing, something, IsSeveral, last_one, one_more, IsAd, empty_ad, full_ad, IsDefs, last_def, closed_def, more_defs}
 use Rattle.ad_parser.specs.Answers.{IsRoot}
 use Rattle.ad_parser.specs.Rules.{cut, cut_ad, Reading, and_then, ad_behind, expression, whole, parsed_expr, parsed_ad}
-use Rattle.ad_parser.proofs.CutLemmas.{cut_defs, cut-ad, cut-fits}
+use Rattle.ad_parser.proofs.CutLemmas.{Cuts, fits, high, cuts, cut_defs, cut-ad}
 use Rattle.ad_parser.proofs.Readings.{Holds, and_then-holds, whole-holds}
 use Rattle.ad_parser.proofs.SoundLemmas.{Sound, expression-sound, ad_behind-sound}
 use Rattle.ad_parser.proofs.CompleteLemmas.{ReadsExpr, ReadsUnary, ReadsLevel, ReadsPostfix, ReadsPrimary, ReadsSeveral, ReadsList, ReadsDefs, ReadsAd, inner-reads, conditional-reads, level_expr-reads, operation-reads, tighter-reads, prefixed-reads, bare-reads, selection-reads, subscripted-reads, operand-reads, constant-reads, scoped-reads, own-reads, named-reads, called-reads, listed-reads, ad_literal-reads, grouped-reads, last_one-reads, one_more-reads, nothing-reads, something-reads, last_def-reads, closed_def-reads, more_defs-reads, empty_ad-reads, full_ad-reads}
@@ -104,3 +104,42 @@ parsed_ad-sound limit some (mark OpenBracket ∷ ws) c e =
     in
     (s.of.0, subst (λ v. IsAd v s.of.0) (sym (s.split ∙ append-nil s.front)) s.of.2, s.is ∙ ap (cut limit) s.of.1)
 parsed_ad-sound limit some ws c e = absurd cc
+
+-- what each of the three answers says
+cut-some : (limit : ℕ) (x y : Inline) → Some y ≡ cut limit x → (x ≡ y) × (height y ≤ limit)
+cut-some limit x y e = by (cuts limit x)
+  where
+    by : Cuts limit x → (x ≡ y) × (height y ≤ limit)
+    by (fits low is) = let same : x ≡ y = cc in (same, subst (λ z. height z ≤ limit) same low)
+    by (high above is) = absurd cc
+
+cut-none : (limit : ℕ) (x : Inline) → None ≡ cut limit x → limit < height x
+cut-none limit x e = by (cuts limit x)
+  where
+    by : Cuts limit x → limit < height x
+    by (fits low is) = absurd cc
+    by (high above is) = above
+
+pub parsed_expr-none : (limit : ℕ) → 0 < limit → (ws : List Word) → parsed_expr limit ws ≡ None → (x : Inline) → IsExpr ws x → ⊥
+parsed_expr-none limit some ws e x d = let found = parsed_expr-complete limit some ws x d in absurd cc
+
+pub parsed_expr-high : (limit : ℕ) → 0 < limit → (ws : List Word) → parsed_expr limit ws ≡ Some None → (x : Inline) × IsExpr ws x × (limit < height x)
+parsed_expr-high limit some ws e = let s = parsed_expr-sound limit some ws None e in (s.0, s.1, cut-none limit s.0 s.2)
+
+pub parsed_expr-tree : (limit : ℕ) → 0 < limit → (ws : List Word) (x : Inline) → parsed_expr limit ws ≡ Some (Some x) → IsExpr ws x × (height x ≤ limit)
+parsed_expr-tree limit some ws x e =
+    let s = parsed_expr-sound limit some ws (Some x) e in
+    let is = cut-some limit s.0 x s.2 in
+    (subst (IsExpr ws) is.0 s.1, is.1)
+
+pub parsed_ad-none : (limit : ℕ) → 0 < limit → (ws : List Word) → parsed_ad limit ws ≡ None → (x : Inline) → IsRoot ws x → ⊥
+parsed_ad-none limit some ws e x d = let found = parsed_ad-complete limit some ws d.0 d.2 in absurd cc
+
+pub parsed_ad-high : (limit : ℕ) → 0 < limit → (ws : List Word) → parsed_ad limit ws ≡ Some None → (x : Inline) × IsRoot ws x × (limit < height x)
+parsed_ad-high limit some ws e = let s = parsed_ad-sound limit some ws None e in (inner s.0, (s.0, refl, s.1), cut-none limit (inner s.0) s.2)
+
+pub parsed_ad-tree : (limit : ℕ) → 0 < limit → (ws : List Word) (x : Inline) → parsed_ad limit ws ≡ Some (Some x) → IsRoot ws x × (height x ≤ limit)
+parsed_ad-tree limit some ws x e =
+    let s = parsed_ad-sound limit some ws (Some x) e in
+    let is = cut-some limit (inner s.0) x s.2 in
+    ((s.0, sym is.0, s.1), is.1)

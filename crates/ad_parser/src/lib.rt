@@ -6,4 +6,7 @@ mod laws;
 mod mark;
 
 pub use fault::ParseFault;
-pub use laws::{texts_have_one_answer, words_are_read_by_the_grammar, words_spell_one_tree};
+pub use laws::{
+    parsed_ads_are_kept, parsed_phrases_are_kept, texts_have_one_answer, texts_spell_parsed_trees,
+    words_are_read_by_the_grammar, words_make_parsed_trees, words_spell_one_tree,
+};

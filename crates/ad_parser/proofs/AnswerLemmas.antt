@@ -1,13 +1,11 @@
 -- Each text has one tree within the limits or one fault, and not both.
-use Rattle.std.proofs.Common.{◌≡◌, ◌≢◌, ◌⊎◌, ℕ, zero, suc, ◌+◌, ◌-◌, ◌<◌, ◌≤◌, Bool, true, false, List, refl, sym, subst, ap, ◌∙◌, inl, inr, arith}
+use Rattle.std.proofs.Common.{◌≡◌, ◌⊎◌, ℕ, zero, suc, ◌+◌, ◌-◌, ◌<◌, ◌≤◌, true, false, List, refl, sym, subst, ap, ◌∙◌, inl, inr, arith}
 use Rattle.std.proofs.lemmas.Bool.{cases_Bool, cases_lt}
-use Rattle.ad_lexer.specs.Lexeme.{Lexeme}
-use Rattle.ad_lexer.specs.Tokens.{Tokens, Fault}
 use Rattle.ad_lexer.proofs.Texts as texts
 use Rattle.ad_tree.specs.Inline.{Inline, height, definitions}
 use Rattle.ad_parser.specs.declared.fault.ParseFault.{ParseFault}
 use Rattle.ad_parser.specs.declared.fault.ParseFault.TheVariants as faults
-use Rattle.ad_parser.specs.Answers.{HasWords, Spells, IsWithin, IsFault}
+use Rattle.ad_parser.specs.Answers.{HasWords, Spells, IsWithin}
 use Rattle.ad_parser.specs.Limits.{nests_too_deep, height_limit, frame_limit, definition_limit}
 use Rattle.ad_parser.specs.OneAnswer.{HasFault, HasOneAnswer}
 use Rattle.ad_parser.specs.Words.{Word, words}

@@ -1,5 +1,5 @@
 -- Completeness: each rule reads what is of the grammar, whatever follows that doesn't go on.
-use Rattle.std.proofs.Common.{◌≡◌, ℕ, zero, suc, ◌+◌, ◌<◌, ◌≤◌, List, [], ◌∷◌, ◌++◌, length, Option, None, Some, refl, sym, subst, ap, ◌∙◌, arith, length-append, append_assoc}
+use Rattle.std.proofs.Common.{◌≡◌, ℕ, zero, suc, ◌+◌, ◌<◌, ◌≤◌, List, [], ◌∷◌, ◌++◌, length, Option, None, Some, refl, sym, ap, ◌∙◌, arith, length-append, append_assoc}
 use Rattle.ad_tree.specs.declared.tree.Scope.{Scope}
 use Rattle.ad_tree.specs.declared.tree.Scope.TheVariants.{Bare, My}
 use Rattle.pool_text.specs.declared.language.Lit.{Lit}
@@ -9,9 +9,9 @@ use Rattle.ad_tree.specs.Tree.{Label, literal, name, unary, choice, select, subs
 use Rattle.ad_parser.specs.declared.mark.Mark.{Mark}
 use Rattle.ad_parser.specs.declared.mark.Mark.TheVariants.{OpenParen, CloseParen, OpenBracket, CloseBracket, OpenBrace, CloseBrace, Comma, Semicolon, Dot, Assign, Question, Colon}
 use Rattle.ad_parser.specs.Shapes.{leaf, over_one, over_two, over_three, Infix, joined, infix_of, prefix_of}
-use Rattle.ad_parser.specs.Words.{Word, plain, quoted, constant, mark, scope_of}
-use Rattle.ad_parser.specs.Grammar.{IsName, plain_name, quoted_name, IsNoScope, IsExpr, conditional, level, IsLevel, operation, tighter, single, IsUnary, prefixed, bare, IsPostfix, selection, subscripted, operand, IsPrimary, constant_operand, scoped, own, called, named, listed, ad_literal, grouped, IsList, nothing, something, IsSeveral, last_one, one_more, IsAd, empty_ad, full_ad, IsDefs, last_def, closed_def, more_defs}
-use Rattle.ad_parser.specs.Rules.{cut, cut_one, cut_two, cut_three, cut_shape, cut_ad, cut_next, cut_def, Reading, Rule, and_then, name_at, close_paren, close_bracket, close_brace, several_behind, several, arguments, elements, assigned, definitions_behind, definitions_at, ad_behind, named_in, plain_at, primary, suffixes, postfix, prefix_word, prefixed_or, prefixes, infix_at, operation_or, operations, level_at, colon, choice_behind, conditionals, expression}
+use Rattle.ad_parser.specs.Words.{Word, plain, constant, mark, scope_of}
+use Rattle.ad_parser.specs.Grammar.{IsName, plain_name, quoted_name, IsNoScope}
+use Rattle.ad_parser.specs.Rules.{cut, cut_one, cut_two, cut_three, cut_shape, cut_ad, cut_next, cut_def, Reading, Rule, and_then, name_at, close_paren, close_bracket, close_brace, several_behind, several, arguments, elements, assigned, definitions_behind, definitions_at, ad_behind, named_in, plain_at, primary, suffixes, postfix, prefixed_or, prefixes, operation_or, operations, level_at, colon, choice_behind, conditionals, expression}
 use Rattle.ad_parser.proofs.CutLemmas.{cut-leaf, cut-over_one, cut-over_two, cut-over_three, cut-joined, cut_all, cut_defs, cut-end, cut-no_defs, cut-next, cut-def, cut-shape, cut-ad}
 use Rattle.ad_parser.proofs.Readings.{and_then-at, read, name_at-is}
 use Rattle.ad_parser.proofs.Follows.{level_of, level_behind, Ends, ends, suffixes-stop, choice-stop, several-stop, infix_at-is, level_of-infix, operations-stop, prefixes-postfix}
@@ -113,15 +113,14 @@ module _ (limit : ℕ) (some : 0 < limit) where
       by (suc n) enough same =
           let size = length_two ws a b m split in
           let tight : Rule = level_at limit (expression limit f) k in
-          let more : Option Inline → List Word → Reading (Option Inline) = operations limit tight (suc k) n in
-          (
+          let more : Option Inline → List Word → Reading (Option Inline) = operations limit tight (suc k) n in (
             n,
             omega (arith, length-append b r),
             ap (level_at limit (expression limit f) (suc k)) (ap (λ s. s ++ r) split ∙ two_parts a b r m)
-            ∙ same
-            ∙ ap (λ (s : Reading Infix). operation_or limit tight more (cut limit x) (mark m ∷ (b ++ r)) s) (infix_at-is (suc k) m op (b ++ r) is)
-            ∙ ap (λ (s : Reading (Option Inline)). and_then s (λ t. more (cut_two limit (joined op) (cut limit x) t))) (level-reads k b y hb f r (omega arith) free)
-            ∙ ap (λ t. more t r) (cut-joined limit op x y),
+                ∙ same
+                ∙ ap (λ (s : Reading Infix). operation_or limit tight more (cut limit x) (mark m ∷ (b ++ r)) s) (infix_at-is (suc k) m op (b ++ r) is)
+                ∙ ap (λ (s : Reading (Option Inline)). and_then s (λ t. more (cut_two limit (joined op) (cut limit x) t))) (level-reads k b y hb f r (omega arith) free)
+                ∙ ap (λ t. more t r) (cut-joined limit op x y),
           )
 
   pub tighter-reads : (k : ℕ) (ws : List Word) (x : Inline) → ReadsLevel limit k ws x → ReadsLevel limit (suc k) ws x
@@ -155,9 +154,9 @@ module _ (limit : ℕ) (some : 0 < limit) where
         n,
         omega arith,
         ap (postfix limit (expression limit f)) (ap (λ s. s ++ r) split ∙ two_parts a (w ∷ []) r Dot)
-        ∙ same
-        ∙ ap (λ (s : Reading (List ℕ)). and_then s (λ t. suffixes limit (expression limit f) n (cut_one limit (over_one (select t)) (cut limit x)))) (name_at-is w text r is_name)
-        ∙ ap (λ t. suffixes limit (expression limit f) n t r) (cut-over_one limit (select text) x),
+            ∙ same
+            ∙ ap (λ (s : Reading (List ℕ)). and_then s (λ t. suffixes limit (expression limit f) n (cut_one limit (over_one (select t)) (cut limit x)))) (name_at-is w text r is_name)
+            ∙ ap (λ t. suffixes limit (expression limit f) n t r) (cut-over_one limit (select text) x),
       )
 
   pub subscripted-reads : (ws a b : List Word) (x y : Inline) → ws ≡ a ++ mark OpenBracket ∷ (b ++ mark CloseBracket ∷ []) → ReadsPostfix limit a x → ReadsExpr limit b y → ReadsPostfix limit ws (over_two subscript x y)
@@ -172,14 +171,13 @@ module _ (limit : ℕ) (some : 0 < limit) where
       by zero enough same = absurd (omega arith)
       by (suc n) enough same =
           let size = length_three ws a b [] OpenBracket CloseBracket split in
-          let e : Rule = expression limit f in
-          (
+          let e : Rule = expression limit f in (
             n,
             omega (arith, length-append b (mark CloseBracket ∷ r)),
             ap (postfix limit e) (ap (λ s. s ++ r) split ∙ three_parts a b [] r OpenBracket CloseBracket)
-            ∙ same
-            ∙ ap (λ (s : Reading (Option Inline)). and_then (and_then s close_bracket) (λ t. suffixes limit e n (cut_two limit (over_two subscript) (cut limit x) t))) (inner-reads b y hb f (mark CloseBracket ∷ r) (omega arith) (omega arith))
-            ∙ ap (λ t. suffixes limit e n t r) (cut-over_two limit subscript x y),
+                ∙ same
+                ∙ ap (λ (s : Reading (Option Inline)). and_then (and_then s close_bracket) (λ t. suffixes limit e n (cut_two limit (over_two subscript) (cut limit x) t))) (inner-reads b y hb f (mark CloseBracket ∷ r) (omega arith) (omega arith))
+                ∙ ap (λ t. suffixes limit e n t r) (cut-over_two limit subscript x y),
           )
 
   pub operand-reads : (ws : List Word) (x : Inline) → ReadsPrimary limit ws x → ReadsPostfix limit ws x
@@ -343,8 +341,7 @@ module _ (limit : ℕ) (some : 0 < limit) where
 
   pub full_ad-reads : (ws all : List Word) (ds : Defs) → all ≡ mark OpenBracket ∷ (ws ++ mark CloseBracket ∷ []) → ReadsDefs limit ws ds → ReadsAd limit all ds
   full_ad-reads ws all ds split h f r deep =
-      let size = length_three all [] ws [] OpenBracket CloseBracket split in
-      (
+      let size = length_three all [] ws [] OpenBracket CloseBracket split in (
         ws ++ mark CloseBracket ∷ r,
         ap (λ s. s ++ r) split ∙ three_parts [] ws [] r OpenBracket CloseBracket,
         ad_behind-is (expression limit f) (ws ++ mark CloseBracket ∷ r) (cut_defs limit ds, r) (h f (length (ws ++ mark CloseBracket ∷ r)) r (omega arith) (omega (arith, length-append ws (mark CloseBracket ∷ r)))),

@@ -1,14 +1,13 @@
 -- What may follow what a rule reads.
-use Rattle.std.proofs.Common.{◌≡◌, ℕ, zero, suc, ◌<◌, Bool, true, false, ◌==◌, if◌then◌else◌, List, [], ◌∷◌, length, Option, None, Some, refl, sym, ap, ◌∙◌, arith}
+use Rattle.std.proofs.Common.{◌≡◌, ℕ, zero, suc, ◌<◌, Bool, true, false, ◌==◌, if◌then◌else◌, List, [], ◌∷◌, length, Option, None, Some, refl, ap, ◌∙◌, arith}
 use Rattle.std.proofs.lemmas.Bool.Decides.{nat_tests}
-use Rattle.pool_text.specs.declared.language.BinOp.{BinOp}
 use Rattle.pool_text.specs.declared.language.UnOp.{UnOp}
 use Rattle.ad_tree.specs.Inline.{Inline, Inlines, end}
 use Rattle.ad_parser.specs.declared.mark.Mark.{Mark}
-use Rattle.ad_parser.specs.declared.mark.Mark.TheVariants.{OpenParen, CloseParen, OpenBracket, CloseBracket, OpenBrace, CloseBrace, Comma, Semicolon, Dot, Assign, Question, Colon, And, Or, Not, Complement, Binary}
+use Rattle.ad_parser.specs.declared.mark.Mark.TheVariants.{OpenParen, OpenBracket, OpenBrace, Comma, Dot, Question, And, Or, Binary}
 use Rattle.ad_parser.specs.Grammar.{IsNoScope}
-use Rattle.ad_parser.specs.Shapes.{Infix, looseness, infix_of, prefix_of}
-use Rattle.ad_parser.specs.Words.{Word, plain, quoted, constant, mark}
+use Rattle.ad_parser.specs.Shapes.{Infix, looseness, infix_of}
+use Rattle.ad_parser.specs.Words.{Word, mark}
 use Rattle.ad_parser.specs.Rules.{Reading, Rule, and_then, cut_next, several_behind, suffixes, primary, postfix, prefix_word, prefixed_or, prefixes, at_looseness, infix_at, operation_or, operations, choice_behind}
 
 -- the lowest level at which such a word goes on: 0 behind an operand, then the looseness of an operator, 11 for a

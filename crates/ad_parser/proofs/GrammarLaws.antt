@@ -1,5 +1,5 @@
 -- The grammar and its exact function agree, within every limit of height above 0.
-use Rattle.std.proofs.Common.{◌≡◌, ℕ, zero, suc, ◌+◌, ◌<◌, ◌≤◌, List, [], ◌∷◌, ◌++◌, length, Option, None, Some, refl, sym, subst, ap, ◌∙◌, arith, length-append}
+use Rattle.std.proofs.Common.{◌≡◌, ℕ, suc, ◌<◌, ◌≤◌, List, [], ◌∷◌, ◌++◌, length, Option, None, Some, refl, sym, subst, ap, ◌∙◌, arith}
 use Rattle.std.proofs.lemmas.List.{append-nil}
 use Rattle.ad_tree.specs.Inline.{Inline, Inlines, Defs, inner, height}
 use Rattle.ad_parser.specs.declared.mark.Mark.TheVariants.{OpenBracket, CloseBracket}
@@ -100,7 +100,7 @@ root-sound limit some ws =
 pub parsed_ad-sound : (limit : ℕ) → 0 < limit → (ws : List Word) (c : Option Inline) → parsed_ad limit ws ≡ Some c → (ds : Defs) × IsAd ws ds × (c ≡ cut limit (inner ds))
 parsed_ad-sound limit some (mark OpenBracket ∷ ws) c e =
     let s : Sound Inline (cut limit) IsRoot (mark OpenBracket ∷ ws) c [] =
-        whole-holds (Sound Inline (cut limit) IsRoot (mark OpenBracket ∷ ws)) (and_then (ad_behind (expression limit (suc (length ws))) ws) (λ ds rest. Some (cut_ad limit ds, rest))) c (root-sound limit some ws) e
+    whole-holds (Sound Inline (cut limit) IsRoot (mark OpenBracket ∷ ws)) (and_then (ad_behind (expression limit (suc (length ws))) ws) (λ ds rest. Some (cut_ad limit ds, rest))) c (root-sound limit some ws) e
     in
     (s.of.0, subst (λ v. IsAd v s.of.0) (sym (s.split ∙ append-nil s.front)) s.of.2, s.is ∙ ap (cut limit) s.of.1)
 parsed_ad-sound limit some ws c e = absurd cc

@@ -4,13 +4,13 @@ use Rattle.ad_tree.specs.declared.ad.Ad.{Ad}
 use Rattle.ad_tree.specs.declared.ad.Phrase.{Phrase}
 use Rattle.ad_tree.specs.Ad.{ad_frames}
 use Rattle.ad_tree.specs.Frames.{Frame, empty_frame}
-use Rattle.ad_tree.specs.Inline.{Inline, Defs, inner, no_defs, frames, number, spelled, spelled_tree, settled, settled_defs}
+use Rattle.ad_tree.specs.Inline.{Inline, Defs, inner, no_defs, frames, spelled, spelled_tree, settled, settled_defs}
 use Rattle.ad_tree.specs.Tree.{tree}
 use Rattle.ad_tree.proofs.SpellingLemmas.{spelled-frames, spelled_tree-frames}
 use Rattle.ad_parser.specs.Answers.{HasWords, IsRoot, Spells, IsWithin, frames_of_expr, frames_of_ad, AnswersAd, AnswersExpr}
 use Rattle.ad_parser.specs.Grammar.{IsExpr}
 use Rattle.ad_parser.specs.Made.{IsMade, AreMade}
-use Rattle.ad_parser.specs.Words.{Word, words}
+use Rattle.ad_parser.specs.Words.{Word}
 use Rattle.ad_parser.proofs.MadeLemmas.{expr-made, ad-made}
 use Rattle.ad_parser.proofs.MadeWordLemmas.{words-made}
 use Rattle.ad_parser.proofs.SettledLemmas.{settled-made, settled_expr-within, settled_ad-within}
@@ -47,7 +47,7 @@ pub phrase-kept : (P : Inline → Type 0) (text : List ℕ) (phrase : Phrase) �
     → P (spelled_tree (ad_frames phrase.ad) (tree phrase.expr))
 phrase-kept P text phrase answer keeps =
     let same : spelled_tree (ad_frames phrase.ad) (tree phrase.expr) ≡ settled answer.0 =
-        ap (λ fs. spelled_tree fs (tree phrase.expr)) answer.3 ∙ ap (spelled_tree (empty_frame 0 ∷ frames 0 1 (settled answer.0))) answer.4 ∙ spelled_tree-frames (settled answer.0)
+    ap (λ fs. spelled_tree fs (tree phrase.expr)) answer.3 ∙ ap (spelled_tree (empty_frame 0 ∷ frames 0 1 (settled answer.0))) answer.4 ∙ spelled_tree-frames (settled answer.0)
     in
     subst P (sym same) (keeps answer.0 answer.1 answer.2)
 

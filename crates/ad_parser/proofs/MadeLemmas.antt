@@ -1,23 +1,23 @@
 -- The grammar makes trees that keep what their words keep.
-use Rattle.std.proofs.Common.{◌≡◌, ℕ, zero, suc, ◌+◌, ◌<◌, ◌≤◌, Bool, true, false, ltb, nat_lt, slice_index, List, [], ◌∷◌, ◌++◌, length, IsUtf8, refl, sym, ◌∙◌, ap, subst, arith}
+use Rattle.std.proofs.Common.{◌≡◌, ℕ, zero, suc, ◌<◌, ◌≤◌, true, ltb, nat_lt, slice_index, List, [], ◌∷◌, ◌++◌, refl, ◌∙◌, ap, subst, arith}
 use Rattle.std.proofs.lemmas.Bool.Decides.{nat_tests}
 use Rattle.std.proofs.lemmas.Bool.{and_parts, ltb-true}
 use Rattle.std.proofs.lemmas.Str.{IsUtf8-from_ascii}
 use Rattle.std.proofs.lemmas.Str.Ascii.{IsAscii-nil}
 use Rattle.std.specs.List.{list_all}
 use Rattle.ad_lexer.specs.Spelling.{Spells}
-use Rattle.ad_lexer.specs.Words.{is_word_byte, is_word}
+use Rattle.ad_lexer.specs.Words.{is_word_byte}
 use Rattle.ad_lexer.specs.declared.token.TokenKind.TheVariants as kinds
 use Rattle.ad_lexer.proofs.Runs.{all_weaker}
 use Rattle.ad_lexer.proofs.WordLemmas.{word_bytes, word_nonempty}
-use Rattle.ad_tree.specs.Inline.{Inline, shape, inner, Inlines, end, next, Defs, no_defs, def}
-use Rattle.ad_tree.specs.Tree.{Label, literal, name, unary, binary, all, any, choice, select, subscript, call, list}
+use Rattle.ad_tree.specs.Inline.{Inline, shape, Inlines, end, next, Defs}
+use Rattle.ad_tree.specs.Tree.{all, any}
 use Rattle.ad_parser.specs.declared.mark.Mark.{Mark}
 use Rattle.ad_parser.specs.declared.mark.Mark.TheVariants.{OpenParen, CloseParen, OpenBracket, CloseBracket, OpenBrace, CloseBrace, Comma, Semicolon, Dot, Assign, Question, Colon}
 use Rattle.ad_parser.specs.Shapes.{followed_by, Infix, conjunction, disjunction, operator, joined}
-use Rattle.ad_parser.specs.Words.{Word, plain, quoted, constant, mark}
+use Rattle.ad_parser.specs.Words.{Word, plain, mark}
 use Rattle.ad_parser.specs.Grammar.{IsName, plain_name, quoted_name, IsExpr, conditional, level, IsLevel, operation, tighter, single, IsUnary, prefixed, bare, IsPostfix, selection, subscripted, operand, IsPrimary, constant_operand, scoped, own, called, named, listed, ad_literal, grouped, IsList, nothing, something, IsSeveral, last_one, one_more, IsAd, empty_ad, full_ad, IsDefs, last_def, closed_def, more_defs}
-use Rattle.ad_parser.specs.Made.{IsText, IsNameText, IsWritten, number_of, begins_with_all, begins_with_any, IsNode, IsMade, AllMade, DefsMade, IsMadeWord, AreMade}
+use Rattle.ad_parser.specs.Made.{IsNameText, number_of, begins_with_all, begins_with_any, IsMade, AllMade, DefsMade, IsMadeWord, AreMade}
 
 -- words in two parts
 front-made : (a b : List Word) → AreMade (a ++ b) → AreMade a
@@ -42,8 +42,7 @@ word_byte-some byte is = grind (arith, nat_tests)
 
 pub plain_text : (text : List ℕ) → Spells kinds.Plain text → IsNameText text
 plain_text text is =
-    let bytes = word_bytes text is.0 in
-    (
+    let bytes = word_bytes text is.0 in (
       (
         IsUtf8-from_ascii text (ascii_at text (all_weaker is_word_byte (λ c. ltb c 128) word_byte-ascii text bytes)),
         all_weaker is_word_byte (nat_lt 0) word_byte-some text bytes,

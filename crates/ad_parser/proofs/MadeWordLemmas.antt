@@ -1,26 +1,24 @@
 -- The words of a text's tokens keep what is said of words: names and strings are UTF-8 without byte 0.
-use Rattle.std.proofs.Common.{◌≡◌, ℕ, zero, suc, ◌+◌, ◌<◌, ◌≤◌, ◌^◌, Bool, true, false, ltb, nat_lt, nat_le, ◌==◌, not, ◌&&◌, ◌||◌, if◌then◌else◌, get_or, List, [], ◌∷◌, ◌++◌, length, take, drop, map, Option, None, Some, IsUtf8, refl, sym, ◌∙◌, ap, subst, arith, append_assoc, length-append}
+use Rattle.std.proofs.Common.{◌≡◌, ℕ, ◌+◌, ◌<◌, ◌^◌, Bool, true, false, nat_lt, ◌==◌, ◌||◌, if◌then◌else◌, get_or, List, [], ◌∷◌, ◌++◌, length, drop, map, Option, None, Some, IsUtf8, refl, sym, ◌∙◌, ap, subst, arith, append_assoc, length-append}
 use Rattle.std.proofs.lemmas.Bool.Decides.{nat_tests}
-use Rattle.std.proofs.lemmas.Bool.{and_parts, and_from, or_parts, not-true, ltb-true, cases_Bool}
-use Rattle.std.proofs.lemmas.List.{take_at, drop_at, append-nil}
-use Rattle.std.proofs.lemmas.Str.{IsUtf8-append, IsUtf8-encode, IsUtf8-from_ascii, IsUtf8-take, IsUtf8-drop, IsCharBoundary-before_ascii, IsCharBoundary-after_ascii}
+use Rattle.std.proofs.lemmas.Bool.{and_parts, and_from, ltb-true}
+use Rattle.std.proofs.lemmas.List.{take_at, drop_at}
+use Rattle.std.proofs.lemmas.Str.{IsUtf8-append, IsUtf8-from_ascii, IsUtf8-take, IsUtf8-drop, IsCharBoundary-before_ascii, IsCharBoundary-after_ascii}
 use Rattle.std.specs.List.{list_all}
 use Rattle.std.specs.Str.{bytes_eq}
 use Rattle.std.specs.Str.Parse.{digits_value}
 use Rattle.pool_text.specs.Folding.{folded}
-use Rattle.pool_text.specs.declared.language.Lit.TheVariants.{Undefined}
-use Rattle.ad_lexer.specs.Content.{content}
 use Rattle.ad_lexer.specs.Lexeme.{Lexeme}
 use Rattle.ad_lexer.specs.Numbers.{value}
-use Rattle.ad_lexer.specs.Quoted.{Letter, plain, escape, octal, spelling, spellings, meaning, is_plain, escaped, is_octal_digit, IsLetter, AreLetters, IsQuoted}
+use Rattle.ad_lexer.specs.Quoted.{Letter, plain, escape, octal, spellings, meaning, is_plain, escaped, is_octal_digit, AreLetters, IsQuoted}
 use Rattle.ad_lexer.specs.Spelling.{Spells}
-use Rattle.ad_lexer.specs.Tokens.{Item, blank, token, bytes_of, Divides, lexemes, Tokens}
+use Rattle.ad_lexer.specs.Tokens.{Item, blank, token, Divides, lexemes, Tokens}
 use Rattle.ad_lexer.specs.declared.token.TokenKind.{TokenKind}
 use Rattle.ad_lexer.specs.declared.token.TokenKind.TheVariants as kinds
 use Rattle.ad_lexer.proofs.ContentLemmas.{quoted_content}
 use Rattle.ad_parser.specs.declared.mark.Mark.{Mark}
-use Rattle.ad_parser.specs.Made.{IsText, IsNameText, IsWritten, IsMadeWord, AreMade}
-use Rattle.ad_parser.specs.Words.{Word, constant, mark, meaning_of, marks, reserved_words, or_undefined, mark_word, word_of_kind, word, words}
+use Rattle.ad_parser.specs.Made.{IsText, IsNameText, IsMadeWord, AreMade}
+use Rattle.ad_parser.specs.Words.{Word, meaning_of, marks, reserved_words, or_undefined, mark_word, word_of_kind, words}
 use Rattle.ad_parser.proofs.MadeLemmas.{ascii_at}
 
 -- a text may be divided before and behind a byte that is ASCII
@@ -121,7 +119,7 @@ quoted_text : (quote : ℕ) (before bytes after text : List ℕ) → quote < 128
 quoted_text quote before bytes after text ascii u is =
     let letters : List Letter = is.0 in
     let joined : before ++ (bytes ++ after) ≡ before ++ quote ∷ (spellings letters ++ quote ∷ after) =
-        ap (λ l. before ++ (l ++ after)) is.1 ∙ ap (λ l. before ++ quote ∷ l) (append_assoc (spellings letters) (quote ∷ []) after) in
+    ap (λ l. before ++ (l ++ after)) is.1 ∙ ap (λ l. before ++ quote ∷ l) (append_assoc (spellings letters) (quote ∷ []) after) in
     let inside : IsUtf8 (spellings letters) = utf8_before (spellings letters) quote after ascii (utf8_behind before quote (spellings letters ++ quote ∷ after) ascii (subst IsUtf8 joined u)) in
     subst IsText (sym is.3) (letters_utf8 quote [] letters (quote ∷ []) is.2 inside, letters_some quote letters (quote ∷ []) is.2)
 

@@ -1,11 +1,11 @@
 -- Readings: what holds of all that a reading gives, and a reading that is known.
-use Rattle.std.proofs.Common.{◌≡◌, ℕ, List, [], ◌∷◌, Option, None, Some, refl, sym, ap, ◌∙◌}
-use Rattle.ad_parser.specs.declared.mark.Mark.TheVariants.{OpenParen, CloseParen, CloseBracket, CloseBrace, Dot, Assign, Colon}
+use Rattle.std.proofs.Common.{◌≡◌, ℕ, List, [], ◌∷◌, None, Some, refl, ap}
+use Rattle.ad_parser.specs.declared.mark.Mark.TheVariants.{CloseParen, CloseBracket, CloseBrace, Assign, Colon}
 use Rattle.pool_text.specs.declared.language.UnOp.{UnOp}
 use Rattle.ad_parser.specs.declared.mark.Mark.{Mark}
 use Rattle.ad_parser.specs.Grammar.{IsName, plain_name, quoted_name}
 use Rattle.ad_parser.specs.Shapes.{prefix_of}
-use Rattle.ad_parser.specs.Words.{Word, plain, quoted, constant, mark}
+use Rattle.ad_parser.specs.Words.{Word, plain, quoted, mark}
 use Rattle.ad_parser.specs.Rules.{Reading, and_then, name_at, close_paren, close_bracket, close_brace, colon, assigned, prefix_word, whole}
 
 -- the value that is read, if any, and the words behind it have this property

@@ -1,5 +1,5 @@
 -- A tree without its repeated definitions keeps what the tree keeps, and is no higher and no larger.
-use Rattle.std.proofs.Common.{◌≡◌, ℕ, zero, suc, ◌+◌, ◌<◌, ◌≤◌, max, Bool, true, false, cond, List, refl, sym, ◌∙◌, ap, subst, arith}
+use Rattle.std.proofs.Common.{◌≡◌, ℕ, suc, ◌+◌, ◌≤◌, max, Bool, true, false, cond, List, refl, ◌∙◌, ap, arith}
 use Rattle.ad_tree.specs.Inline.{Inline, shape, inner, Inlines, end, next, Defs, no_defs, def, count, count_all, count_defs, height, highest, highest_def, definitions, definitions_all, definitions_in, put, settled, settled_all, settled_defs}
 use Rattle.ad_tree.specs.Names.{same_name}
 use Rattle.ad_tree.specs.Tree.{Label, literal, name, unary, binary, all, any, choice, select, subscript, call, list}

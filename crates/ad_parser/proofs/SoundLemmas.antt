@@ -1,21 +1,19 @@
 -- Soundness: all that the rules read is of the grammar.
 use Rattle.std.proofs.Common.{◌≡◌, ℕ, zero, suc, ◌<◌, Bool, true, false, ◌==◌, if◌then◌else◌, List, [], ◌∷◌, ◌++◌, length, Option, None, Some, refl, sym, subst, ap, ◌∙◌, arith, append_assoc}
 use Rattle.std.proofs.lemmas.Bool.Decides.{nat_tests}
-use Rattle.std.proofs.lemmas.List.{append-nil}
 use Rattle.ad_tree.specs.declared.tree.Scope.{Scope}
 use Rattle.ad_tree.specs.declared.tree.Scope.TheVariants.{Bare, My}
-use Rattle.pool_text.specs.declared.language.Lit.{Lit}
 use Rattle.pool_text.specs.declared.language.UnOp.{UnOp}
 use Rattle.ad_tree.specs.Inline.{Inline, Inlines, Defs, shape, inner, end, next, no_defs, def}
 use Rattle.ad_tree.specs.Tree.{Label, literal, name, unary, choice, select, subscript, call, list}
 use Rattle.ad_parser.specs.declared.mark.Mark.{Mark}
 use Rattle.ad_parser.specs.declared.mark.Mark.TheVariants.{OpenParen, CloseParen, OpenBracket, CloseBracket, OpenBrace, CloseBrace, Comma, Semicolon, Dot, Assign, Question, Colon}
-use Rattle.ad_parser.specs.Shapes.{leaf, over_one, over_two, over_three, Infix, joined, infix_of, prefix_of}
+use Rattle.ad_parser.specs.Shapes.{leaf, over_one, over_two, over_three, Infix, joined, infix_of}
 use Rattle.ad_parser.specs.Words.{Word, plain, quoted, constant, mark, scope_of}
 use Rattle.ad_parser.specs.Grammar.{IsName, plain_name, quoted_name, IsNoScope, IsExpr, conditional, level, IsLevel, operation, tighter, single, IsUnary, prefixed, bare, IsPostfix, selection, subscripted, operand, IsPrimary, constant_operand, scoped, own, called, named, listed, ad_literal, grouped, IsList, nothing, something, IsSeveral, last_one, one_more, IsAd, empty_ad, full_ad, IsDefs, last_def, closed_def, more_defs}
-use Rattle.ad_parser.specs.Rules.{cut, cut_one, cut_two, cut_three, cut_shape, cut_ad, cut_next, cut_def, Reading, Rule, and_then, name_at, close_paren, close_bracket, close_brace, several_behind, several, arguments, elements, assigned, definitions_behind, definitions_at, ad_behind, named_in, plain_at, primary, suffixes, postfix, prefix_word, prefixed_or, prefixes, at_looseness, infix_at, operation_or, operations, level_at, colon, choice_behind, conditionals, expression, whole, parsed_expr, parsed_ad}
+use Rattle.ad_parser.specs.Rules.{cut, cut_one, cut_two, cut_three, cut_shape, cut_ad, cut_next, cut_def, Reading, Rule, and_then, name_at, close_paren, close_bracket, close_brace, several_behind, several, arguments, elements, assigned, definitions_behind, definitions_at, ad_behind, named_in, plain_at, primary, suffixes, postfix, prefix_word, prefixed_or, prefixes, at_looseness, infix_at, operation_or, operations, level_at, colon, choice_behind, conditionals, expression}
 use Rattle.ad_parser.proofs.CutLemmas.{cut-leaf, cut-over_one, cut-over_two, cut-over_three, cut-joined, cut_all, cut_defs, cut-end, cut-no_defs, cut-next, cut-def, cut-shape, cut-ad}
-use Rattle.ad_parser.proofs.Readings.{Holds, and_then-holds, holds-more, whole-holds, ReadsName, name_at-holds, close_paren-holds, close_bracket-holds, close_brace-holds, colon-holds, assigned-holds, prefix_word-mark}
+use Rattle.ad_parser.proofs.Readings.{Holds, and_then-holds, holds-more, ReadsName, name_at-holds, close_paren-holds, close_bracket-holds, close_brace-holds, colon-holds, assigned-holds, prefix_word-mark}
 
 -- words in front are of a relation, by a value that is cut
 pub record Sound (T : Type 0) (cutting : T → Option T) (R : List Word → T → Type 0) (ws : List Word) (c : Option T) (rest : List Word) : Type 0 where

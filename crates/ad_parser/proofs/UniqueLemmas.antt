@@ -1,5 +1,5 @@
 -- No list of words spells two trees, and whether it spells one is decided.
-use Rattle.std.proofs.Common.{◌≡◌, ◌⊎◌, ℕ, ◌+◌, ◌<◌, ◌≤◌, List, Option, None, Some, refl, sym, ap, ◌∙◌, inl, inr, arith}
+use Rattle.std.proofs.Common.{◌≡◌, ◌⊎◌, ℕ, ◌+◌, ◌<◌, List, Option, None, Some, refl, sym, ap, ◌∙◌, inl, inr, arith}
 use Rattle.ad_tree.specs.Inline.{Inline, Defs, inner, height}
 use Rattle.ad_parser.specs.Words.{Word}
 use Rattle.ad_parser.specs.Grammar.{IsExpr, IsAd}
@@ -24,7 +24,7 @@ expr-one ws x y a b =
 pub ad-one : (ws : List Word) (ds es : Defs) → IsAd ws ds → IsAd ws es → ds ≡ es
 ad-one ws ds es a b =
     let same : inner ds ≡ inner es =
-        cut-same (inner ds) (inner es) (λ limit. parsed_ad limit ws) (λ limit some. parsed_ad-complete limit some ws ds a) (λ limit some. parsed_ad-complete limit some ws es b)
+    cut-same (inner ds) (inner es) (λ limit. parsed_ad limit ws) (λ limit some. parsed_ad-complete limit some ws ds a) (λ limit some. parsed_ad-complete limit some ws es b)
     in
     cc
 

@@ -12,6 +12,7 @@ use Rattle.ad_parser.proofs.Readings.{Holds, and_then-holds, whole-holds}
 use Rattle.ad_parser.proofs.SoundLemmas.{Sound, expression-sound, ad_behind-sound}
 use Rattle.ad_parser.proofs.CompleteLemmas.{ReadsExpr, ReadsUnary, ReadsLevel, ReadsPostfix, ReadsPrimary, ReadsSeveral, ReadsList, ReadsDefs, ReadsAd, inner-reads, conditional-reads, level_expr-reads, operation-reads, tighter-reads, prefixed-reads, bare-reads, selection-reads, subscripted-reads, operand-reads, constant-reads, scoped-reads, own-reads, named-reads, called-reads, listed-reads, ad_literal-reads, grouped-reads, last_one-reads, one_more-reads, nothing-reads, something-reads, last_def-reads, closed_def-reads, more_defs-reads, empty_ad-reads, full_ad-reads}
 
+-- each rule by its relation
 module _ (limit : ℕ) (some : 0 < limit) where
   mutual
     expr-reads : (ws : List Word) (x : Inline) → IsExpr ws x → ReadsExpr limit ws x
@@ -71,6 +72,7 @@ parsed_expr-sound limit some ws c e =
     let s : Sound Inline (cut limit) IsExpr ws c [] = whole-holds (Sound Inline (cut limit) IsExpr ws) (expression limit (suc (length ws)) ws) c (expression-sound limit some (suc (length ws)) ws) e in
     (s.value, subst (λ v. IsExpr v s.value) (sym (s.split ∙ append-nil s.front)) s.of, s.is)
 
+-- the definitions of an ad behind its opening bracket
 ad-behind : (limit : ℕ) → 0 < limit → (ws back : List Word) (ds : Defs) → ReadsAd limit ws ds → ws ≡ mark OpenBracket ∷ back → ad_behind (expression limit (suc (length back))) back ≡ Some (cut_defs limit ds, [])
 ad-behind limit some ws back ds h split =
     let size : length ws ≡ suc (length back) = ap length split in

@@ -57,6 +57,7 @@ abbrev pub Ready : List Word → List Word → Type 0
 Ready front (mark Dot ∷ rest) = IsNoScope front
 Ready front rest = Unit {0}
 
+-- more than one word is no scope word
 pub no_scope-behind : (before : List Word) (m : Mark) (more : List Word) → IsNoScope (before ++ mark m ∷ more)
 no_scope-behind [] m more = tt
 no_scope-behind (plain text ∷ []) m more = tt
@@ -67,6 +68,7 @@ pub ready : (front rest : List Word) → IsNoScope front → Ready front rest
 ready front (mark Dot ∷ rest) h = h
 ready front rest h = tt
 
+-- words in front of others are an operand
 abbrev pub Begins : List Word → List Word → Inline → Type 0
 Begins rest front x = IsPrimary front x × Ready front rest
 
@@ -253,7 +255,7 @@ module _ (limit : ℕ) (some : 0 < limit) (e : Rule) (inner_sound : (ws : List W
 
   ad_no_scope : (ws : List Word) (ds : Defs) → IsAd ws ds → IsNoScope ws
   ad_no_scope ws ds empty_ad = tt
-  ad_no_scope ws ds (full_ad front all same refl_ of) = subst IsNoScope (sym refl_) tt
+  ad_no_scope ws ds (full_ad front all same split of) = subst IsNoScope (sym split) tt
 
   ad-sound : (ws : List Word) → Holds (λ c rest. Sound Inline (cut limit) (Begins rest) (mark OpenBracket ∷ ws) c rest) (and_then (ad_behind e ws) (λ ds rest. Some (cut_ad limit ds, rest)))
   ad-sound ws =
@@ -395,6 +397,7 @@ module _ (limit : ℕ) (some : 0 < limit) (e : Rule) (inner_sound : (ws : List W
       and_then-holds (Sound Inline (cut limit) (IsLevel 10) ws) (Sound Inline (cut limit) IsExpr ws) (level_at limit e 10 ws) (choice_behind limit e (conditionals limit e n)) (level_at-sound 10 ws)
       (choice_behind-sound (conditionals limit e n) (conditionals-sound n) ws)
 
+-- expressions within one another
 pub expression-sound : (limit : ℕ) → 0 < limit → (f : ℕ) (ws : List Word) → Holds (Sound Inline (cut limit) IsExpr ws) (expression limit f ws)
 expression-sound limit some zero ws = tt
 expression-sound limit some (suc f) ws = conditionals-sound limit some (expression limit f) (expression-sound limit some f) (suc (length ws)) ws

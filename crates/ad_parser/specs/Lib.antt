@@ -1,10 +1,13 @@
 pub mod Answers
 pub mod Chains
+pub mod Counts
 pub mod Grammar
 pub mod Heights
 pub mod Limits
+pub mod Made
 pub mod Meaning
 pub mod Nodes
+pub mod OneAnswer
 pub mod Parts
 pub mod Quotes
 pub mod Rules

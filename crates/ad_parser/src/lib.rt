@@ -2,11 +2,15 @@
 #![tactic(auto)]
 
 mod chains;
+mod conversion;
+mod counting;
 mod fault;
 mod grammar;
 mod joining;
+mod laws;
 mod literal;
 mod mark;
+mod nesting;
 mod node;
 mod number;
 mod operators;
@@ -18,3 +22,7 @@ mod symbol;
 mod word;
 
 pub use fault::ParseFault;
+pub use laws::{
+    parsed_ads_are_kept, parsed_phrases_are_kept, texts_have_one_answer, texts_spell_parsed_trees,
+    words_are_read_by_the_grammar, words_make_parsed_trees, words_spell_one_tree,
+};

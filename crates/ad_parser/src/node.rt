@@ -41,7 +41,7 @@ pub struct Definition {
 }
 
 impl Nodes {
-    ghost use Rattle.std.specs.Prelude.{◌≡◌, ◌++◌, ◌∷◌, [], OnOk, IfOk};
+    ghost use Rattle.std.specs.Prelude.{◌≡◌, ◌<◌, ◌++◌, ◌∷◌, [], length, slice_get, Some, OnOk, IfOk};
     ghost use Rattle.ad_parser.specs.Nodes.{inline, inlines};
 
     pub fn new(alloc: Global) -> Nodes
@@ -59,6 +59,19 @@ impl Nodes {
         Ok(())
     }
 
+    pub fn len(&self) -> usize
+        ensures { result ≡ length (inlines self.now) }
+    {
+        self.items.len()
+    }
+
+    pub fn at(&self, i: usize) -> &Node
+        requires { i < length (inlines self.now) }
+        ensures { slice_get (inlines self.now) i ≡ Some (inline result.now) }
+    {
+        &self.items[i]
+    }
+
     pub fn pair(alloc: Global, first: Node, second: Node) -> Result<Nodes, OutOfMemory>
         ensures { IfOk result (λ nodes. inlines nodes ≡ inline first ∷ inline second ∷ []) }
     {
@@ -70,7 +83,7 @@ impl Nodes {
 }
 
 impl Definitions {
-    ghost use Rattle.std.specs.Prelude.{◌≡◌, ◌++◌, ◌∷◌, [], OnOk};
+    ghost use Rattle.std.specs.Prelude.{◌≡◌, ◌<◌, ◌++◌, ◌∷◌, [], length, slice_get, Some, OnOk};
     ghost use Rattle.ad_parser.specs.Nodes.{inline, definitions};
 
     pub fn new(alloc: Global) -> Definitions
@@ -86,5 +99,18 @@ impl Definitions {
     {
         self.items.push(Definition { name, node })?;
         Ok(())
+    }
+
+    pub fn len(&self) -> usize
+        ensures { result ≡ length (definitions self.now) }
+    {
+        self.items.len()
+    }
+
+    pub fn at(&self, i: usize) -> &Definition
+        requires { i < length (definitions self.now) }
+        ensures { slice_get (definitions self.now) i ≡ Some (result.now.name, inline result.now.node) }
+    {
+        &self.items[i]
     }
 }

@@ -1,13 +1,15 @@
-mod AnswerLemmas
+pub mod AnswerLemmas
 mod ChainLemmas
 mod CompleteLemmas
+mod ConversionLemmas
+mod CountLemmas
 pub mod CutLemmas
 mod Follows
 pub mod GrammarLaws
 pub mod KeptLemmas
+mod ListLemmas
 pub mod MadeLemmas
 pub mod MadeWordLemmas
-mod Measures
 mod NodeLemmas
 mod QuoteLemmas
 mod ReaderLemmas

@@ -1,6 +1,8 @@
 pub mod Answers
 pub mod Chains
+pub mod Converted
 pub mod Counts
+pub mod Faults
 pub mod Grammar
 pub mod Heights
 pub mod Limits
@@ -13,4 +15,5 @@ pub mod Quotes
 pub mod Rules
 pub mod Shapes
 pub mod Steps
+pub mod Taking
 pub mod Words

@@ -1,24 +1,44 @@
-// The parser's own tree becomes expressions and the frames of a draft, in the order of the opening brackets.
-ghost use Rattle.std.specs.Prelude.{◌≡◌, ◌<◌, ◌≤◌, ℕ, List, length, IfOk};
+// A tree with its ad literals in place becomes an ad: each ad literal opens a frame of a draft, and its definitions are
+// made there one after another.
+ghost use Rattle.std.specs.Prelude.{◌≡◌, ◌<◌, length, IfOk, OnOk};
+ghost use Rattle.ad_tree.specs.Ad.{ad_frames};
 ghost use Rattle.ad_tree.specs.Draft.{draft_frames};
-ghost use Rattle.ad_tree.specs.Frames.{Frame};
-ghost use Rattle.ad_tree.specs.Inline.{end, next, no_defs, inner};
-ghost use Rattle.ad_tree.specs.Placed.{IsPlaced, AreAllPlaced, HasDefined};
-ghost use Rattle.ad_tree.specs.Tree.{tree, trees, pack as pack_trees, none, more};
-ghost use Rattle.ad_parser.specs.Nodes.{inline, inlines, definitions, pack, pack_definitions};
+ghost use Rattle.ad_tree.specs.Inline.{inner, next, end, ad_of, phrase_of, phrase_tree};
+ghost use Rattle.ad_tree.specs.Placed.{IsPlaced, AreAllPlaced};
+ghost use Rattle.ad_tree.specs.Tree.{tree, trees, frame as frame_numbered, pack as pack_trees, none, more};
+ghost use Rattle.ad_parser.specs.Converted.{Completes};
+ghost use Rattle.ad_parser.specs.Nodes.{inline, inlines, definitions as definitions_of, pack, pack_definitions};
 
 use crate::literal::copy_literal;
 use crate::node::{Definitions, Node, Nodes};
-use ad_tree::{Draft, Expr, Exprs};
+use ad_tree::{Ad, Draft, Expr, Exprs, Phrase};
 use pool_text::OutOfMemory;
 use std::alloc::Global;
 
-/// The expression of a tree that stands in the frame `parent`.
-#[cycle(conversion)]
-pub fn convert(alloc: Global, draft: &mut Draft, parent: u32, node: &Node) -> Result<Expr, OutOfMemory>
+/// The ad of these definitions.
+pub fn convert_ad(alloc: Global, definitions: &Definitions) -> Result<Ad, OutOfMemory>
+    ensures { IfOk result (λ ad. ad_frames ad ≡ ad_of (inner (pack_definitions (definitions_of definitions.now)))) }
+{
+    let mut draft = Draft::new(alloc);
+    define_all(alloc, &mut draft, 0, definitions)?;
+    draft.finish()
+}
+
+/// The tree as an expression that stands alone, with the ad of its ad literals.
+pub fn convert_phrase(alloc: Global, node: &Node) -> Result<Phrase, OutOfMemory>
+    ensures { IfOk result (λ phrase.
+        (ad_frames phrase.ad ≡ phrase_of (inline node.now)) × (tree phrase.expr ≡ phrase_tree (inline node.now))) }
+{
+    let mut draft = Draft::new(alloc);
+    let expr = convert(alloc, &mut draft, 0, node)?;
+    draft.finish_phrase(expr)
+}
+
+/// The expression of a tree that stands in the frame `parent`. Its ad literals are added to the draft.
+#[cycle(converting)]
+fn convert(alloc: Global, draft: &mut Draft, parent: u32, node: &Node) -> Result<Expr, OutOfMemory>
     requires { parent < length (draft_frames draft.old) }
-    ensures placed { IfOk result (λ expr. IsPlaced parent (inline node.now) (tree expr) (draft_frames draft.old) (draft_frames draft.new)) }
-    ensures longer { IfOk result (λ expr. length (draft_frames draft.old) ≤ length (draft_frames draft.new)) }
+    ensures { IfOk result (λ expr. IsPlaced parent (inline node.now) (tree expr) (draft_frames draft.old) (draft_frames draft.new)) }
 {
     match node {
         Node::Literal(literal) => Ok(Expr::Literal(copy_literal(literal)?)),
@@ -28,8 +48,8 @@ pub fn convert(alloc: Global, draft: &mut Draft, parent: u32, node: &Node) -> Re
             let (a, b) = convert_two(alloc, draft, parent, a, b)?;
             Ok(Expr::Binary(*op, a, b))
         }
-        Node::And(list) => Ok(Expr::And(convert_all(alloc, draft, parent, list)?)),
-        Node::Or(list) => Ok(Expr::Or(convert_all(alloc, draft, parent, list)?)),
+        Node::And(nodes) => Ok(Expr::And(convert_all(alloc, draft, parent, nodes)?)),
+        Node::Or(nodes) => Ok(Expr::Or(convert_all(alloc, draft, parent, nodes)?)),
         Node::Choice(a, b, c) => {
             let (a, b, c) = convert_three(alloc, draft, parent, (a, b, c))?;
             Ok(Expr::Cond(a, b, c))
@@ -42,26 +62,30 @@ pub fn convert(alloc: Global, draft: &mut Draft, parent: u32, node: &Node) -> Re
             let (a, b) = convert_two(alloc, draft, parent, a, b)?;
             Ok(Expr::Subscript(a, b))
         }
-        Node::Call(name, list) => {
-            let list = convert_all(alloc, draft, parent, list)?;
+        Node::Call(name, nodes) => {
+            let list = convert_all(alloc, draft, parent, nodes)?;
             Ok(Expr::Call(name.copy()?, list))
         }
-        Node::List(list) => Ok(Expr::List(convert_all(alloc, draft, parent, list)?)),
-        Node::Ad(list) => convert_ad(alloc, draft, parent, list),
+        Node::List(nodes) => Ok(Expr::List(convert_all(alloc, draft, parent, nodes)?)),
+        Node::Ad(definitions) => Ok(Expr::Frame(open(alloc, draft, parent, definitions)?)),
     }
 }
 
-#[cycle(conversion)]
-fn convert_boxed(alloc: Global, draft: &mut Draft, parent: u32, node: &Node) -> Result<Box<Expr>, OutOfMemory>
+#[cycle(converting)]
+fn convert_boxed(
+    alloc: Global,
+    draft: &mut Draft,
+    parent: u32,
+    node: &Node,
+) -> Result<Box<Expr>, OutOfMemory>
     requires { parent < length (draft_frames draft.old) }
-    ensures placed { IfOk result (λ expr. IsPlaced parent (inline node.now) (tree expr.value) (draft_frames draft.old) (draft_frames draft.new)) }
-    ensures longer { IfOk result (λ expr. length (draft_frames draft.old) ≤ length (draft_frames draft.new)) }
+    ensures { IfOk result (λ expr. IsPlaced parent (inline node.now) (tree expr.value) (draft_frames draft.old) (draft_frames draft.new)) }
 {
     let expr = convert(alloc, draft, parent, node)?;
     Ok(Box::new(alloc, expr)?)
 }
 
-#[cycle(conversion)]
+#[cycle(converting)]
 fn convert_two(
     alloc: Global,
     draft: &mut Draft,
@@ -70,16 +94,15 @@ fn convert_two(
     b: &Node,
 ) -> Result<(Box<Expr>, Box<Expr>), OutOfMemory>
     requires { parent < length (draft_frames draft.old) }
-    ensures placed { IfOk result (λ exprs. AreAllPlaced parent (next (inline a.now) (next (inline b.now) end))
+    ensures { IfOk result (λ exprs. AreAllPlaced parent (next (inline a.now) (next (inline b.now) end))
         (more (tree exprs.0.value) (more (tree exprs.1.value) none)) (draft_frames draft.old) (draft_frames draft.new)) }
-    ensures longer { IfOk result (λ exprs. length (draft_frames draft.old) ≤ length (draft_frames draft.new)) }
 {
     let a = convert_boxed(alloc, draft, parent, a)?;
     let b = convert_boxed(alloc, draft, parent, b)?;
     Ok((a, b))
 }
 
-#[cycle(conversion)]
+#[cycle(converting)]
 fn convert_three(
     alloc: Global,
     draft: &mut Draft,
@@ -87,11 +110,10 @@ fn convert_three(
     nodes: (&Node, &Node, &Node),
 ) -> Result<(Box<Expr>, Box<Expr>, Box<Expr>), OutOfMemory>
     requires { parent < length (draft_frames draft.old) }
-    ensures placed { IfOk result (λ exprs. AreAllPlaced parent
+    ensures { IfOk result (λ exprs. AreAllPlaced parent
         (next (inline nodes.entry.0.now) (next (inline nodes.entry.1.now) (next (inline nodes.entry.2.now) end)))
         (more (tree exprs.0.value) (more (tree exprs.1.value) (more (tree exprs.2.value) none)))
         (draft_frames draft.old) (draft_frames draft.new)) }
-    ensures longer { IfOk result (λ exprs. length (draft_frames draft.old) ≤ length (draft_frames draft.new)) }
 {
     let (a, b, c) = nodes;
     let a = convert_boxed(alloc, draft, parent, a)?;
@@ -99,12 +121,16 @@ fn convert_three(
     Ok((a, b, c))
 }
 
-#[cycle(conversion)]
-fn convert_all(alloc: Global, draft: &mut Draft, parent: u32, nodes: &Nodes) -> Result<Exprs, OutOfMemory>
+#[cycle(converting)]
+fn convert_all(
+    alloc: Global,
+    draft: &mut Draft,
+    parent: u32,
+    nodes: &Nodes,
+) -> Result<Exprs, OutOfMemory>
     requires { parent < length (draft_frames draft.old) }
-    ensures placed { IfOk result (λ exprs. AreAllPlaced parent (pack (inlines nodes.now)) (pack_trees (trees exprs))
+    ensures { IfOk result (λ exprs. AreAllPlaced parent (pack (inlines nodes.now)) (pack_trees (trees exprs))
         (draft_frames draft.old) (draft_frames draft.new)) }
-    ensures longer { IfOk result (λ exprs. length (draft_frames draft.old) ≤ length (draft_frames draft.new)) }
 {
     let mut exprs = Exprs::new(alloc);
     for i in 0..nodes.len() {
@@ -114,26 +140,34 @@ fn convert_all(alloc: Global, draft: &mut Draft, parent: u32, nodes: &Nodes) -> 
     Ok(exprs)
 }
 
-#[cycle(conversion)]
-fn convert_ad(alloc: Global, draft: &mut Draft, parent: u32, list: &Definitions) -> Result<Expr, OutOfMemory>
+/// Adds a frame for an ad literal, with its definitions, and answers its number.
+#[cycle(converting)]
+fn open(
+    alloc: Global,
+    draft: &mut Draft,
+    parent: u32,
+    list: &Definitions,
+) -> Result<u32, OutOfMemory>
     requires { parent < length (draft_frames draft.old) }
-    ensures placed { IfOk result (λ expr. IsPlaced parent (inner (pack_definitions (definitions list.now))) (tree expr)
+    ensures { IfOk result (λ number. IsPlaced parent (inner (pack_definitions (definitions_of list.now))) (frame_numbered number)
         (draft_frames draft.old) (draft_frames draft.new)) }
-    ensures longer { IfOk result (λ expr. length (draft_frames draft.old) ≤ length (draft_frames draft.new)) }
 {
     let frame = draft.frame(parent)?;
     define_all(alloc, draft, frame, list)?;
-    Ok(Expr::Frame(frame))
+    Ok(frame)
 }
 
-/// Makes the definitions in a frame that was added last and has none.
-#[cycle(conversion)]
-pub fn define_all(alloc: Global, draft: &mut Draft, frame: u32, list: &Definitions) -> Result<(), OutOfMemory>
+/// Makes definitions in a frame, one after another.
+#[cycle(converting)]
+fn define_all(
+    alloc: Global,
+    draft: &mut Draft,
+    frame: u32,
+    list: &Definitions,
+) -> Result<(), OutOfMemory>
     requires { frame < length (draft_frames draft.old) }
-    ensures defined { IfOk result (λ done. (parent : ℕ) (before : List Frame) → frame ≡ length before
-        → HasDefined parent no_defs before (draft_frames draft.old)
-        → HasDefined parent (pack_definitions (definitions list.now)) before (draft_frames draft.new)) }
-    ensures longer { IfOk result (λ done. length (draft_frames draft.old) ≤ length (draft_frames draft.new)) }
+    ensures { OnOk result (Completes frame (pack_definitions (definitions_of list.now))
+        (draft_frames draft.old) (draft_frames draft.new)) }
 {
     for i in 0..list.len() {
         let definition = list.at(i);

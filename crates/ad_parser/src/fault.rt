@@ -1,5 +1,11 @@
 // What may be wrong with a text.
-use ad_lexer::LexKind;
+ghost use Rattle.std.specs.Prelude.{◌≡◌};
+ghost use Rattle.ad_parser.specs.Faults.{of_lexical, of_stop};
+ghost use Rattle.ad_parser.specs.declared.fault.ParseFault.TheVariants as faults;
+
+use crate::stop::Stop;
+use ad_lexer::{LexFault, LexKind};
+use pool_text::OutOfMemory;
 use thiserror::Error;
 
 /// Why a text is no ad or no expression. Where several reasons hold, the first of this order is told; `OutOfMemory` may
@@ -26,4 +32,34 @@ pub enum ParseFault {
     Attributes,
     #[error("out of memory")]
     OutOfMemory,
+}
+
+impl From<LexFault> for ParseFault {
+    ghost from_gives = { λ lexical fault. fault ≡ of_lexical lexical };
+
+    fn from(fault: LexFault) -> Self {
+        match fault {
+            LexFault::At { kind, place } => ParseFault::Lex { kind, place },
+            LexFault::OutOfMemory => ParseFault::OutOfMemory,
+        }
+    }
+}
+
+impl From<Stop> for ParseFault {
+    ghost from_gives = { λ stop fault. fault ≡ of_stop stop };
+
+    fn from(stop: Stop) -> Self {
+        match stop {
+            Stop::Grammar => ParseFault::Grammar,
+            Stop::OutOfMemory => ParseFault::OutOfMemory,
+        }
+    }
+}
+
+impl From<OutOfMemory> for ParseFault {
+    ghost from_gives = { λ _ fault. fault ≡ faults.OutOfMemory };
+
+    fn from(_: OutOfMemory) -> Self {
+        ParseFault::OutOfMemory
+    }
 }

@@ -30,7 +30,7 @@ const LOOSEST: usize = 10;
 
 /// An expression.
 #[cycle(grammar)]
-pub fn expression(alloc: Global, reader: &mut Reader<'_>, fuel: usize) -> Result<Part, Stop>
+pub fn expression(alloc: Global, reader: &mut Reader<'_, '_>, fuel: usize) -> Result<Part, Stop>
     ensures { Gives part (rules.expression height_limit fuel (left reader.old)) result (left reader.new) }
 {
     if fuel == 0 {
@@ -41,7 +41,7 @@ pub fn expression(alloc: Global, reader: &mut Reader<'_>, fuel: usize) -> Result
 
 /// A conditional, or what binds tighter.
 #[cycle(grammar)]
-fn conditionals(alloc: Global, reader: &mut Reader<'_>, fuel: usize) -> Result<Part, Stop>
+fn conditionals(alloc: Global, reader: &mut Reader<'_, '_>, fuel: usize) -> Result<Part, Stop>
     ensures { Gives part (rules.conditionals height_limit (rules.expression height_limit fuel)
         (suc (length (left reader.old))) (left reader.old)) result (left reader.new) }
 {
@@ -64,7 +64,7 @@ fn conditionals(alloc: Global, reader: &mut Reader<'_>, fuel: usize) -> Result<P
 #[cycle(grammar)]
 fn level(
     alloc: Global,
-    reader: &mut Reader<'_>,
+    reader: &mut Reader<'_, '_>,
     fuel: usize,
     looseness: usize,
 ) -> Result<Part, Stop>
@@ -83,7 +83,7 @@ fn level(
 #[cycle(grammar)]
 fn operations(
     alloc: Global,
-    reader: &mut Reader<'_>,
+    reader: &mut Reader<'_, '_>,
     fuel: usize,
     looseness: usize,
     first: Part,
@@ -109,7 +109,7 @@ fn operations(
 
 /// Operators before an operand.
 #[cycle(grammar)]
-fn prefixes(alloc: Global, reader: &mut Reader<'_>, fuel: usize) -> Result<Part, Stop>
+fn prefixes(alloc: Global, reader: &mut Reader<'_, '_>, fuel: usize) -> Result<Part, Stop>
     ensures { Gives part (rules.prefixes height_limit (rules.expression height_limit fuel) (left reader.old))
         result (left reader.new) }
 {
@@ -120,7 +120,7 @@ fn prefixes(alloc: Global, reader: &mut Reader<'_>, fuel: usize) -> Result<Part,
 
 /// A primary with selections and subscripts behind it.
 #[cycle(grammar)]
-fn postfix(alloc: Global, reader: &mut Reader<'_>, fuel: usize) -> Result<Part, Stop>
+fn postfix(alloc: Global, reader: &mut Reader<'_, '_>, fuel: usize) -> Result<Part, Stop>
     ensures { Gives part (rules.postfix height_limit (rules.expression height_limit fuel) (left reader.old))
         result (left reader.new) }
 {
@@ -132,7 +132,7 @@ fn postfix(alloc: Global, reader: &mut Reader<'_>, fuel: usize) -> Result<Part, 
 #[cycle(grammar)]
 fn suffixes(
     alloc: Global,
-    reader: &mut Reader<'_>,
+    reader: &mut Reader<'_, '_>,
     fuel: usize,
     base: Part,
 ) -> Result<Part, Stop>
@@ -159,7 +159,7 @@ fn suffixes(
 
 /// What needs no operator.
 #[cycle(grammar)]
-fn primary(alloc: Global, reader: &mut Reader<'_>, fuel: usize) -> Result<Part, Stop>
+fn primary(alloc: Global, reader: &mut Reader<'_, '_>, fuel: usize) -> Result<Part, Stop>
     ensures { Gives part (rules.primary height_limit (rules.expression height_limit fuel) (left reader.old))
         result (left reader.new) }
 {
@@ -186,7 +186,7 @@ fn primary(alloc: Global, reader: &mut Reader<'_>, fuel: usize) -> Result<Part, 
 
 /// A primary that begins with a mark, behind it.
 #[cycle(grammar)]
-fn marked(alloc: Global, reader: &mut Reader<'_>, fuel: usize, mark: Mark) -> Result<Part, Stop>
+fn marked(alloc: Global, reader: &mut Reader<'_, '_>, fuel: usize, mark: Mark) -> Result<Part, Stop>
     ensures { Gives part (rules.primary height_limit (rules.expression height_limit fuel) (mark_word mark ∷ left reader.old))
         result (left reader.new) }
 {
@@ -205,7 +205,7 @@ fn marked(alloc: Global, reader: &mut Reader<'_>, fuel: usize, mark: Mark) -> Re
 
 /// A plain name, a call, or a name in a scope.
 #[cycle(grammar)]
-fn plain(alloc: Global, reader: &mut Reader<'_>, fuel: usize, text: &[u8]) -> Result<Part, Stop>
+fn plain(alloc: Global, reader: &mut Reader<'_, '_>, fuel: usize, text: &[u8]) -> Result<Part, Stop>
     ensures { Gives part (rules.plain_at height_limit (rules.expression height_limit fuel) text.now (left reader.old))
         result (left reader.new) }
 {
@@ -218,7 +218,7 @@ fn plain(alloc: Global, reader: &mut Reader<'_>, fuel: usize, text: &[u8]) -> Re
 
 /// The arguments of a call behind its opening mark.
 #[cycle(grammar)]
-fn arguments(alloc: Global, reader: &mut Reader<'_>, fuel: usize) -> Result<Parts, Stop>
+fn arguments(alloc: Global, reader: &mut Reader<'_, '_>, fuel: usize) -> Result<Parts, Stop>
     ensures { Gives (λ p. cut_before (parts p) (Some end)) (rules.arguments (rules.expression height_limit fuel) (left reader.old))
         result (left reader.new) }
 {
@@ -232,7 +232,7 @@ fn arguments(alloc: Global, reader: &mut Reader<'_>, fuel: usize) -> Result<Part
 
 /// The elements of a list behind its opening mark.
 #[cycle(grammar)]
-fn elements(alloc: Global, reader: &mut Reader<'_>, fuel: usize) -> Result<Parts, Stop>
+fn elements(alloc: Global, reader: &mut Reader<'_, '_>, fuel: usize) -> Result<Parts, Stop>
     ensures { Gives (λ p. cut_before (parts p) (Some end)) (rules.elements (rules.expression height_limit fuel) (left reader.old))
         result (left reader.new) }
 {
@@ -246,7 +246,7 @@ fn elements(alloc: Global, reader: &mut Reader<'_>, fuel: usize) -> Result<Parts
 
 /// One expression or more, divided by commas.
 #[cycle(grammar)]
-fn several(alloc: Global, reader: &mut Reader<'_>, fuel: usize) -> Result<Parts, Stop>
+fn several(alloc: Global, reader: &mut Reader<'_, '_>, fuel: usize) -> Result<Parts, Stop>
     ensures { Gives (λ p. cut_before (parts p) (Some end))
         (rules.several (rules.expression height_limit fuel) (length (left reader.old)) (left reader.old))
         result (left reader.new) }
@@ -266,7 +266,7 @@ fn several(alloc: Global, reader: &mut Reader<'_>, fuel: usize) -> Result<Parts,
 
 /// The definitions of an ad behind its opening mark.
 #[cycle(grammar)]
-pub fn definitions(alloc: Global, reader: &mut Reader<'_>, fuel: usize) -> Result<DefinitionParts, Stop>
+pub fn definitions(alloc: Global, reader: &mut Reader<'_, '_>, fuel: usize) -> Result<DefinitionParts, Stop>
     ensures { Gives (λ p. cut_defined_before (definition_parts p) (Some no_defs))
         (rules.ad_behind (rules.expression height_limit fuel) (left reader.old)) result (left reader.new) }
 {
@@ -277,7 +277,7 @@ pub fn definitions(alloc: Global, reader: &mut Reader<'_>, fuel: usize) -> Resul
 }
 
 #[cycle(grammar)]
-fn some_definitions(alloc: Global, reader: &mut Reader<'_>, fuel: usize) -> Result<DefinitionParts, Stop>
+fn some_definitions(alloc: Global, reader: &mut Reader<'_, '_>, fuel: usize) -> Result<DefinitionParts, Stop>
     ensures { Gives (λ p. cut_defined_before (definition_parts p) (Some no_defs))
         (rules.definitions_at (rules.expression height_limit fuel) (length (left reader.old)) (left reader.old))
         result (left reader.new) }
@@ -298,7 +298,7 @@ fn some_definitions(alloc: Global, reader: &mut Reader<'_>, fuel: usize) -> Resu
 }
 
 /// A plain name, where no call begins, or a name in a scope.
-fn named(alloc: Global, reader: &mut Reader<'_>, text: &[u8]) -> Result<Part, Stop>
+fn named(alloc: Global, reader: &mut Reader<'_, '_>, text: &[u8]) -> Result<Part, Stop>
     ensures { Gives part (reference text.now (left reader.old)) result (left reader.new) }
 {
     let Some(scope) = scope_of(text) else {

@@ -3,7 +3,7 @@
 
 mod chains;
 mod conversion;
-mod counting;
+mod count;
 mod fault;
 mod grammar;
 mod joining;
@@ -14,6 +14,7 @@ mod nesting;
 mod node;
 mod number;
 mod operators;
+mod parse;
 mod part;
 mod quoted;
 mod reader;
@@ -26,3 +27,4 @@ pub use laws::{
     parsed_ads_are_kept, parsed_phrases_are_kept, texts_have_one_answer, texts_spell_parsed_trees,
     words_are_read_by_the_grammar, words_make_parsed_trees, words_spell_one_tree,
 };
+pub use parse::{parse_ad, parse_expr};

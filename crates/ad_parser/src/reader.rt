@@ -10,14 +10,14 @@ use pool_text::{Text, UnOp};
 use std::alloc::Global;
 
 /// The words of a text from a place on.
-#[derive(Debug)]
-pub struct Reader<'a> {
-    words: &'a [Word<'a>],
+#[derive(Debug, Drop)]
+pub struct Reader<'a, 'b> {
+    words: &'a [Word<'b>],
     at: usize,
     ghost within: { at ≤ length words.now },
 }
 
-impl<'a> Reader<'a> {
+impl<'a, 'b> Reader<'a, 'b> {
     ghost use Rattle.std.specs.Prelude.{◌≡◌, ◌∷◌, ℕ, List, drop, length, map, option_map, Some, None, Ok, Err};
     ghost use Rattle.std.specs.Bool.{Decides};
     ghost use Rattle.ad_parser.specs.Meaning.{meaning};
@@ -28,7 +28,7 @@ impl<'a> Reader<'a> {
     ghost use Rattle.ad_parser.specs.declared.stop.Stop.{Stop};
 
     /// The place in front of the first word.
-    pub fn new(words: &'a [Word<'a>]) -> Reader<'a>
+    pub fn new(words: &'a [Word<'b>]) -> Reader<'a, 'b>
         ensures { left result ≡ map meaning words.now }
     {
         Reader { words, at: 0 }
@@ -41,7 +41,7 @@ impl<'a> Reader<'a> {
         self.words.len() - self.at
     }
 
-    pub fn peek(&self) -> Option<&'a Word<'a>>
+    pub fn peek(&self) -> Option<&'a Word<'b>>
         ensures { option_map (λ w. meaning w.now) result ≡ front (left self.now) }
     {
         self.words.get(self.at)

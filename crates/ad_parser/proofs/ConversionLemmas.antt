@@ -1,0 +1,88 @@
+-- The steps of the conversion of trees into a draft.
+use Rattle.std.proofs.Common.{refl, arith, ◌≡◌, ◌≤◌, ◌<◌, ℕ, zero, suc, ◌+◌, List, [], ◌∷◌, ◌++◌, length, map, take, ap, sym, ◌∙◌, subst, Some, slice_get, Result, Ok, Err, IfOk}
+use Rattle.ad_tree.specs.Tree.{Tree, Trees, frame, pack as pack_trees}
+use Rattle.ad_tree.specs.Frames.{Frame, empty_frame, defined, settled_frame}
+use Rattle.ad_tree.specs.Inline.{Inline, Inlines, inner, Defs, no_defs, frames, spelled, spelled_tree, number, ad_of, phrase_of, phrase_tree}
+use Rattle.ad_tree.specs.Placed.{IsPlaced, AreAllPlaced, HasDefined}
+use Rattle.ad_tree.proofs.InlineLemmas.{next_last, def_last, pack-push}
+use Rattle.ad_tree.proofs.PlacedLemmas.{length-placed, length-all_placed, last-placed, new-defined, next-defined, defined-placed}
+use Rattle.ad_tree.proofs.SpellingLemmas.{ad_of-finished, phrase_of-finished}
+use Rattle.ad_parser.specs.Converted.{Completes}
+use Rattle.ad_parser.specs.Nodes.{pack, pack_definitions}
+use Rattle.ad_parser.proofs.ListLemmas.{take-next, pack-last, pack_definitions-last}
+
+-- one tree of a list more is placed
+pub list-converted : {p : ℕ} (is : List Inline) (j : ℕ) (i : Inline) (us vs : List Tree) (t : Tree) {before between after : List Frame}
+    → slice_get is j ≡ Some i → vs ≡ us ++ t ∷ []
+    → AreAllPlaced p (pack (take j is)) (pack_trees us) before between → IsPlaced p i t between after
+    → AreAllPlaced p (pack (take (j + 1) is)) (pack_trees vs) before after
+list-converted {p} is j i us vs t {before} {between} {after} at push h one =
+    subst (λ xs. AreAllPlaced p xs (pack_trees vs) before after)
+    (sym (ap pack (take-next is j i at) ∙ pack-last (take j is) i))
+    (subst (λ cs. AreAllPlaced p (next_last (pack (take j is)) i) cs before after)
+    (sym (ap pack_trees push ∙ pack-push us t))
+    (last-placed h one))
+
+-- no definitions yet
+pub nothing-completed : (f : ℕ) (before : List Frame) → f < length before → Completes f no_defs before before
+nothing-completed f before h = record {
+  completed = λ parent others e at. subst (HasDefined parent no_defs others) (sym e) (new-defined parent others);
+  there = h;
+}
+
+-- one definition more
+next-completed : {f : ℕ} {ds : Defs} (name : List ℕ) {i : Inline} {t : Tree} {before between placed after : List Frame}
+    → Completes f ds before between → IsPlaced f i t between placed → after ≡ defined placed f name t → length after ≡ length placed
+    → Completes f (def_last ds name i) before after
+next-completed {f} {ds} name {i} {t} {before} {between} {placed} {after} h k e same = record {
+  completed = λ parent others b at. next-defined name (h.completed parent others b at)
+      (subst (λ n. IsPlaced n i t between placed) at k) (e ∙ ap (λ n. defined placed n name t) at);
+  there = omega (arith, h.there, length-placed k, same);
+}
+
+pub definition-converted : {f : ℕ} (ds : List (List ℕ × Inline)) (j : ℕ) (name : List ℕ) (i : Inline) (t : Tree) {before between placed after : List Frame}
+    → slice_get ds j ≡ Some (name, i)
+    → Completes f (pack_definitions (take j ds)) before between → IsPlaced f i t between placed → after ≡ defined placed f name t → length after ≡ length placed
+    → Completes f (pack_definitions (take (j + 1) ds)) before after
+definition-converted {f} ds j name i t {before} {between} {placed} {after} at h k e same =
+    subst (λ es. Completes f es before after)
+    (sym (ap pack_definitions (take-next ds j (name, i) at) ∙ pack_definitions-last (take j ds) name i))
+    (next-completed name h k e same)
+
+-- an ad literal with all its definitions is placed
+pub frame-converted : (parent n : ℕ) {ds : Defs} {before pushed after : List Frame}
+    → n ≡ length before → pushed ≡ before ++ empty_frame parent ∷ [] → Completes n ds pushed after → IsPlaced parent (inner ds) (frame n) before after
+frame-converted parent n {ds} {before} {pushed} {after} at push h =
+    subst (λ m. IsPlaced parent (inner ds) (frame m) before after) (sym at) (defined-placed (h.completed parent before push at))
+
+-- a draft with all its definitions is finished as their ad
+pub ad-converted : (ds : Defs) {new filled result : List Frame} → new ≡ empty_frame 0 ∷ [] → Completes 0 ds new filled → result ≡ frames 0 0 (spelled filled) → result ≡ ad_of (inner ds)
+ad-converted ds {new} {filled} e h r =
+    r ∙ ad_of-finished ds (h.completed 0 [] e refl).defined
+
+-- and one with an expression as the expression's phrase
+module _ (i : Inline) (t : Tree) {new filled : List Frame} (e : new ≡ empty_frame 0 ∷ []) (h : IsPlaced 0 i t new filled) where
+  filled-settled : filled ≡ empty_frame 0 ∷ map settled_frame (frames 0 1 i)
+  filled-settled = h.opened ∙ ap (λ fs. fs ++ map settled_frame (frames 0 (length fs) i)) e
+
+  numbered : t ≡ number 1 i
+  numbered = h.copied ∙ ap (λ fs. number (length fs) i) e
+
+  pub phrase-converted : {result : List Frame} → result ≡ empty_frame 0 ∷ frames 0 1 (spelled_tree filled t) → result ≡ phrase_of i
+  phrase-converted r = r ∙ ap (λ u. empty_frame 0 ∷ frames 0 1 (spelled_tree filled u)) numbered ∙ (phrase_of-finished i filled-settled).0
+
+  pub phrase_tree-converted : {result : Tree} → result ≡ number 1 (spelled_tree filled t) → result ≡ phrase_tree i
+  phrase_tree-converted r = r ∙ ap (λ u. number 1 (spelled_tree filled u)) numbered ∙ (phrase_of-finished i filled-settled).1
+
+-- what an Ok tells, told on
+pub if_ok : {A E : Type 0} (r : Result A E) {P Q : A → Type 0} → ((a : A) → P a → Q a) → IfOk r P → IfOk r Q
+if_ok (Ok a) f h = f a h
+if_ok (Err e) f h = h
+
+pub if_ok_both : {A E : Type 0} (r : Result A E) {P Q R : A → Type 0} → ((a : A) → P a → Q a → R a) → IfOk r P → IfOk r Q → IfOk r R
+if_ok_both (Ok a) f h k = f a h k
+if_ok_both (Err e) f h k = h
+
+-- a frame that is there stays
+pub stays-there : {n p : ℕ} {is : Inlines} {ts : Trees} {before after : List Frame} → n < length before → AreAllPlaced p is ts before after → n < length after
+stays-there h placed = omega (arith, h, length-all_placed placed)

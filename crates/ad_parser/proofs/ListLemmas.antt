@@ -1,0 +1,52 @@
+-- The parser's lists of trees, item by item.
+use Rattle.std.proofs.Common.{refl, arith, ◌≡◌, ◌≤◌, ℕ, zero, suc, ◌+◌, max, List, [], ◌∷◌, ◌++◌, map, take, ap, sym, ◌∙◌, Some, slice_get, add-one}
+use Rattle.ad_tree.specs.Inline.{Inline, Inlines, Defs, next, def, height, highest, highest_def}
+use Rattle.ad_tree.proofs.InlineLemmas.{next_last, def_last}
+use Rattle.ad_parser.specs.declared.node.Node.{Node}
+use Rattle.ad_parser.specs.declared.node.Nodes.{Nodes, fold_out-Nodes}
+use Rattle.ad_parser.specs.declared.node.Definition.{Definition, fold_out-Definition}
+use Rattle.ad_parser.specs.declared.node.Definitions.{Definitions, out-Definitions, fold_out-Definitions}
+use Rattle.ad_parser.specs.Nodes.{inline, inlines, definitions, layer, pack, pack_definitions}
+
+-- equal functions map alike
+map-same : {A B : Type 0} (f g : A → B) → ((a : A) → f a ≡ g a) → (xs : List A) → map f xs ≡ map g xs
+map-same f g h [] = refl
+map-same f g h (x ∷ xs) = ap (λ y. y ∷ map f xs) (h x) ∙ ap (λ ys. g x ∷ ys) (map-same f g h xs)
+
+-- lists are seen item by item
+pub inlines-items : (l : Nodes) → inlines l ≡ map inline l.items.items
+inlines-items l = fold_out-Nodes Inline (List ℕ × Inline) (List (List ℕ × Inline)) (List Inline) layer (λ d. (d.name, d.node)) (λ l. l.items.items) (λ l. l.items.items) l
+
+pub definitions-items : (l : Definitions) → definitions l ≡ map (λ d. (d.name, inline d.node)) (out-Definitions l).items.items
+definitions-items l =
+    fold_out-Definitions Inline (List ℕ × Inline) (List (List ℕ × Inline)) (List Inline) layer (λ d. (d.name, d.node)) (λ l. l.items.items) (λ l. l.items.items) l
+    ∙ map-same _ (λ d. (d.name, inline d.node)) (λ d. fold_out-Definition Inline (List ℕ × Inline) (List (List ℕ × Inline)) (List Inline) layer (λ d. (d.name, d.node)) (λ l. l.items.items) (λ l. l.items.items) d) (out-Definitions l).items.items
+
+-- one item more from the front
+pub take-next : {A : Type 0} (xs : List A) (j : ℕ) (x : A) → slice_get xs j ≡ Some x → take (j + 1) xs ≡ take j xs ++ x ∷ []
+take-next xs j x h = ap (λ n. take n xs) (add-one j) ∙ by xs j h
+  where
+    by : (ys : List _) (k : ℕ) → slice_get ys k ≡ Some x → take (suc k) ys ≡ take k ys ++ x ∷ []
+    by [] k e = absurd (cc)
+    by (y ∷ ys) zero e = let same : y ≡ x = cc in ap (λ z. z ∷ []) same
+    by (y ∷ ys) (suc k) e = ap (λ zs. y ∷ zs) (by ys k e)
+
+-- one tree and one definition more
+pub pack-last : (is : List Inline) (i : Inline) → pack (is ++ i ∷ []) ≡ next_last (pack is) i
+pack-last [] i = refl
+pack-last (h ∷ hs) i = ap (next h) (pack-last hs i)
+
+pub pack_definitions-last : (ds : List (List ℕ × Inline)) (name : List ℕ) (i : Inline) → pack_definitions (ds ++ (name, i) ∷ []) ≡ def_last (pack_definitions ds) name i
+pack_definitions-last [] name i = refl
+pack_definitions-last (d ∷ ds) name i = ap (def d.0 d.1) (pack_definitions-last ds name i)
+
+-- an item is no higher than its list
+pub height-at : (is : List Inline) (j : ℕ) (i : Inline) → slice_get is j ≡ Some i → height i ≤ highest (pack is)
+height-at [] j i e = absurd (cc)
+height-at (h ∷ hs) zero i e = let same : h ≡ i = cc in omega (arith, ap height same)
+height-at (h ∷ hs) (suc j) i e = omega (arith, height-at hs j i e)
+
+pub height-defined_at : (ds : List (List ℕ × Inline)) (j : ℕ) (d : List ℕ × Inline) → slice_get ds j ≡ Some d → height d.1 ≤ highest_def (pack_definitions ds)
+height-defined_at [] j d e = absurd (cc)
+height-defined_at (h ∷ hs) zero d e = let same : h ≡ d = cc in omega (arith, ap (λ x. height x.1) same)
+height-defined_at (h ∷ hs) (suc j) d e = omega (arith, height-defined_at hs j d e)

@@ -1,0 +1,27 @@
+use Rattle.std.proofs.Common.{◌≡◌, ◌+◌, ◌*◌, max, min, take}
+use Rattle.ad_tree.specs.Inline.{height, highest, highest_def, count_all, count_defs, definitions_all, definitions_in}
+use Rattle.ad_parser.specs.Counts.{counting_limit}
+use Rattle.ad_parser.specs.Nodes.{inline, inlines, definitions, pack, pack_definitions}
+use Rattle.ad_parser.proofs.count.+tallying.Given as goal
+
+abbrev pub decreases-tally : goal.decreases-tally
+decreases-tally l = 3 * height (inline l.node.now)
+
+abbrev pub decreases-tally_two : goal.decreases-tally_two
+decreases-tally_two l = 3 * max (height (inline l.a.now)) (height (inline l.b.now)) + 1
+
+abbrev pub decreases-tally_all : goal.decreases-tally_all
+decreases-tally_all l = 3 * highest (pack (inlines l.nodes.now)) + 1
+
+abbrev pub decreases-tally_definitions : goal.decreases-tally_definitions
+decreases-tally_definitions l = 3 * highest_def (pack_definitions (definitions l.list.now)) + 1
+
+abbrev pub invariant-tally_all-loop-i : goal.invariant-tally_all-loop-i
+invariant-tally_all-loop-i l =
+    (l.total.frames ≡ min counting_limit (count_all (pack (take l.i (inlines l.nodes)))))
+    × (l.total.definitions ≡ min counting_limit (definitions_all (pack (take l.i (inlines l.nodes)))))
+
+abbrev pub invariant-tally_definitions-loop-i : goal.invariant-tally_definitions-loop-i
+invariant-tally_definitions-loop-i l =
+    (l.total.frames ≡ min counting_limit (count_defs (pack_definitions (take l.i (definitions l.list)))))
+    × (l.total.definitions ≡ min counting_limit (definitions_in (pack_definitions (take l.i (definitions l.list)))))

@@ -1,0 +1,122 @@
+// Parsing a text: its tokens, their words, the tree that these spell, and the ad of the tree.
+ghost use Rattle.std.specs.Prelude.{◌≡◌, ◌<◌, ◌+◌, ◌^◌, length, map, min, Some, IfOk, IfErr};
+ghost use Rattle.ad_tree.specs.Inline.{no_defs};
+ghost use Rattle.ad_parser.specs.Answers.{AnswersAd, AnswersExpr};
+ghost use Rattle.ad_parser.specs.Limits.{height_limit};
+ghost use Rattle.ad_parser.specs.Meaning.{meaning};
+ghost use Rattle.ad_parser.specs.Parts.{part, definition_parts, cut_defined_before};
+ghost use Rattle.ad_parser.specs.Rules.{cut_ad, parsed_ad, parsed_expr};
+ghost use Rattle.ad_parser.specs.Taking.{IsShallow, IsEarlyFault, IsRead, IsCounted, literal_of};
+
+use crate::ParseFault;
+use crate::conversion::{convert_ad, convert_phrase};
+use crate::count::{Counts, tally, tally_definitions};
+use crate::grammar::{definitions, expression};
+use crate::mark::Mark;
+use crate::nesting::nests_too_deep;
+use crate::node::Definitions;
+use crate::part::{DefinitionParts, HEIGHT_LIMIT, Part};
+use crate::reader::Reader;
+use crate::stop::Stop;
+use crate::word::{Word, read_words};
+use ad_lexer::lex;
+use ad_tree::{Ad, Phrase};
+use std::alloc::Global;
+
+/// How many frames a text may spell, the root included.
+const FRAME_LIMIT: u32 = 64;
+
+/// How many definitions a text may spell, those that are replaced included.
+const DEFINITION_LIMIT: u32 = 1_024;
+
+/// The ad that a text spells, as `[name = expression; ..]` (ClassAd Language Reference Manual 2.4).
+pub fn parse_ad(alloc: Global, text: &[u8]) -> Result<Ad, ParseFault>
+    requires { length text.now < 2 ^ 32 }
+    ensures { AnswersAd text.now result }
+{
+    let words = shallow_words(alloc, text)?;
+    let Some(list) = read_ad(alloc, &words)? else {
+        return Err(ParseFault::Depth);
+    };
+    check_counts(tally_definitions(&list))?;
+    Ok(convert_ad(alloc, &list)?)
+}
+
+/// The expression that a text spells, with the ad of its ad literals.
+pub fn parse_expr(alloc: Global, text: &[u8]) -> Result<Phrase, ParseFault>
+    requires { length text.now < 2 ^ 32 }
+    ensures { AnswersExpr text.now result }
+{
+    let words = shallow_words(alloc, text)?;
+    let Part { node, .. } = read_expression(alloc, &words)?;
+    let Some(node) = node else {
+        return Err(ParseFault::Depth);
+    };
+    check_counts(tally(&node))?;
+    Ok(convert_phrase(alloc, &node)?)
+}
+
+/// The words of a text, where no more constructs are open at once than may be.
+fn shallow_words<'a>(alloc: Global, text: &'a [u8]) -> Result<Vec<Word<'a>>, ParseFault>
+    requires { length text.now < 2 ^ 32 }
+    ensures ok { IfOk result (λ words. IsShallow text.now (map meaning words.items)) }
+    ensures err { IfErr result (λ fault. IsEarlyFault text.now fault) }
+{
+    let tokens = lex(alloc, text)?;
+    let words = read_words(alloc, &tokens)?;
+    if nests_too_deep(&words) {
+        return Err(ParseFault::Nesting);
+    }
+    Ok(words)
+}
+
+/// The tree of words that are an expression.
+fn read_expression(alloc: Global, words: &[Word<'_>]) -> Result<Part, Stop>
+    ensures { IsRead part (parsed_expr height_limit (map meaning words.now)) result }
+{
+    let mut reader = Reader::new(words);
+    let fuel = reader.count() + 1;
+    let part = expression(alloc, &mut reader, fuel)?;
+    if reader.count() > 0 {
+        return Err(Stop::Grammar);
+    }
+    Ok(part)
+}
+
+/// The definitions of words that are an ad, nothing where its tree is too high.
+fn read_ad(alloc: Global, words: &[Word<'_>]) -> Result<Option<Definitions>, Stop>
+    ensures { IsRead literal_of (parsed_ad height_limit (map meaning words.now)) result }
+{
+    let mut reader = Reader::new(words);
+    reader.expect(Mark::OpenBracket)?;
+    let fuel = reader.count() + 1;
+    let list = definitions(alloc, &mut reader, fuel)?;
+    if reader.count() > 0 {
+        return Err(Stop::Grammar);
+    }
+    Ok(low_definitions(list))
+}
+
+fn low_definitions(list: DefinitionParts) -> Option<Definitions>
+    ensures { literal_of result ≡ cut_ad height_limit (cut_defined_before (definition_parts list) (Some no_defs)) }
+{
+    let DefinitionParts { definitions, highest } = list;
+    if highest < HEIGHT_LIMIT {
+        definitions
+    } else {
+        None
+    }
+}
+
+/// Tests how many frames there are, with the root, and how many definitions.
+fn check_counts(counts: Counts) -> Result<(), ParseFault>
+    ensures { IsCounted (counts.frames + 1) counts.definitions result }
+{
+    if counts.frames + 1 > FRAME_LIMIT {
+        return Err(ParseFault::Frames);
+    }
+    if counts.definitions > DEFINITION_LIMIT {
+        return Err(ParseFault::Attributes);
+    }
+    Ok(())
+}

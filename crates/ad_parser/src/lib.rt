@@ -3,5 +3,7 @@
 
 mod fault;
 mod mark;
+mod parse;
 
 pub use fault::ParseFault;
+pub use parse::parse_expr;

@@ -7,7 +7,6 @@ use Rattle.ad_tree.specs.declared.tree.Scope.TheVariants.{Bare, My}
 use Rattle.pool_text.specs.declared.language.UnOp.{UnOp}
 use Rattle.ad_tree.specs.Inline.{Inline, Inlines, Defs, shape, inner, end, next, no_defs, def, height}
 use Rattle.ad_tree.specs.Tree.{Label, literal, name, unary, choice, select, subscript, call, list}
-use Rattle.ad_parser.specs.declared.mark.Mark.{Mark}
 use Rattle.ad_parser.specs.declared.mark.Mark.TheVariants.{OpenParen, CloseParen, OpenBracket, CloseBracket, OpenBrace, CloseBrace, Comma, Semicolon, Dot, Assign, Question, Colon}
 use Rattle.ad_parser.specs.Shapes.{leaf, over_one, over_two, over_three, Infix, joined, infix_of, prefix_of}
 use Rattle.ad_parser.specs.Words.{Word, plain, quoted, constant, mark, scope_of}

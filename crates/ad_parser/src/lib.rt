@@ -2,8 +2,13 @@
 #![tactic(auto)]
 
 mod fault;
+mod laws;
 mod mark;
 mod parse;
 
 pub use fault::ParseFault;
+pub use laws::{
+    parsed_ads_are_kept, parsed_phrases_are_kept, texts_have_one_answer, texts_spell_parsed_trees,
+    words_are_read_by_the_grammar, words_make_parsed_trees, words_spell_one_tree,
+};
 pub use parse::parse_expr;

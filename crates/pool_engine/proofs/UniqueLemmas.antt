@@ -27,12 +27,14 @@ IsEvaluation-unique text (evaluated v) (evaluated w) first second =
 IsEvaluation-unique text (evaluated v) not_built first second =
     let same = (as_expression text).one_tree first.0 second.0 first.1 second.1 in
     let built = ap (λ x. is_built (phrase_tree x)) same in
-    absurd (sym first.3 ∙ built ∙ second.3)
+    let clash : true ≡ false = sym first.3 ∙ built ∙ second.3 in
+    absurd cc
 IsEvaluation-unique text (evaluated v) (faulty fault) first second = absurd ((as_expression text).not_both first.0 fault first.1 first.2 second)
 IsEvaluation-unique text not_built (evaluated v) first second =
     let same = (as_expression text).one_tree first.0 second.0 first.1 second.1 in
     let built = ap (λ x. is_built (phrase_tree x)) same in
-    absurd (sym second.3 ∙ sym built ∙ first.3)
+    let clash : true ≡ false = sym second.3 ∙ sym built ∙ first.3 in
+    absurd cc
 IsEvaluation-unique text not_built not_built first second = refl
 IsEvaluation-unique text not_built (faulty fault) first second = absurd ((as_expression text).not_both first.0 fault first.1 first.2 second)
 IsEvaluation-unique text (faulty fault) (evaluated v) first second = absurd ((as_expression text).not_both second.0 fault second.1 second.2 first)

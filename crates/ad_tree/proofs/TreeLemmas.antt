@@ -1,5 +1,5 @@
 -- Laws of plain trees: lists item by item, and sizes, by which recursions over trees end.
-use Rattle.std.proofs.Common.{refl, arith, ◌≡◌, ◌≤◌, ◌<◌, ℕ, zero, suc, ◌+◌, max, List, [], ◌∷◌, map, Option, Some, None, slice_get, ap, sym, ◌∙◌}
+use Rattle.std.proofs.Common.{arith, ◌≡◌, ◌≤◌, ◌<◌, ℕ, zero, suc, List, [], ◌∷◌, map, Some, slice_get, ap, sym, ◌∙◌}
 use Rattle.std.specs.declared.boxed.Box.{Box}
 use Rattle.std.specs.declared.alloc.Global.{Global}
 use Rattle.pool_text.specs.declared.language.Lit.{Lit}
@@ -9,7 +9,7 @@ use Rattle.ad_tree.specs.declared.tree.Expr.{Expr, fold-roll-Expr}
 use Rattle.ad_tree.specs.declared.tree.Expr.TheVariants as expr
 use Rattle.ad_tree.specs.declared.tree.Scope.{Scope}
 use Rattle.ad_tree.specs.declared.tree.Exprs.{Exprs, fold_out-Exprs}
-use Rattle.ad_tree.specs.Tree.{literal, name, unary, binary, all, any, choice, select, subscript, call, list, one, two, three, Tree, node, frame, Trees, none, more, tree, trees, layer, pack, size, size_all, height_of, highest_of}
+use Rattle.ad_tree.specs.Tree.{literal, name, unary, binary, all, any, choice, select, subscript, call, list, one, two, three, Tree, node, frame, none, tree, trees, layer, pack, size, size_all, height_of, highest_of}
 
 -- a list of expressions is seen item by item
 pub trees-items : (l : Exprs) → trees l ≡ map tree l.items.items

@@ -1,0 +1,51 @@
+-- What a finished draft is: its spelled tree in the numbering of the opening brackets.
+use Rattle.std.proofs.Common.{◌≡◌, ℕ, zero, suc, List, [], ◌∷◌, ◌++◌, length, map, ap, sym, ◌∙◌, subst, IsTrue, Result, Ok, Err, IfOk}
+use Rattle.ad_tree.specs.declared.frame.AdFrame.{AdFrame}
+use Rattle.ad_tree.specs.Tree.{Tree}
+use Rattle.ad_tree.specs.Names.{are_apart}
+use Rattle.ad_tree.specs.Frames.{Frame, empty_frame, names_in, settled_frame, IsAd}
+use Rattle.ad_tree.specs.Inline.{frames, number, inlined, inside, opened, spelled, spelled_tree}
+use Rattle.ad_tree.specs.Placed.{IsPlaced}
+use Rattle.ad_tree.specs.Table.{frame_of, frames_of}
+use Rattle.ad_tree.proofs.AdLemmas.{IsAd-frames, IsAd-phrase, inside-apart, spelled_tree-apart}
+use Rattle.ad_tree.proofs.EntryLemmas.{apart-frames}
+use Rattle.ad_tree.proofs.SpellingLemmas.{settled_frame-frames}
+
+-- the names of each frame of a draft are apart
+pub apart-draft : (root : AdFrame) (fs : List AdFrame) (f : ℕ) → IsTrue (are_apart (names_in (frame_of root ∷ frames_of fs) f))
+apart-draft root fs zero = root.apart
+apart-draft root fs (suc f) = apart-frames fs f
+
+module _ (fs : List Frame) (apart : (f : ℕ) → IsTrue (are_apart (names_in fs f))) (n : ℕ) (all : n ≡ length fs) where
+  pub finished : {t : Tree} {before after : List Frame} → before ≡ [] → IsPlaced 0 (opened fs n 0) t before after → after ≡ frames 0 0 (spelled fs)
+  finished {t} {before} {after} new placed =
+      placed.opened
+      ∙ ap (λ gs. gs ++ map settled_frame (frames 0 (length gs) (opened fs n 0))) new
+      ∙ ap (λ m. map settled_frame (frames 0 0 (opened fs m 0))) all
+      ∙ settled_frame-frames 0 0 (spelled fs) (inside-apart fs apart (length fs) 0)
+
+  pub finished_is_ad : {t : Tree} {before after : List Frame} → before ≡ [] → IsPlaced 0 (opened fs n 0) t before after → IsAd after
+  finished_is_ad new placed = subst IsAd (sym (finished new placed)) (IsAd-frames (inside fs (length fs) 0) (inside-apart fs apart (length fs) 0))
+
+  pub finished_phrase : (t : Tree) {copy : Tree} {before after : List Frame} → before ≡ empty_frame 0 ∷ [] → IsPlaced 0 (inlined (inside fs n) t) copy before after
+      → after ≡ empty_frame 0 ∷ frames 0 1 (spelled_tree fs t)
+  finished_phrase t {copy} {before} {after} new placed =
+      placed.opened
+      ∙ ap (λ gs. gs ++ map settled_frame (frames 0 (length gs) (inlined (inside fs n) t))) new
+      ∙ ap (λ m. empty_frame 0 ∷ map settled_frame (frames 0 1 (inlined (inside fs m) t))) all
+      ∙ ap (λ gs. empty_frame 0 ∷ gs) (settled_frame-frames 0 1 (spelled_tree fs t) (spelled_tree-apart fs apart t))
+
+  pub phrase_is_ad : (t : Tree) {copy : Tree} {before after : List Frame} → before ≡ empty_frame 0 ∷ [] → IsPlaced 0 (inlined (inside fs n) t) copy before after → IsAd after
+  phrase_is_ad t new placed = subst IsAd (sym (finished_phrase t new placed)) (IsAd-phrase (spelled_tree fs t) (spelled_tree-apart fs apart t))
+
+  pub phrase_tree : (t : Tree) {copy : Tree} {before after : List Frame} → before ≡ empty_frame 0 ∷ [] → IsPlaced 0 (inlined (inside fs n) t) copy before after
+      → copy ≡ number 1 (spelled_tree fs t)
+  phrase_tree t new placed =
+      placed.copied
+      ∙ ap (λ gs. number (length gs) (inlined (inside fs n) t)) new
+      ∙ ap (λ m. number 1 (inlined (inside fs m) t)) all
+
+-- what an Ok tells, told on
+pub if_ok : {A E : Type 0} (r : Result A E) {P Q : A → Type 0} → ((a : A) → P a → Q a) → IfOk r P → IfOk r Q
+if_ok (Ok a) f h = f a h
+if_ok (Err e) f h = h

@@ -1,0 +1,12 @@
+pub mod AdLemmas
+mod AttributeLemmas
+mod DraftLemmas
+mod EntryLemmas
+mod FinishLemmas
+pub mod InlineLemmas
+mod Measures
+mod NameLemmas
+pub mod PlacedLemmas
+pub mod SpellingLemmas
+pub mod TreeLemmas
+mod WalkLemmas

@@ -1,0 +1,23 @@
+use Rattle.std.proofs.Common.{arith, ◌<◌, ◌-◌, length}
+use Rattle.std.proofs.lemmas.List.{length-map}
+use Rattle.ad_tree.specs.Tree.{tree}
+use Rattle.ad_tree.specs.Table.{frame_of}
+use Rattle.ad_tree.proofs.DraftLemmas.{inner-defined, inner-same, on_ok, on_err}
+use Rattle.ad_tree.proofs.draft.Draft.define.Goals as goal
+
+pub returns-else-frame-eq0-clause-ok : goal.returns-else-frame-eq0-clause-ok
+returns-else-frame-eq0-clause-ok c =
+    let fs = c.args.self.now.inner.items in
+    let within : c.args.frame - 1 < length fs = omega (arith, length-map fs frame_of, c.requires, c.if-frame-eq0.false) in
+    on_ok c.define-else-frame-eq0.result
+    (inner-defined (frame_of c.args.self.now.root) fs c.args.frame c.define-else-frame-eq0.new.self c.index_mut.result.now c.args.name (tree c.args.expr)
+    c.if-frame-eq0.false within c.index_mut.ensures.value)
+    c.define-else-frame-eq0.ensures.ok
+
+pub returns-else-frame-eq0-clause-err : goal.returns-else-frame-eq0-clause-err
+returns-else-frame-eq0-clause-err c =
+    let fs = c.args.self.now.inner.items in
+    let within : c.args.frame - 1 < length fs = omega (arith, length-map fs frame_of, c.requires, c.if-frame-eq0.false) in
+    on_err c.define-else-frame-eq0.result
+    (inner-same (frame_of c.args.self.now.root) fs (c.args.frame - 1) c.define-else-frame-eq0.new.self c.index_mut.result.now within c.index_mut.ensures.value)
+    c.define-else-frame-eq0.ensures.err

@@ -1,0 +1,23 @@
+use Rattle.std.proofs.Common.{◌∙◌, ap, ◌∷◌, ◌++◌, []}
+use Rattle.ad_tree.specs.Tree.{tree}
+use Rattle.ad_tree.specs.Frames.{empty_frame}
+use Rattle.ad_tree.specs.Draft.{draft_frames}
+use Rattle.ad_tree.specs.Table.{frames_of}
+use Rattle.ad_tree.proofs.DraftLemmas.{frames_of-push}
+use Rattle.ad_tree.proofs.FinishLemmas.{apart-draft, finished_phrase, phrase_is_ad}
+use Rattle.ad_tree.proofs.draft.Draft.finish_phrase.Goals as goal
+
+pub from_frames-requires : goal.from_frames-requires
+from_frames-requires c =
+    phrase_is_ad (draft_frames c.args.self) (apart-draft c.args.self.root c.args.self.inner.items) c.count.result c.count.ensures (tree c.args.expr)
+    (frames_of-push c.new-frames.result.items c.push.new.self.items c.new.result (empty_frame 0) c.in_ok-push.ensures.items c.new.ensures
+    ∙ ap (λ fs. frames_of fs ++ empty_frame 0 ∷ []) c.new-frames.ensures.items)
+    c.in_ok-expr.ensures
+
+pub returns-clause-frames : goal.returns-clause-frames
+returns-clause-frames c =
+    c.in_ok-ad.ensures
+    ∙ finished_phrase (draft_frames c.args.self) (apart-draft c.args.self.root c.args.self.inner.items) c.count.result c.count.ensures (tree c.args.expr)
+    (frames_of-push c.new-frames.result.items c.push.new.self.items c.new.result (empty_frame 0) c.in_ok-push.ensures.items c.new.ensures
+    ∙ ap (λ fs. frames_of fs ++ empty_frame 0 ∷ []) c.new-frames.ensures.items)
+    c.in_ok-expr.ensures

@@ -1,0 +1,9 @@
+pub mod Ad
+pub mod Draft
+pub mod Entries
+pub mod Frames
+pub mod Inline
+pub mod Names
+pub mod Placed
+pub mod Table
+pub mod Tree

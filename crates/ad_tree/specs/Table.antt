@@ -1,0 +1,13 @@
+-- What contracts see of the frames of an ad or of a draft.
+use Rattle.std.specs.Prelude.{List, map}
+use Rattle.ad_tree.specs.declared.frame.AdFrame.{AdFrame}
+use Rattle.ad_tree.specs.Frames.{Frame}
+use Rattle.ad_tree.specs.Entries.{attributes_of}
+
+-- a frame
+abbrev pub frame_of : AdFrame → Frame
+frame_of f = record { parent = f.parent; attributes = attributes_of f.attributes.entries }
+
+-- a list of frames
+abbrev pub frames_of : List AdFrame → List Frame
+frames_of fs = map frame_of fs

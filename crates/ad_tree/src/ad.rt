@@ -1,0 +1,97 @@
+// Ads, as contracts see them: a list of frames.
+ghost use Rattle.std.specs.Prelude.{◌≡◌, ◌<◌, ◌^◌, length, slice_get, position, Some, IfOk, IfSome};
+ghost use Rattle.ad_tree.specs.Tree.{tree};
+ghost use Rattle.ad_tree.specs.Names.{same_name};
+ghost use Rattle.ad_tree.specs.Frames.{IsAd, attributes_at, names_in, parent_of, name_at, expr_at};
+ghost use Rattle.ad_tree.specs.Table.{frames_of};
+
+use crate::Expr;
+use crate::frame::AdFrame;
+use pool_text::{OutOfMemory, Text};
+
+/// An ad: a table of frames. Frame 0 is the root; every other frame is an ad literal and names a lower frame as its
+/// parent, the frame in whose expressions it stands. The names of a frame differ after folding (ClassAd Language
+/// Reference Manual 2.4, attribute names ignore case). Contracts see the list of frames, `ad_frames`.
+#[derive(Debug, Drop)]
+pub struct Ad {
+    frames: Vec<AdFrame>,
+    pub ghost is_ad: { IsAd (frames_of frames.items) },
+    ghost few: { length frames.items < 2 ^ 32 },
+}
+
+/// An expression with an ad whose root is empty and whose other frames are the ad literals of the expression.
+#[derive(Debug, Drop)]
+pub struct Phrase {
+    pub ad: Ad,
+    pub expr: Expr,
+}
+
+impl Ad {
+    ghost use Rattle.ad_tree.specs.Ad.{ad_frames};
+
+    // The ad with these frames. Want of memory is answered too where the numbers of frames end.
+    pub(crate) fn from_frames(frames: Vec<AdFrame>) -> Result<Ad, OutOfMemory>
+        requires { IsAd (frames_of frames.items) }
+        ensures { IfOk result (λ ad. ad_frames ad ≡ frames_of frames.items) }
+    {
+        if frames.len() > u32::MAX as usize {
+            return Err(OutOfMemory);
+        }
+        Ok(Ad { frames })
+    }
+
+    /// How many frames there are, the root among them.
+    pub fn frames(&self) -> u32
+        ensures { result ≡ length (ad_frames self.now) }
+    {
+        self.frames.len() as u32
+    }
+
+    /// The frame in whose expressions this frame stands, which is lower. `None` exactly for the root.
+    pub fn parent(&self, frame: u32) -> Option<u32>
+        requires { frame < length (ad_frames self.now) }
+        ensures parent { result ≡ parent_of (ad_frames self.now) frame }
+        ensures lower { IfSome result (λ parent. parent < frame) }
+    {
+        if frame == 0 {
+            None
+        } else {
+            Some(self.frames[frame as usize].parent)
+        }
+    }
+
+    /// How many attributes the frame has.
+    pub fn count(&self, frame: u32) -> u32
+        requires { frame < length (ad_frames self.now) }
+        ensures { result ≡ length (attributes_at (ad_frames self.now) frame) }
+    {
+        self.frames[frame as usize].count()
+    }
+
+    /// The name of the attribute at place `attr`, counted from 0, in its last spelling.
+    pub fn name(&self, frame: u32, attr: u32) -> &Text
+        requires frame { frame < length (ad_frames self.now) }
+        requires attr { attr < length (attributes_at (ad_frames self.now) frame) }
+        ensures { name_at (ad_frames self.now) frame attr ≡ Some result.now }
+    {
+        &self.frames[frame as usize].at(attr).name
+    }
+
+    /// The expression of the attribute at place `attr`, counted from 0.
+    pub fn expr(&self, frame: u32, attr: u32) -> &Expr
+        requires frame { frame < length (ad_frames self.now) }
+        requires attr { attr < length (attributes_at (ad_frames self.now) frame) }
+        ensures { expr_at (ad_frames self.now) frame attr ≡ Some (tree result.now) }
+    {
+        &self.frames[frame as usize].at(attr).expr
+    }
+
+    /// The place of the attribute whose name is equal to this one after folding, found with no memory taken.
+    /// `None` exactly where the frame has no such name. Parents aren't looked at.
+    pub fn position(&self, frame: u32, name: &[u8]) -> Option<u32>
+        requires { frame < length (ad_frames self.now) }
+        ensures { result ≡ position (same_name name.now) (names_in (ad_frames self.now) frame) }
+    {
+        self.frames[frame as usize].position(name)
+    }
+}

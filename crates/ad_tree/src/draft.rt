@@ -1,0 +1,111 @@
+// Drafts: ads while they are built.
+ghost use Rattle.std.specs.Prelude.{◌≡◌, ◌+◌, ◌<◌, ◌^◌, ◌++◌, ◌∷◌, [], length, slice_get, option_map, IfOk, OnOk, OnErr};
+ghost use Rattle.ad_tree.specs.Tree.{tree};
+ghost use Rattle.ad_tree.specs.Frames.{defined, empty_frame};
+ghost use Rattle.ad_tree.specs.Inline.{frames, number, spelled, spelled_tree};
+ghost use Rattle.ad_tree.specs.Table.{frame_of};
+
+use crate::frame::AdFrame;
+use crate::placing::{open, place};
+use crate::{Ad, Expr, Phrase};
+use pool_text::{OutOfMemory, Text};
+use std::alloc::Global;
+
+/// An ad that is being built. Contracts see its frames in the order in which they were added, `draft_frames`.
+#[derive(Drop)]
+pub struct Draft {
+    alloc: Global,
+    root: AdFrame,
+    // Frames 1 and up.
+    inner: Vec<AdFrame>,
+    ghost few: { length inner.items + 1 < 2 ^ 32 },
+}
+
+impl Draft {
+    ghost use Rattle.ad_tree.specs.Ad.{ad_frames};
+    ghost use Rattle.ad_tree.specs.Draft.{draft_frames};
+
+    /// A draft with the root alone, frame 0, and no definitions.
+    pub fn new(alloc: Global) -> Draft
+        ensures { draft_frames result ≡ empty_frame 0 ∷ [] }
+    {
+        Draft {
+            alloc,
+            root: AdFrame::new(alloc, 0),
+            inner: Vec::new(alloc),
+        }
+    }
+
+    /// Adds a frame for an ad literal that is to stand in the frame `parent`, and answers its number. Want of memory
+    /// leaves the draft as it was; it is answered too where the numbers end.
+    pub fn frame(&mut self, parent: u32) -> Result<u32, OutOfMemory>
+        requires { parent < length (draft_frames self.old) }
+        ensures number { IfOk result (λ frame. frame ≡ length (draft_frames self.old)) }
+        ensures ok { OnOk result (draft_frames self.new ≡ draft_frames self.old ++ empty_frame parent ∷ []) }
+        ensures err { OnErr result (draft_frames self.new ≡ draft_frames self.old) }
+    {
+        if self.inner.len() >= u32::MAX as usize - 1 {
+            return Err(OutOfMemory);
+        }
+        self.inner.push(AdFrame::new(self.alloc, parent))?;
+        Ok(self.inner.len() as u32)
+    }
+
+    /// Defines a name in a frame. A name that the frame has already, in any spelling, keeps its place, and takes this
+    /// spelling and this expression. Want of memory leaves the draft as it was.
+    pub fn define(&mut self, frame: u32, name: Text, expr: Expr) -> Result<(), OutOfMemory>
+        requires { frame < length (draft_frames self.old) }
+        ensures ok { OnOk result (draft_frames self.new ≡ defined (draft_frames self.old) frame name (tree expr)) }
+        ensures err { OnErr result (draft_frames self.new ≡ draft_frames self.old) }
+        ensures len { length (draft_frames self.new) ≡ length (draft_frames self.old) }
+    {
+        if frame == 0 {
+            self.root.define(self.alloc, name, expr)
+        } else {
+            self.inner[frame as usize - 1].define(self.alloc, name, expr)
+        }
+    }
+
+    /// The ad of these definitions. Its frames are those that the root leads to, numbered in the order of their opening
+    /// brackets in the printed ad; the frames of replaced expressions are gone.
+    pub fn finish(self) -> Result<Ad, OutOfMemory>
+        ensures { IfOk result (λ ad. ad_frames ad ≡ frames 0 0 (spelled (draft_frames self))) }
+    {
+        let mut frames = Vec::new(self.alloc);
+        open(self.alloc, &self, self.count(), 0, 0, &mut frames)?;
+        Ad::from_frames(frames)
+    }
+
+    /// The expression with the ad of its ad literals, whose root is empty. The frames are numbered from 1, as if the
+    /// expression alone were printed in the root.
+    pub fn finish_phrase(self, expr: Expr) -> Result<Phrase, OutOfMemory>
+        ensures frames { IfOk result (λ phrase.
+            ad_frames phrase.ad ≡ empty_frame 0 ∷ frames 0 1 (spelled_tree (draft_frames self) (tree expr))) }
+        ensures expr { IfOk result (λ phrase. tree phrase.expr ≡ number 1 (spelled_tree (draft_frames self) (tree expr))) }
+    {
+        let mut frames = Vec::new(self.alloc);
+        frames.push(AdFrame::new(self.alloc, 0))?;
+        let expr = place(self.alloc, &self, self.count(), 0, &expr, &mut frames)?;
+        let ad = Ad::from_frames(frames)?;
+        Ok(Phrase { ad, expr })
+    }
+
+    pub(crate) fn count(&self) -> usize
+        ensures { result ≡ length (draft_frames self.now) }
+    {
+        self.inner.len() + 1
+    }
+
+    pub(crate) fn frame_at(&self, frame: u32) -> Option<&AdFrame>
+        ensures { option_map (λ f. frame_of f.now) result ≡ slice_get (draft_frames self.now) frame }
+    {
+        if frame == 0 {
+            return Some(&self.root);
+        }
+        let place = frame as usize - 1;
+        if place >= self.inner.len() {
+            return None;
+        }
+        Some(&self.inner[place])
+    }
+}

@@ -1,0 +1,3 @@
+pub mod Logic
+pub mod Operators
+pub mod Plain

@@ -9,8 +9,10 @@ pub mod NumberLemmas
 pub mod QuotedLemmas
 mod Reached
 pub mod Runs
+pub mod SliceLemmas
 pub mod Steps
 pub mod SymbolLemmas
+pub mod TextLemmas
 pub mod Texts
 mod Turns
 pub mod Utf8Lemmas

@@ -2,6 +2,7 @@ pub mod AloneLemmas
 pub mod Begins
 pub mod BlankLemmas
 pub mod ContentLemmas
+pub mod DecimalLemmas
 pub mod ItemLemmas
 pub mod LetterLemmas
 pub mod NextLemmas

@@ -1,5 +1,5 @@
 // Laws of the definitions, each on a function that does nothing.
-ghost use Rattle.std.specs.Prelude.{◌≡◌, ◌⊎◌, ◌<◌, ◌^◌, ◌↔◌, ℕ, List, IsUtf8, slice_index};
+ghost use Rattle.std.specs.Prelude.{◌≡◌, ◌⊎◌, ◌<◌, ◌^◌, ◌↔◌, ℕ, List, IsUtf8, decimal, slice_index};
 ghost use Rattle.ad_lexer.specs.declared.fault.LexKind.{LexKind};
 ghost use Rattle.ad_lexer.specs.declared.token.TokenKind.{TokenKind};
 ghost use Rattle.ad_lexer.specs.Alone.{Ends};
@@ -45,6 +45,13 @@ pub fn one_content(spelling: &[u8])
 /// The value of an integer fits 63 bits.
 pub fn integer_fits(spelling: &[u8])
     ensures { Spells TokenKind.Int spelling.now → value spelling.now < 2 ^ 63 }
+{}
+
+/// The decimal text of a number below 2^63 is an integer with that value.
+pub fn decimal_spells(number: u64)
+    requires { number < 2 ^ 63 }
+    ensures spells { Spells TokenKind.Int (decimal number) }
+    ensures value { value (decimal number) ≡ number }
 {}
 
 /// Each string and each quoted name of a text means UTF-8 without byte 0, and a quoted name means some byte.

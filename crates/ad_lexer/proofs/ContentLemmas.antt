@@ -1,0 +1,120 @@
+-- What a string or a quoted name means, letter by letter.
+use Rattle.std.proofs.Common.{◌≡◌, ℕ, zero, suc, ◌-◌, ◌<◌, Bool, true, false, cond, eqb, List, [], ◌∷◌, ◌++◌, length, map, drop, slice_index, is_some, refl, sym, ◌∙◌, ap, arith, length-append, append_assoc}
+use Rattle.std.proofs.lemmas.Bool.{and_parts, or_parts, not-true, eq-eqb}
+use Rattle.std.proofs.lemmas.Bool.Decides.{nat_tests}
+use Rattle.std.proofs.lemmas.List.{drop_at}
+use Rattle.std.specs.Str.Parse.{digits_value}
+use Rattle.ad_lexer.specs.Content.{octal_value, octal_len, or_octal, meaning_at, letter_len, content_from, content}
+use Rattle.ad_lexer.specs.Quoted.{Letter, plain, escape, octal, spelling, spellings, meaning, is_plain, escaped, is_octal_digit, IsOctal, IsLetter, AreLetters, IsQuoted}
+use Rattle.ad_lexer.proofs.LetterLemmas as letters
+use Rattle.ad_lexer.proofs.LetterLemmas.{is_quote, spelling_some}
+use Rattle.ad_lexer.proofs.QuotedLemmas.{letter_first}
+
+-- skipping bytes is going on behind them
+content-skip : (quote skip : ℕ) (text : List ℕ) → content_from quote skip text ≡ content_from quote 0 (drop skip text)
+content-skip quote zero text = refl
+content-skip quote (suc skip) [] = refl
+content-skip quote (suc skip) (byte ∷ bytes) = content-skip quote skip bytes
+
+len_by : (escape simple : Bool) (second third : ℕ) → 0 < cond escape (cond simple 2 (octal_len second third)) 1
+len_by true true second third = omega arith
+len_by true false second third = grind (arith, nat_tests)
+len_by false simple second third = omega arith
+
+pub letter_some : (bytes : List ℕ) → 0 < letter_len bytes
+unfolding letter_len
+letter_some bytes = len_by (eqb (slice_index bytes 0) 92) (is_some (escaped (slice_index bytes 1))) (slice_index bytes 2) (slice_index bytes 3)
+
+drop_more : (n byte : ℕ) (bytes : List ℕ) → 0 < n → drop (n - 1) bytes ≡ drop n (byte ∷ bytes)
+drop_more zero byte bytes some = absurd (omega arith)
+drop_more (suc n) byte bytes some = let e : suc n - 1 ≡ n = omega arith in ap (λ (k : ℕ). drop k bytes) e
+
+-- a letter's meaning stands before that of the rest
+pub content_turn : (quote byte : ℕ) (bytes : List ℕ) → eqb byte quote ≡ false → content_from quote 0 (byte ∷ bytes) ≡ meaning_at (byte ∷ bytes) ∷ content_from quote 0 (drop (letter_len (byte ∷ bytes)) (byte ∷ bytes))
+content_turn quote byte bytes isnt =
+    let n : ℕ = letter_len (byte ∷ bytes) in
+    let rest : content_from quote (n - 1) bytes ≡ content_from quote 0 (drop n (byte ∷ bytes)) = content-skip quote (n - 1) bytes ∙ ap (λ (l : List ℕ). content_from quote 0 l) (drop_more n byte bytes (letter_some (byte ∷ bytes))) in
+    rw isnt (ap (λ (l : List ℕ). meaning_at (byte ∷ bytes) ∷ l) rest)
+
+pub content_stop : (quote : ℕ) (bytes : List ℕ) → content_from quote 0 (quote ∷ bytes) ≡ []
+content_stop quote bytes = rw (eq-eqb quote quote refl) refl
+
+-- ---- a letter is read as what it means, and whole
+
+plain_isnt : (quote byte : ℕ) → is_plain quote byte ≡ true → eqb byte 92 ≡ false
+plain_isnt quote byte is = (or_parts (eqb byte quote) (eqb byte 92) (or_parts _ (eqb byte 10) (or_parts _ (eqb byte 0) (not-true _ is)).0).0).1
+
+digits_meaning : (digits after : List ℕ) → IsOctal digits after → or_octal (escaped (slice_index (digits ++ after) 0)) (octal_value (slice_index (digits ++ after) 0) (slice_index (digits ++ after) 1) (slice_index (digits ++ after) 2)) ≡ digits_value 8 digits
+digits_meaning [] after is = absurd (omega (arith, is.some))
+digits_meaning (a ∷ []) after is =
+    let first = (and_parts (is_octal_digit a) true is.octal).0 in
+    let one = letters.octal_value a first in
+    rw (letters.octal_unescaped a first, is.whole (omega arith)) (omega arith)
+digits_meaning (a ∷ b ∷ []) after is =
+    let both = and_parts (is_octal_digit a) _ is.octal in
+    let second = (and_parts (is_octal_digit b) true both.1).0 in
+    let one = letters.octal_value a both.0 in
+    let two = letters.octal_value b second in
+    rw (letters.octal_unescaped a both.0, second, is.whole (omega arith)) (omega arith)
+digits_meaning (a ∷ b ∷ c ∷ []) after is =
+    let both = and_parts (is_octal_digit a) _ is.octal in
+    let more = and_parts (is_octal_digit b) _ both.1 in
+    let third = (and_parts (is_octal_digit c) true more.1).0 in
+    let one = letters.octal_value a both.0 in
+    let two = letters.octal_value b more.0 in
+    let three = letters.octal_value c third in
+    rw (letters.octal_unescaped a both.0, more.0, third) (omega arith)
+digits_meaning (a ∷ b ∷ c ∷ d ∷ more) after is = absurd (omega (arith, is.most))
+
+digits_length : (digits after : List ℕ) → IsOctal digits after → cond (is_some (escaped (slice_index (digits ++ after) 0))) 2 (octal_len (slice_index (digits ++ after) 1) (slice_index (digits ++ after) 2)) ≡ suc (length digits)
+digits_length [] after is = absurd (omega (arith, is.some))
+digits_length (a ∷ []) after is =
+    let first = (and_parts (is_octal_digit a) true is.octal).0 in
+    rw (letters.octal_unescaped a first, is.whole (omega arith)) refl
+digits_length (a ∷ b ∷ []) after is =
+    let both = and_parts (is_octal_digit a) _ is.octal in
+    let second = (and_parts (is_octal_digit b) true both.1).0 in
+    rw (letters.octal_unescaped a both.0, second, is.whole (omega arith)) refl
+digits_length (a ∷ b ∷ c ∷ []) after is =
+    let both = and_parts (is_octal_digit a) _ is.octal in
+    let more = and_parts (is_octal_digit b) _ both.1 in
+    let third = (and_parts (is_octal_digit c) true more.1).0 in
+    rw (letters.octal_unescaped a both.0, more.0, third) refl
+digits_length (a ∷ b ∷ c ∷ d ∷ more) after is = absurd (omega (arith, is.most))
+
+pub letter_meaning : (quote : ℕ) (letter : Letter) (after : List ℕ) → IsLetter quote letter after → meaning_at (spelling letter ++ after) ≡ meaning letter
+unfolding meaning_at
+letter_meaning quote (plain byte) after is = rw (plain_isnt quote byte is) refl
+letter_meaning quote (escape byte meant) after is = ap (λ o. or_octal o (octal_value byte (slice_index after 0) (slice_index after 1))) is
+letter_meaning quote (octal digits) after is = digits_meaning digits after is
+
+pub letter_length : (quote : ℕ) (letter : Letter) (after : List ℕ) → IsLetter quote letter after → letter_len (spelling letter ++ after) ≡ length (spelling letter)
+unfolding letter_len
+letter_length quote (plain byte) after is = rw (plain_isnt quote byte is) refl
+letter_length quote (escape byte meant) after is = ap (λ o. cond (is_some o) 2 (octal_len (slice_index after 0) (slice_index after 1))) is
+letter_length quote (octal digits) after is = digits_length digits after is
+
+-- ---- letters mean their content
+
+begins_other : (quote : ℕ) (bytes : List ℕ) → 0 < length bytes → eqb (slice_index bytes 0) quote ≡ false → content_from quote 0 bytes ≡ meaning_at bytes ∷ content_from quote 0 (drop (letter_len bytes) bytes)
+begins_other quote [] some isnt = absurd (omega arith)
+begins_other quote (byte ∷ bytes) some isnt = content_turn quote byte bytes isnt
+
+pub letters_content : (quote : ℕ) (letters : List Letter) (after : List ℕ) → is_quote quote ≡ true → AreLetters quote letters (quote ∷ after) → content_from quote 0 (spellings letters ++ quote ∷ after) ≡ map meaning letters
+letters_content quote [] after is are = content_stop quote after
+letters_content quote (letter ∷ letters) after is are =
+    let first : List ℕ = spelling letter in
+    let more : List ℕ = spellings letters ++ quote ∷ after in
+    let joined : (first ++ spellings letters) ++ quote ∷ after ≡ first ++ more = append_assoc first (spellings letters) (quote ∷ after) in
+    let some : 0 < length (first ++ more) = omega (arith, length-append first more, spelling_some letter) in
+    let len : letter_len (first ++ more) ≡ length first = letter_length quote letter more are.0 in
+    let rest : drop (letter_len (first ++ more)) (first ++ more) ≡ more = ap (λ (n : ℕ). drop n (first ++ more)) len ∙ drop_at first more (length first) refl in
+    ap (λ (l : List ℕ). content_from quote 0 l) joined
+    ∙ begins_other quote (first ++ more) some (letter_first quote letter more more is are.0)
+    ∙ ap (λ (b : ℕ). b ∷ content_from quote 0 (drop (letter_len (first ++ more)) (first ++ more))) (letter_meaning quote letter more are.0)
+    ∙ ap (λ (l : List ℕ). meaning letter ∷ content_from quote 0 l) rest
+    ∙ ap (λ (l : List ℕ). meaning letter ∷ l) (letters_content quote letters after is are.1)
+
+-- what quoted bytes mean is their content
+pub quoted_content : (quote : ℕ) (bytes text : List ℕ) → is_quote quote ≡ true → IsQuoted quote bytes text → content bytes ≡ text
+quoted_content quote bytes text is quoted = ap content quoted.1 ∙ letters_content quote quoted.0 [] is quoted.2 ∙ sym quoted.3

@@ -1,0 +1,14 @@
+pub mod Alone
+pub mod Blanks
+pub mod Content
+pub mod Faults
+pub mod Lexeme
+pub mod Numbers
+pub mod Quoted
+pub mod Reading
+pub mod Slices
+pub mod Spelling
+pub mod Symbols
+pub mod Texts
+pub mod Tokens
+pub mod Words

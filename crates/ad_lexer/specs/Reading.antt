@@ -1,0 +1,183 @@
+-- What the code reads at the front of a text, byte by byte. The definitions to believe stand in `Tokens`.
+use Rattle.std.specs.Prelude.{ℕ, zero, suc, ◌+◌, ◌-◌, ◌*◌, ◌^◌, ◌<◌, ◌≤◌, Bool, true, not, ◌&&◌, ◌||◌, ◌==◌, nat_lt, List, [], ◌∷◌, take, drop, slice_index, Option, Some, None, is_some, if◌then◌else◌}
+use Rattle.std.specs.Char.{is_ascii_digit, is_ascii_hexdigit, is_digit, digit_value}
+use Rattle.std.specs.List.{prefix_len}
+use Rattle.ad_lexer.specs.declared.bytes.Class.{Class}
+use Rattle.ad_lexer.specs.declared.bytes.Class.TheVariants as class
+use Rattle.ad_lexer.specs.declared.fault.LexKind.TheVariants as kinds
+use Rattle.ad_lexer.specs.declared.next.Begin.{Begin}
+use Rattle.ad_lexer.specs.declared.next.Begin.TheVariants as begins
+use Rattle.ad_lexer.specs.declared.next.Step.{Step}
+use Rattle.ad_lexer.specs.declared.next.Step.TheVariants as steps
+use Rattle.ad_lexer.specs.declared.quoted.Front.{Front}
+use Rattle.ad_lexer.specs.declared.quoted.Front.TheVariants as fronts
+use Rattle.ad_lexer.specs.declared.token.TokenKind.{TokenKind}
+use Rattle.ad_lexer.specs.declared.token.TokenKind.TheVariants.{Plain, Reserved, Quoted, Str, Int, Symbol}
+use Rattle.ad_lexer.specs.Blanks.{is_space, is_line_byte}
+use Rattle.ad_lexer.specs.Numbers.{is_hexadecimal, is_integer, number_len}
+use Rattle.ad_lexer.specs.Quoted.{escaped, is_octal_digit}
+use Rattle.ad_lexer.specs.Symbols.{is_symbol}
+use Rattle.ad_lexer.specs.Words.{begins_word, is_word_byte, is_reserved}
+
+-- the classes of bytes that runs are made of
+abbrev pub is_in : Class → ℕ → Bool
+is_in class.Word byte = is_word_byte byte
+is_in class.Decimal byte = is_ascii_digit byte
+is_in class.Hexadecimal byte = is_ascii_hexdigit byte
+is_in class.Line byte = is_line_byte byte
+
+-- what the first byte of a text begins
+unfoldable pub begin_of : ℕ → Begin
+begin_of byte =
+    if is_space byte then begins.Space
+    else (if begins_word byte then begins.Word
+    else (if is_ascii_digit byte then begins.Number
+    else (if byte == 39 then begins.Name
+    else (if byte == 34 then begins.String
+    else (if byte == 47 then begins.Slash
+    else begins.Symbol)))))
+
+-- ---- words
+
+abbrev pub word : List ℕ → Step
+word text = let len = prefix_len is_word_byte text in steps.Token (if is_reserved (take len text) then Reserved else Plain) len
+
+-- ---- numbers
+
+-- whether further digits behind those of n keep the number below 2^63
+abbrev pub has_value : ℕ → ℕ → List ℕ → Bool
+has_value base n [] = true
+has_value base n (c ∷ cs) = (is_digit c base && nat_lt (n * base + digit_value c) (2 ^ 63)) && has_value base (n * base + digit_value c) cs
+
+-- `.`, `e` or `E`, of a decimal or an exponent
+abbrev pub is_decimal_mark : ℕ → Bool
+is_decimal_mark byte = byte == 46 || byte == 101 || byte == 69
+
+-- the first bytes are an integer, with no letter, digit or `_` behind them
+unfoldable pub is_whole : List ℕ → ℕ → Bool
+is_whole text len = not (is_word_byte (slice_index text len)) && is_integer (take len text)
+
+unfoldable pub number : List ℕ → Step
+number text =
+    if is_decimal_mark (slice_index text (number_len text)) && not (is_hexadecimal text) then steps.Fault kinds.Decimal 0
+    else (if is_whole text (number_len text) then steps.Token Int (number_len text)
+    else steps.Fault kinds.Number 0)
+
+-- ---- symbols
+
+-- the length of the longest symbol that the bytes begin with, or 0
+unfoldable pub symbol_len : ℕ → ℕ → ℕ → ℕ
+symbol_len first second third =
+    if is_symbol (first ∷ second ∷ third ∷ []) then 3
+    else (if is_symbol (first ∷ second ∷ []) then 2
+    else (if is_symbol (first ∷ []) then 1 else 0))
+
+abbrev pub symbol_of : ℕ → Step
+symbol_of len = if len == 0 then steps.Fault kinds.Character 0 else steps.Token Symbol len
+
+unfoldable pub symbol : List ℕ → Step
+symbol text =
+    if slice_index text 0 == 46 && is_ascii_digit (slice_index text 1) then steps.Fault kinds.Decimal 0
+    else symbol_of (symbol_len (slice_index text 0) (slice_index text 1) (slice_index text 2))
+
+-- ---- comments
+
+-- the length up to and with the first `*/`, counted on from n
+abbrev pub comment_len : ℕ → List ℕ → Option ℕ
+comment_len n [] = None
+comment_len n (byte ∷ bytes) = if byte == 42 && slice_index bytes 0 == 47 then Some (n + 2) else comment_len (n + 1) bytes
+
+abbrev pub comment_of : Option ℕ → Step
+comment_of None = steps.Fault kinds.CommentEnd 0
+comment_of (Some len) = steps.Blank (2 + len)
+
+unfoldable pub slash : List ℕ → Step
+slash text =
+    if slice_index text 1 == 47 then steps.Blank (2 + prefix_len is_line_byte (drop 2 text))
+    else (if slice_index text 1 == 42 then comment_of (comment_len 0 (drop 2 text))
+    else steps.Token Symbol 1)
+
+-- ---- strings and quoted names
+
+abbrev pub octal_of : ℕ → ℕ → Front
+octal_of len value = if value == 0 || nat_lt 127 value then fronts.Backslash else fronts.Letter len
+
+unfoldable pub octal : ℕ → ℕ → ℕ → Front
+octal first second third =
+    if not (is_octal_digit first) then fronts.Backslash
+    else (if not (is_octal_digit second) then octal_of 2 (first - 48)
+    else (if not (is_octal_digit third) then octal_of 3 ((first - 48) * 8 + (second - 48))
+    else octal_of 4 (((first - 48) * 8 + (second - 48)) * 8 + (third - 48))))
+
+-- what a backslash before the bytes begins
+unfoldable pub escape : List ℕ → Front
+escape [] = fronts.LineEnd
+escape (byte ∷ bytes) = if is_some (escaped byte) then fronts.Letter 2 else octal byte (slice_index bytes 0) (slice_index bytes 1)
+
+-- what stands at the front of the rest of a string
+unfoldable pub front : ℕ → List ℕ → Front
+front quote [] = fronts.LineEnd
+front quote (byte ∷ bytes) =
+    if byte == quote then fronts.Close
+    else (if byte == 10 then fronts.LineEnd
+    else (if byte == 0 then fronts.Nul
+    else (if byte == 92 then escape bytes
+    else fronts.Letter 1)))
+
+-- one turn: what more gives behind a letter, and else the token or the fault
+abbrev pub quoted_by : TokenKind → ℕ → Front → (ℕ → Step) → Step
+quoted_by kind at (fronts.Letter len) more = more len
+quoted_by kind at fronts.Close more = steps.Token kind (at + 1)
+quoted_by kind at fronts.LineEnd more = steps.Fault kinds.StringEnd 0
+quoted_by kind at fronts.Nul more = steps.Fault kinds.Character at
+quoted_by kind at fronts.Backslash more = steps.Fault kinds.Escape at
+
+-- the rest of a string from a place on, with bytes to skip first
+abbrev pub quoted : TokenKind → ℕ → ℕ → ℕ → List ℕ → Step
+quoted kind quote at skip [] = steps.Fault kinds.StringEnd 0
+quoted kind quote at (suc skip) (byte ∷ bytes) = quoted kind quote (at + 1) skip bytes
+quoted kind quote at zero (byte ∷ bytes) = quoted_by kind at (front quote (byte ∷ bytes)) (λ len. quoted kind quote (at + 1) (len - 1) bytes)
+
+unfoldable pub name : List ℕ → Step
+name text = if slice_index text 1 == 39 then steps.Fault kinds.Character 0 else quoted Quoted 39 1 0 (drop 1 text)
+
+unfoldable pub string : List ℕ → Step
+string text = quoted Str 34 1 0 (drop 1 text)
+
+-- ---- all
+
+abbrev pub at_begin : Begin → List ℕ → Step
+at_begin begins.Space text = steps.Blank 1
+at_begin begins.Word text = word text
+at_begin begins.Number text = number text
+at_begin begins.Name text = name text
+at_begin begins.String text = string text
+at_begin begins.Slash text = slash text
+at_begin begins.Symbol text = symbol text
+
+-- what stands at the front of a text
+unfoldable pub next : List ℕ → Step
+next [] = steps.End
+next (byte ∷ bytes) = at_begin (begin_of byte) (byte ∷ bytes)
+
+-- ---- lengths
+
+-- a step goes on by at least one byte, and no further than to the end of so many bytes; a fault is no place behind it
+abbrev pub IsWithin : ℕ → Step → Type 0
+IsWithin len steps.End = Unit {0}
+IsWithin len (steps.Blank n) = (0 < n) × (n ≤ len)
+IsWithin len (steps.Token kind n) = (0 < n) × (n ≤ len)
+IsWithin len (steps.Fault kind place) = place ≤ len
+
+-- the same of a letter, behind `least` bytes of it that were read
+abbrev pub IsLetterWithin : ℕ → ℕ → Front → Type 0
+IsLetterWithin least len (fronts.Letter n) = (least < n) × (n ≤ least + len)
+IsLetterWithin least len fronts.Close = 0 < len
+IsLetterWithin least len fronts.LineEnd = Unit {0}
+IsLetterWithin least len fronts.Nul = 0 < len
+IsLetterWithin least len fronts.Backslash = 0 < least + len
+
+-- the octal digits of a letter stand there
+abbrev pub HasOctal : ℕ → ℕ → Front → Type 0
+HasOctal second third (fronts.Letter n) = (2 ≤ n) × (n ≤ 4) × (3 ≤ n → 0 < second) × (4 ≤ n → 0 < third)
+HasOctal second third other = Unit {0}

@@ -1,0 +1,65 @@
+// Runs of bytes of one class.
+ghost use Rattle.std.specs.Prelude.{◌≡◌, ◌≤◌, ◌<◌, drop, length, slice_index, take};
+ghost use Rattle.std.specs.List.{prefix_len};
+ghost use Rattle.ad_lexer.specs.Reading.{is_in};
+
+/// The bytes that runs are made of.
+#[derive(Clone, Copy, Debug)]
+pub enum Class {
+    Word,
+    Decimal,
+    Hexadecimal,
+    Line,
+}
+
+pub fn is_in(class: Class, byte: u8) -> bool
+    ensures { result ≡ is_in class byte }
+{
+    match class {
+        Class::Word => byte.is_ascii_alphanumeric() || byte == b'_',
+        Class::Decimal => byte.is_ascii_digit(),
+        Class::Hexadecimal => byte.is_ascii_hexdigit(),
+        Class::Line => byte != b'\n',
+    }
+}
+
+/// How many bytes at the front of the text are of the class.
+pub fn run_len(class: Class, text: &[u8]) -> usize
+    ensures value { result ≡ prefix_len (is_in class) text.now }
+    ensures within { result ≤ length text.now }
+{
+    let mut len = 0;
+    let mut rest = text;
+    while let [byte, more @ ..] = rest {
+        if !is_in(class, *byte) {
+            break;
+        }
+        len += 1;
+        rest = more;
+    }
+    len
+}
+
+/// The byte at a place, or 0 behind the end.
+pub fn byte_at(text: &[u8], place: usize) -> u8
+    ensures value { result ≡ slice_index text.now place }
+    ensures within { 0 < result → place < length text.now }
+{
+    if place < text.len() { text[place] } else { 0 }
+}
+
+/// The first `len` bytes of the text.
+pub fn front(text: &[u8], len: usize) -> &[u8]
+    requires { len ≤ length text.now }
+    ensures { result.now ≡ take len text.now }
+{
+    &text[..len]
+}
+
+/// The text without its first `len` bytes.
+pub fn behind(text: &[u8], len: usize) -> &[u8]
+    requires { len ≤ length text.now }
+    ensures { result.now ≡ drop len text.now }
+{
+    &text[len..]
+}

@@ -1,0 +1,47 @@
+// What is wrong with a text that has no tokens.
+ghost use Rattle.std.specs.Prelude.{◌≡◌};
+ghost use Rattle.ad_lexer.specs.declared.fault.LexFault.TheVariants as faults;
+
+use pool_text::OutOfMemory;
+use std::alloc::{AllocError, AllocFailed};
+use thiserror::Error;
+
+/// The kinds of lexical faults, with their numbers.
+#[derive(Clone, Copy, Debug, PartialEq, Eq)]
+pub enum LexKind {
+    /// A byte that begins no token, white space or comment, at that byte; byte 0 in a string or quoted name, at that
+    /// byte; or an empty quoted name, at its opening quote.
+    Character = 1,
+    /// A line feed or the end of the text before the closing quote, at the opening quote.
+    StringEnd = 2,
+    /// A backslash that no escape follows, or an octal escape of 0 or over 127, at the backslash.
+    Escape = 3,
+    /// No hexadecimal digit behind `0x`, an octal number with 8 or 9, a value over 9223372036854775807, or a letter,
+    /// digit or `_` directly behind the number, at its first digit.
+    Number = 4,
+    /// `.`, `e` or `E` directly behind a number that isn't hexadecimal, at its first digit, or a digit directly behind
+    /// `.`, at the dot.
+    Decimal = 5,
+    /// `/*` with no `*/` behind it, at the slash.
+    CommentEnd = 6,
+    /// The text isn't UTF-8, at the first byte of the ill-formed part.
+    Encoding = 7,
+}
+
+/// Why `lex` gives no tokens.
+#[derive(Clone, Copy, Debug, PartialEq, Eq, Error)]
+pub enum LexFault {
+    /// The first fault of the text, with its place in bytes from 0.
+    #[error("{kind:?} at byte {place}")]
+    At { kind: LexKind, place: u32 },
+    #[error("out of memory")]
+    OutOfMemory,
+}
+
+impl From<OutOfMemory> for LexFault {
+    ghost from_gives = { λ _ fault. fault ≡ faults.OutOfMemory };
+
+    fn from(_: OutOfMemory) -> Self {
+        LexFault::OutOfMemory
+    }
+}

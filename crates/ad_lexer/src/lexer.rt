@@ -1,0 +1,69 @@
+// Divides a text into its tokens.
+ghost use Rattle.std.specs.Prelude.{◌≡◌, ◌<◌, ◌^◌, ℕ, List, length, Ok, Err, IsUtf8};
+ghost use Rattle.ad_lexer.specs.declared.fault.LexKind.{LexKind};
+ghost use Rattle.ad_lexer.specs.Lexeme.{Lexeme};
+ghost use Rattle.ad_lexer.specs.Tokens as spec;
+
+use crate::bytes::{behind, front};
+use crate::fault::{LexFault, LexKind};
+use crate::next::{Step, next};
+use crate::token::{Token, Tokens};
+use std::alloc::Global;
+
+/// The tokens of a text, in order, or its first fault from the left.
+///
+/// White space (space, tab, line feed, carriage return, form feed) and comments divide tokens. A comment is `//` up to
+/// the end of the line or of the text, or `/*` up to the next `*/`. Each token is the longest that begins where it does.
+pub fn lex(alloc: Global, text: &[u8]) -> Result<Tokens<'_>, LexFault>
+    requires { length text.now < 2 ^ 32 }
+    // The tokens of the text, or its fault, or want of memory.
+    ensures answer { spec.Answers text.now result }
+    // Where the text has tokens, they are the answer; and where it has a fault, that is.
+    ensures tokens { (list : List Lexeme) → spec.Tokens text.now list → spec.IsOrMemory result (Ok list) }
+    ensures fault { (kind : LexKind) (place : ℕ) → spec.Fault text.now kind place → spec.IsOrMemory result (Err (LexFault.At kind place)) }
+{
+    match simdutf8::compat::from_utf8(text) {
+        Ok(_) => divide(alloc, text),
+        Err(fault) => Err(fault_at(LexKind::Encoding, fault.valid_up_to())),
+    }
+}
+
+fn divide(alloc: Global, text: &[u8]) -> Result<Tokens<'_>, LexFault>
+    requires utf8 { IsUtf8 text.now }
+    requires room { length text.now < 2 ^ 32 }
+    ensures { spec.Answers text.now result }
+{
+    let mut tokens = Tokens::new(alloc);
+    let mut at = 0;
+    let mut rest = text;
+    loop {
+        match next(rest) {
+            Step::End => return Ok(tokens),
+            Step::Blank(len) => {
+                at += len;
+                rest = behind(rest, len);
+            }
+            Step::Token(kind, len) => {
+                tokens.push(Token {
+                    kind,
+                    start: at as u32,
+                    end: (at + len) as u32,
+                    text: front(rest, len),
+                })?;
+                at += len;
+                rest = behind(rest, len);
+            }
+            Step::Fault(kind, place) => return Err(fault_at(kind, at + place)),
+        }
+    }
+}
+
+fn fault_at(kind: LexKind, place: usize) -> LexFault
+    requires { place < 2 ^ 32 }
+    ensures { result ≡ LexFault.At kind place }
+{
+    LexFault::At {
+        kind,
+        place: place as u32,
+    }
+}

@@ -1,0 +1,22 @@
+//! Divides a ClassAd text into its tokens, or tells the first fault and its place.
+#![tactic(auto)]
+
+mod bytes;
+mod fault;
+mod laws;
+mod lexer;
+mod next;
+mod number;
+mod quoted;
+mod symbol;
+#[cfg(test)]
+mod tests;
+mod token;
+
+pub use fault::{LexFault, LexKind};
+pub use laws::{
+    decimal_spells, integer_fits, one_answer, one_content, one_kind, quoted_in_utf8,
+    spelling_stands, tokens_are_slices, tokens_mean_texts,
+};
+pub use lexer::lex;
+pub use token::{Token, TokenKind, Tokens};

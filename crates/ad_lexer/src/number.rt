@@ -1,0 +1,92 @@
+// Integers, and the numbers that are none.
+ghost use Rattle.std.specs.Prelude.{◌≡◌, ◌<◌, ◌≤◌, length, slice_index};
+ghost use Rattle.ad_lexer.specs.Numbers as numbers;
+ghost use Rattle.ad_lexer.specs.Reading as spec;
+
+use crate::bytes::{Class, behind, byte_at, front, is_in, run_len};
+use crate::fault::LexKind;
+use crate::next::{Begin, Step};
+use crate::token::TokenKind;
+
+fn is_hexadecimal(text: &[u8]) -> bool
+    ensures { result ≡ numbers.is_hexadecimal text.now }
+{
+    let mark = byte_at(text, 1);
+    byte_at(text, 0) == b'0' && (mark == b'x' || mark == b'X')
+}
+
+/// The length of the number that the text begins with.
+fn number_len(text: &[u8]) -> usize
+    ensures value { result ≡ numbers.number_len text.now }
+    ensures within { result ≤ length text.now }
+{
+    if is_hexadecimal(text) {
+        2 + run_len(Class::Hexadecimal, behind(text, 2))
+    } else {
+        run_len(Class::Decimal, text)
+    }
+}
+
+/// The integer that the text begins with, or its fault.
+#[tactic(auto, unfolding(crate::specs::Reading::number))]
+pub fn number(text: &[u8]) -> Step
+    requires some { 0 < length text.now }
+    requires digit { spec.begin_of (slice_index text.now 0) ≡ Begin.Number }
+    ensures value { result ≡ spec.number text.now }
+    ensures within { spec.IsWithin (length text.now) result }
+{
+    let len = number_len(text);
+    let next = byte_at(text, len);
+    let is_mark = next == b'.' || next == b'e' || next == b'E';
+    if is_mark && !is_hexadecimal(text) {
+        Step::Fault(LexKind::Decimal, 0)
+    } else if is_whole(text, len) {
+        Step::Token(TokenKind::Int, len)
+    } else {
+        Step::Fault(LexKind::Number, 0)
+    }
+}
+
+/// Whether the first `len` bytes are an integer with no letter, digit or `_` behind it.
+#[tactic(auto, unfolding(crate::specs::Reading::is_whole))]
+fn is_whole(text: &[u8], len: usize) -> bool
+    requires { len ≤ length text.now }
+    ensures { result ≡ spec.is_whole text.now len }
+{
+    !is_in(Class::Word, byte_at(text, len)) && is_integer(front(text, len))
+}
+
+fn is_integer(number: &[u8]) -> bool
+    ensures { result ≡ numbers.is_integer number.now }
+{
+    if is_hexadecimal(number) {
+        let digits = behind(number, 2);
+        digits.len() > 0 && has_value(16, digits)
+    } else if byte_at(number, 0) == b'0' && number.len() > 1 {
+        has_value(8, number)
+    } else {
+        number.len() > 0 && has_value(10, number)
+    }
+}
+
+/// Whether the bytes are digits of the base, and their value is below 2^63.
+fn has_value(base: u32, digits: &[u8]) -> bool
+    requires low { 2 ≤ base }
+    requires high { base ≤ 16 }
+    ensures { result ≡ spec.has_value base 0 digits.now }
+{
+    let mut value: u64 = 0;
+    let mut rest = digits;
+    while let [byte, more @ ..] = rest {
+        let Some(digit) = char::from(*byte).to_digit(base) else {
+            return false;
+        };
+        let next = u128::from(value) * u128::from(base) + u128::from(digit);
+        if next >= 1 << 63 {
+            return false;
+        }
+        value = next as u64;
+        rest = more;
+    }
+    true
+}

@@ -1,0 +1,148 @@
+// Strings and quoted names.
+ghost use Rattle.std.specs.Prelude.{◌≡◌, ◌+◌, ◌<◌, ◌≤◌, ◌^◌, length, is_some};
+ghost use Rattle.ad_lexer.specs.Quoted as letters;
+ghost use Rattle.ad_lexer.specs.Reading as spec;
+
+use crate::bytes::{behind, byte_at};
+use crate::fault::LexKind;
+use crate::next::Step;
+use crate::token::TokenKind;
+
+/// What stands at the front of the rest of a string: a letter with its length, the closing quote, the line's or the
+/// text's end, byte 0, or a backslash that no escape follows.
+#[derive(Clone, Copy, Debug)]
+pub enum Front {
+    Letter(usize),
+    Close,
+    LineEnd,
+    Nul,
+    Backslash,
+}
+
+/// The quoted name that the text begins with, or its fault.
+#[tactic(auto, unfolding(crate::specs::Reading::name))]
+pub fn name(text: &[u8]) -> Step
+    requires some { 0 < length text.now }
+    requires room { length text.now < 2 ^ 32 }
+    ensures value { result ≡ spec.name text.now }
+    ensures within { spec.IsWithin (length text.now) result }
+{
+    if byte_at(text, 1) == b'\'' {
+        Step::Fault(LexKind::Character, 0)
+    } else {
+        quoted(TokenKind::Quoted, b'\'', behind(text, 1))
+    }
+}
+
+/// The string that the text begins with, or its fault.
+#[tactic(auto, unfolding(crate::specs::Reading::string))]
+pub fn string(text: &[u8]) -> Step
+    requires some { 0 < length text.now }
+    requires room { length text.now < 2 ^ 32 }
+    ensures value { result ≡ spec.string text.now }
+    ensures within { spec.IsWithin (length text.now) result }
+{
+    quoted(TokenKind::Str, b'"', behind(text, 1))
+}
+
+/// The quoted text whose opening quote stands before these bytes, or its fault, with places from that quote.
+fn quoted(kind: TokenKind, quote: u8, text: &[u8]) -> Step
+    requires { length text.now + 1 < 2 ^ 32 }
+    ensures value { result ≡ spec.quoted kind quote 1 0 text.now }
+    ensures within { spec.IsWithin (1 + length text.now) result }
+{
+    let mut at = 1;
+    let mut rest = text;
+    loop {
+        match front_of(quote, rest) {
+            Front::Letter(len) => {
+                at += len;
+                rest = behind(rest, len);
+            }
+            Front::Close => return Step::Token(kind, at + 1),
+            Front::LineEnd => return Step::Fault(LexKind::StringEnd, 0),
+            Front::Nul => return Step::Fault(LexKind::Character, at),
+            Front::Backslash => return Step::Fault(LexKind::Escape, at),
+        }
+    }
+}
+
+#[tactic(auto, unfolding(crate::specs::Reading::front))]
+fn front_of(quote: u8, text: &[u8]) -> Front
+    ensures value { result ≡ spec.front quote text.now }
+    ensures within { spec.IsLetterWithin 0 (length text.now) result }
+{
+    let [byte, rest @ ..] = text else {
+        return Front::LineEnd;
+    };
+    if *byte == quote {
+        return Front::Close;
+    }
+    match byte {
+        b'\n' => Front::LineEnd,
+        0 => Front::Nul,
+        b'\\' => escape(rest),
+        _ => Front::Letter(1),
+    }
+}
+
+/// What a backslash before these bytes begins.
+#[tactic(auto, unfolding(crate::specs::Reading::escape))]
+fn escape(text: &[u8]) -> Front
+    ensures value { result ≡ spec.escape text.now }
+    ensures within { spec.IsLetterWithin 1 (length text.now) result }
+{
+    let [byte, ..] = text else {
+        return Front::LineEnd;
+    };
+    if is_escape(*byte) {
+        Front::Letter(2)
+    } else {
+        octal(*byte, byte_at(text, 1), byte_at(text, 2))
+    }
+}
+
+fn is_escape(byte: u8) -> bool
+    ensures { result ≡ is_some (letters.escaped byte) }
+{
+    matches!(
+        byte,
+        b'b' | b't' | b'n' | b'f' | b'r' | b'\\' | b'"' | b'\''
+    )
+}
+
+#[tactic(auto, unfolding(crate::specs::Reading::octal))]
+fn octal(first: u8, second: u8, third: u8) -> Front
+    ensures value { result ≡ spec.octal first second third }
+    ensures within { spec.HasOctal second third result }
+{
+    if !is_octal_digit(first) {
+        return Front::Backslash;
+    }
+    let one = u32::from(first - b'0');
+    if !is_octal_digit(second) {
+        return octal_of(2, one);
+    }
+    let two = one * 8 + u32::from(second - b'0');
+    if !is_octal_digit(third) {
+        return octal_of(3, two);
+    }
+    octal_of(4, two * 8 + u32::from(third - b'0'))
+}
+
+fn is_octal_digit(byte: u8) -> bool
+    ensures { result ≡ letters.is_octal_digit byte }
+{
+    b'0' <= byte && byte <= b'7'
+}
+
+/// The letter of this length, where its value is from 1 to 127.
+fn octal_of(len: usize, value: u32) -> Front
+    ensures { result ≡ spec.octal_of len value }
+{
+    if value == 0 || value > 127 {
+        Front::Backslash
+    } else {
+        Front::Letter(len)
+    }
+}

@@ -1,0 +1,7 @@
+pub mod Commands
+pub mod Form
+pub mod Keywords
+pub mod Reading
+pub mod Rows
+pub mod Standing
+pub mod Words

@@ -1,0 +1,1 @@
+// Laws of the definitions, each on a function that does nothing.

@@ -1,0 +1,16 @@
+//! The commands of a script, from bytes that come in pieces of any size.
+#![tactic(auto)]
+
+mod command;
+mod keyword;
+mod laws;
+mod line;
+mod parse;
+mod reader;
+mod script;
+#[cfg(test)]
+mod tests;
+mod words;
+
+pub use command::Command;
+pub use script::Script;

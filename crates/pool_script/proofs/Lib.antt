@@ -1,2 +1,3 @@
-pub mod WordLemmas
+pub mod CutLemmas
 pub mod LineLemmas
+pub mod WordLemmas

@@ -1,5 +1,6 @@
 -- The commands as a reader makes them: a line and a block of which only the first bytes are kept where they are too long.
-use Rattle.std.specs.Prelude.{◌≡◌, ℕ, ◌≤◌, Bool, true, false, List, [], ◌∷◌, ◌++◌, length, take, Option, None, Some, codes, IsTrue, All, if◌then◌else◌}
+use Rattle.std.specs.Prelude.{◌≡◌, ℕ, ◌≤◌, Bool, true, false, List, [], ◌∷◌, ◌++◌, length, take, Option, None, Some, codes, not, if◌then◌else◌}
+use Rattle.std.specs.List.{list_all}
 use Rattle.std.specs.Str.{bytes_eq}
 use Rattle.pool_text.specs.Lines.{ended, rest_of}
 use Rattle.pool_script.specs.Commands.{commands, is_dot, is_long, lines_of, next, takes_block}
@@ -22,12 +23,12 @@ pub record IsOpen (block : Block) : Type 0 where
   pub taken : takes_block block.line ≡ true
   pub one_line : ended block.line ≡ []
   pub whole_lines : rest_of block.text ≡ []
-  pub no_dot : All (λ line. bytes_eq line (codes ".") ≡ false) (ended block.text)
+  pub no_dot : list_all (λ line. not (bytes_eq line (codes "."))) (ended block.text) ≡ true
   pub short : length block.text ≤ 131074
 
 -- what a reader keeps between two lines or within one
 pub record IsSound (reader : Reader) : Type 0 where
-  pub form : All (λ command. is_within_form command ≡ true) reader.waiting.items
+  pub form : list_all is_within_form reader.waiting.items ≡ true
   pub open_block : (block : Block) → reader.block ≡ Some block → IsOpen block
   pub one_line : ended reader.line.items ≡ []
   pub short : length reader.line.items ≤ 65537

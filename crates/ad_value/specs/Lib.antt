@@ -1,0 +1,2 @@
+pub mod Logic
+pub mod Plain

@@ -1,5 +1,5 @@
 -- Lines at a line feed, of bytes with no line feed before it.
-use Rattle.std.proofs.Common.{◌≡◌, ◌≢◌, ℕ, suc, ◌-◌, ◌+◌, ◌≤◌, ◌<◌, Bool, true, false, cond, eqb, List, [], ◌∷◌, ◌++◌, length, take, drop, get_or, refl, sym, ◌∙◌, ap, eq-eqb, inl, inr, arith, append_assoc}
+use Rattle.std.proofs.Common.{◌≡◌, ◌≢◌, ℕ, zero, suc, ◌-◌, ◌+◌, ◌≤◌, ◌<◌, Bool, true, false, cond, eqb, List, [], ◌∷◌, ◌++◌, length, take, drop, get_or, refl, sym, ◌∙◌, ap, eq-eqb, inl, inr, arith, append_assoc}
 use Rattle.std.proofs.lemmas.Bool.{cases_Bool}
 use Rattle.std.proofs.lemmas.Bool.Decides.{nat_tests}
 use Rattle.std.proofs.lemmas.List.{append-nil, take-append-drop}
@@ -12,14 +12,14 @@ onto_none x [] none = refl
 onto_none x (line ∷ lines) none = cc
 
 -- the first byte is no line feed, and neither is any other
-none_step : (x : ℕ) (bytes : List ℕ) → ended (x ∷ bytes) ≡ [] → (eqb x 10 ≡ false) × (ended bytes ≡ [])
+pub none_step : (x : ℕ) (bytes : List ℕ) → ended (x ∷ bytes) ≡ [] → (eqb x 10 ≡ false) × (ended bytes ≡ [])
 none_step x bytes none =
     elim (cases_Bool (eqb x 10)) [
     | inl is ↦ let some : [] ∷ ended bytes ≡ [] = rw is at none in cc
     | inr is ↦ (is, onto_none x (ended bytes) (sym (ended_onto x bytes is) ∙ none))
     ]
 
-none_more : (x : ℕ) (bytes : List ℕ) → eqb x 10 ≡ false → ended bytes ≡ [] → ended (x ∷ bytes) ≡ []
+pub none_more : (x : ℕ) (bytes : List ℕ) → eqb x 10 ≡ false → ended bytes ≡ [] → ended (x ∷ bytes) ≡ []
 none_more x bytes is none = ended_onto x bytes is ∙ ap (λ (lines : List (List ℕ)). onto x lines) none
 
 pub ended_none-append : (a b : List ℕ) → ended a ≡ [] → ended b ≡ [] → ended (a ++ b) ≡ []
@@ -82,7 +82,7 @@ lines_feeds over (line ∷ lines) more are =
 
 -- bytes before the first line feed end no line
 pub ended_none-before : (bytes : List ℕ) (n : ℕ) → n ≤ length bytes → ((k : ℕ) → k < n → eqb (get_or bytes k 0) 10 ≡ false) → ended (take n bytes) ≡ []
-ended_none-before bytes 0 fits before = refl
+ended_none-before bytes zero fits before = refl
 ended_none-before [] (suc n) fits before = refl
 ended_none-before (x ∷ bytes) (suc n) fits before =
     none_more x (take n bytes) (before 0 (omega arith)) (ended_none-before bytes n (omega arith) (λ k below. before (suc k) (omega arith)))

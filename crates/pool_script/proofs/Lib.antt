@@ -1,3 +1,5 @@
 pub mod CutLemmas
+pub mod FormLemmas
 pub mod LineLemmas
+pub mod LongLemmas
 pub mod WordLemmas

@@ -1,7 +1,9 @@
 -- The forms of commands, and their limits.
-use Rattle.std.specs.Prelude.{ℕ, ◌^◌, Bool, true, false, ◌&&◌, ◌==◌, nat_le, List, [], ◌∷◌, length, not, if◌then◌else◌}
-use Rattle.pool_text.specs.Lines.{rest_of}
-use Rattle.pool_script.specs.Words.{is_empty, is_name}
+use Rattle.std.specs.Prelude.{ℕ, ◌^◌, Bool, true, false, ◌&&◌, ◌==◌, nat_le, List, [], ◌∷◌, length, slice_index, not, codes}
+use Rattle.std.specs.List.{list_all}
+use Rattle.std.specs.Str.{bytes_eq}
+use Rattle.pool_text.specs.Lines.{ended, rest_of}
+use Rattle.pool_script.specs.Words.{is_blank, is_empty, is_name}
 use Rattle.pool_script.specs.declared.command.Command.{Command}
 use Rattle.pool_script.specs.declared.command.Command.TheVariants as command
 
@@ -9,13 +11,21 @@ use Rattle.pool_script.specs.declared.command.Command.TheVariants as command
 abbrev pub is_within : ℕ → ℕ → ℕ → Bool
 is_within least most n = nat_le least n && nat_le n most
 
--- at most 65,536 bytes of lines that have ended
-abbrev pub is_block_text : List ℕ → Bool
-is_block_text text = nat_le (length text) 65536 && is_empty (rest_of text)
+-- lines that have all ended, none of them a dot
+abbrev pub are_block_lines : List ℕ → Bool
+are_block_lines text = is_empty (rest_of text) && list_all (λ line. not (bytes_eq line (codes "."))) (ended text)
 
--- the bytes of an expression: some, and no more than a line has
+-- the text of a block
+abbrev pub is_block_text : List ℕ → Bool
+is_block_text text = nat_le (length text) 65536 && are_block_lines text
+
+-- bytes of which none is a line feed
+abbrev pub holds_no_feed : List ℕ → Bool
+holds_no_feed bytes = list_all (λ byte. not (byte == 10)) bytes
+
+-- the bytes of an expression: some, no more than a line has, and no blank in front
 abbrev pub is_expr : List ℕ → Bool
-is_expr bytes = is_within 1 65536 (length bytes)
+is_expr bytes = is_within 1 65536 (length bytes) && not (is_blank (slice_index bytes 0)) && holds_no_feed bytes
 
 -- a command whose names, numbers and texts keep their forms and limits
 unfoldable pub is_within_form : Command → Bool

@@ -4,13 +4,13 @@ use Rattle.std.specs.List.{list_all}
 use Rattle.std.specs.Str.{bytes_eq}
 use Rattle.pool_text.specs.Lines.{ended, rest_of}
 use Rattle.pool_script.specs.Commands.{commands, is_dot, is_long, lines_of, next, takes_block}
-use Rattle.pool_script.specs.Form.{is_within_form}
+use Rattle.pool_script.specs.Form.{are_block_lines, is_within_form}
 use Rattle.pool_script.specs.declared.command.Command.{Command}
 use Rattle.pool_script.specs.declared.reader.Block.{Block}
 use Rattle.pool_script.specs.declared.reader.Reader.{Reader}
 
 -- as much of a line as is kept
-abbrev pub kept : List ℕ → List ℕ
+unfoldable pub kept : List ℕ → List ℕ
 kept line = take 65537 line
 
 -- the block behind a line: a text that is too long already grows no more
@@ -22,8 +22,7 @@ kept_next (Some block) line = if is_dot line then None else (if is_long block.te
 pub record IsOpen (block : Block) : Type 0 where
   pub taken : takes_block block.line ≡ true
   pub one_line : ended block.line ≡ []
-  pub whole_lines : rest_of block.text ≡ []
-  pub no_dot : list_all (λ line. not (bytes_eq line (codes "."))) (ended block.text) ≡ true
+  pub lines : are_block_lines block.text ≡ true
   pub short : length block.text ≤ 131074
 
 -- what a reader keeps between two lines or within one

@@ -100,12 +100,23 @@ impl Reader {
         ensures ok { OnOk result (HasRead self.old (10 ∷ []) self.new) }
         ensures line { OnOk result (self.new.line.items ≡ []) }
     {
-        match self.block.take() {
-            Some(block) => self.read_in_block(block)?,
-            None => self.read_outside()?,
-        }
+        self.read_line()?;
         self.line.clear();
         Ok(())
+    }
+
+    /// Reads the line, in a block or outside one.
+    fn read_line(&mut self) -> Result<(), OutOfMemory>
+        ensures line { self.new.line.items ≡ self.old.line.items }
+        ensures ok_waiting { OnOk result (self.new.waiting.items ≡ self.old.waiting.items ++ given self.old.block self.old.line.items) }
+        ensures ok_block { OnOk result (self.new.block ≡ kept_next self.old.block self.old.line.items) }
+        ensures err_waiting { OnErr result (self.new.waiting.items ≡ self.old.waiting.items) }
+        ensures err_block { OnErr result (self.new.block ≡ None) }
+    {
+        match self.block.take() {
+            Some(block) => self.read_in_block(block),
+            None => self.read_outside(),
+        }
     }
 
     #[tactic(auto, unfolding(crate::specs::Commands::given, crate::specs::Commands::next, crate::specs::Reading::kept_next))]

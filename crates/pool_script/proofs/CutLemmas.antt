@@ -1,11 +1,14 @@
 -- Lines at a line feed, of bytes with no line feed before it.
-use Rattle.std.proofs.Common.{◌≡◌, ◌≢◌, ℕ, zero, suc, ◌-◌, ◌+◌, ◌≤◌, ◌<◌, Bool, true, false, cond, eqb, List, [], ◌∷◌, ◌++◌, length, take, drop, get_or, refl, sym, ◌∙◌, ap, eq-eqb, inl, inr, arith, append_assoc}
-use Rattle.std.proofs.lemmas.Bool.{cases_Bool}
+use Rattle.std.proofs.Common.{◌≡◌, ◌≢◌, ℕ, zero, suc, ◌-◌, ◌+◌, ◌≤◌, ◌<◌, Bool, true, false, cond, eqb, List, [], ◌∷◌, ◌++◌, length, take, drop, get_or, refl, sym, ◌∙◌, ap, None, Some, inl, inr, arith, add-one, append_assoc, drop-cons}
+use Rattle.std.proofs.Math.Seq.{take-length}
+use Rattle.std.proofs.lemmas.Bool.{cases_Bool, eqb-true}
 use Rattle.std.proofs.lemmas.Bool.Decides.{nat_tests}
-use Rattle.std.proofs.lemmas.List.{append-nil, take-append-drop}
+use Rattle.std.proofs.lemmas.List.{append-nil, length-drop, take-append-drop, take_all}
+use Rattle.memchr.specs.Find.{IsFirstByte, is_byte}
 use Rattle.pool_text.specs.Lines.{ended, last_line, onto, rest_behind, rest_of, whole, with_feeds}
 use Rattle.pool_text.proofs.LineLemmas.{ended-append, ended_onto, rest_onto, with_feeds-ended}
 use Rattle.pool_script.specs.Commands.{lines_of}
+use Rattle.pool_script.specs.Cuts.{CutsAtFeed}
 
 onto_none : (x : ℕ) (lines : List (List ℕ)) → onto x lines ≡ [] → lines ≡ []
 onto_none x [] none = refl
@@ -39,13 +42,13 @@ ended_none-take n a none = ended_none-front (take n a) (drop n a) (ap (λ (l : L
 pub rest_of-none : (a : List ℕ) → ended a ≡ [] → rest_of a ≡ a
 rest_of-none a none = ap (λ (lines : List (List ℕ)). with_feeds lines ++ rest_of a) (sym none) ∙ with_feeds-ended a
 
-ended_feed : (line more : List ℕ) → ended line ≡ [] → ended (line ++ 10 ∷ more) ≡ line ∷ ended more
+pub ended_feed : (line more : List ℕ) → ended line ≡ [] → ended (line ++ 10 ∷ more) ≡ line ∷ ended more
 ended_feed [] more none = refl
 ended_feed (x ∷ line) more none =
     let first = none_step x line none in
     ended_onto x (line ++ 10 ∷ more) first.0 ∙ ap (λ (lines : List (List ℕ)). onto x lines) (ended_feed line more first.1)
 
-rest_feed : (line more : List ℕ) → ended line ≡ [] → rest_of (line ++ 10 ∷ more) ≡ rest_of more
+pub rest_feed : (line more : List ℕ) → ended line ≡ [] → rest_of (line ++ 10 ∷ more) ≡ rest_of more
 rest_feed [] more none = refl
 rest_feed (x ∷ line) more none =
     let first = none_step x line none in
@@ -80,9 +83,36 @@ lines_feeds over [] more are = refl
 lines_feeds over (line ∷ lines) more are =
     ap (λ (bytes : List ℕ). lines_of over bytes) (append_assoc (line ++ 10 ∷ []) (with_feeds lines) more ∙ append_assoc line (10 ∷ []) (with_feeds lines ++ more)) ∙ lines_feed over line (with_feeds lines ++ more) are.0 ∙ ap (λ (rest : List (List ℕ)). line ∷ rest) (lines_feeds over lines more are.1)
 
+no_feed_at : (bytes : List ℕ) (k : ℕ) → ¬ (eqb (get_or bytes k 0) 10 ≡ true) → eqb (get_or bytes k 0) 10 ≡ false
+no_feed_at bytes k other =
+    elim (cases_Bool (eqb (get_or bytes k 0) 10)) [
+    | inl is ↦ absurd (other is)
+    | inr is ↦ is
+    ]
+
 -- bytes before the first line feed end no line
 pub ended_none-before : (bytes : List ℕ) (n : ℕ) → n ≤ length bytes → ((k : ℕ) → k < n → eqb (get_or bytes k 0) 10 ≡ false) → ended (take n bytes) ≡ []
 ended_none-before bytes zero fits before = refl
 ended_none-before [] (suc n) fits before = refl
 ended_none-before (x ∷ bytes) (suc n) fits before =
     none_more x (take n bytes) (before 0 (omega arith)) (ended_none-before bytes n (omega arith) (λ k below. before (suc k) (omega arith)))
+
+-- bytes without a line feed end no line
+pub ended_none-nowhere : (bytes : List ℕ) → IsFirstByte (is_byte 10) bytes None → ended bytes ≡ []
+ended_none-nowhere bytes nowhere = ap (λ (l : List ℕ). ended l) (sym (take-length bytes)) ∙ ended_none-before bytes (length bytes) (omega arith) (λ k below. no_feed_at bytes k (nowhere k (omega arith) below))
+
+-- bytes with a line feed are cut at the first one
+pub cuts_at_first : (bytes : List ℕ) (n : ℕ) → IsFirstByte (is_byte 10) bytes (Some n) → CutsAtFeed bytes (take n bytes) (drop (n + 1) bytes)
+cuts_at_first bytes n first =
+    let below : n < length bytes = first.0.high in
+    let feed : get_or bytes n 0 ≡ 10 = eqb-true (get_or bytes n 0) 10 first.1 in
+    record {
+      one_line = ended_none-before bytes n (omega arith) (λ k before. no_feed_at bytes k (first.0.before k (omega arith) before));
+      parts = ap (λ (x : ℕ). take n bytes ++ x ∷ drop (n + 1) bytes) (sym feed) ∙ ap (λ (m : ℕ). take n bytes ++ get_or bytes n 0 ∷ drop m bytes) (add-one n) ∙ ap (λ (rest : List ℕ). take n bytes ++ rest) (sym (drop-cons bytes n 0 below)) ∙ take-append-drop n bytes;
+    }
+
+rest_is : (bytes : List ℕ) (n : ℕ) → take (length bytes - n) (drop n bytes) ≡ drop n bytes
+rest_is bytes n = take_all (length bytes - n) (drop n bytes) (omega (arith, length-drop n bytes))
+
+pub cuts_at_place : (bytes : List ℕ) (n : ℕ) → IsFirstByte (is_byte 10) bytes (Some n) → CutsAtFeed bytes (take n bytes) (take (length bytes - (n + 1)) (drop (n + 1) bytes))
+cuts_at_place bytes n first = rw (rest_is bytes (n + 1)) (cuts_at_first bytes n first)

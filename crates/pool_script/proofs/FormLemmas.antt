@@ -29,7 +29,7 @@ past_blanks-le (byte ∷ bytes) =
     | inr is ↦ rw is (omega arith)
     ]
 
-without_return-le : (line : List ℕ) → length (without_return line) ≤ length line
+pub without_return-le : (line : List ℕ) → length (without_return line) ≤ length line
 without_return-le [] = omega arith
 without_return-le (x ∷ []) =
     elim (cases_Bool (eqb x 13)) [
@@ -167,7 +167,7 @@ none_past_word (byte ∷ bytes) none =
     | inr is ↦ rw is (none_past_word bytes (none_step byte bytes none).1)
     ]
 
-none_without_return : (line : List ℕ) → ended line ≡ [] → ended (without_return line) ≡ []
+pub none_without_return : (line : List ℕ) → ended line ≡ [] → ended (without_return line) ≡ []
 none_without_return [] none = refl
 none_without_return (x ∷ []) none =
     elim (cases_Bool (eqb x 13)) [
@@ -264,7 +264,7 @@ line_form line block short none whole =
     let rest = rest_behind_word (text_of line) (omega (arith, text_of-le line)) (none_past_blanks (without_return line) (none_without_return line none)) in
     option_form (keyword_of (word_of (text_of line))) (words_behind (text_of line)) block rest whole
 
-all_form : (made : Command) → is_within_form made ≡ true → list_all is_within_form (made ∷ []) ≡ true
+pub all_form : (made : Command) → is_within_form made ≡ true → list_all is_within_form (made ∷ []) ≡ true
 all_form made form = rw form refl
 
 pub takes_block-short : (line : List ℕ) → takes_block line ≡ true → is_long line ≡ false

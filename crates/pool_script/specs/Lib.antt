@@ -1,4 +1,5 @@
 pub mod Commands
+pub mod Cuts
 pub mod Form
 pub mod Keywords
 pub mod Reading

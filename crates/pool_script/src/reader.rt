@@ -1,7 +1,8 @@
 // The commands of lines, read one line at a time.
-ghost use Rattle.std.specs.Prelude.{◌≡◌, ◌++◌, ◌∷◌, [], None, Some, OnOk, OnErr};
+ghost use Rattle.std.specs.Prelude.{◌≡◌, ◌++◌, ◌∷◌, [], None, Some, MatchOption, OnOk, OnErr};
 ghost use Rattle.pool_text.specs.Lines.{ended};
-ghost use Rattle.pool_script.specs.Commands.{given};
+ghost use Rattle.pool_script.specs.Cuts.{CutsAtFeed};
+ghost use Rattle.pool_script.specs.Commands.{cut_off, given};
 
 use crate::Command;
 use crate::line::{LONGEST, is_dot, is_silent, takes_block, without_return};
@@ -25,6 +26,16 @@ pub(crate) struct Reader {
     pub(crate) waiting: VecDeque<Command>,
     pub(crate) block: Option<Block>,
     pub(crate) line: Vec<u8>,
+}
+
+/// The bytes before the first line feed, and those behind it; none where there is no line feed.
+fn split_line(bytes: &[u8]) -> Option<(&[u8], &[u8])>
+    ensures { MatchOption result (ended bytes.now ≡ []) (λ parts. CutsAtFeed bytes.now parts.0.now parts.1.now) }
+{
+    match memchr(b'\n', bytes) {
+        Some(place) => Some((&bytes[..place], &bytes[place + 1..])),
+        None => None,
+    }
 }
 
 impl Reader {
@@ -51,10 +62,10 @@ impl Reader {
         ensures ok { OnOk result (HasRead self.old piece.now self.new) }
     {
         let mut left = piece;
-        while let Some(place) = memchr(b'\n', left) {
-            self.extend_line(&left[..place])?;
+        while let Some((line, behind)) = split_line(left) {
+            self.extend_line(line)?;
             self.end_line()?;
-            left = &left[place + 1..];
+            left = behind;
         }
         self.extend_line(left)
     }
@@ -67,9 +78,34 @@ impl Reader {
         ensures block { OnOk result (self.new.block ≡ None) }
         ensures line { OnOk result (self.new.line.items ≡ []) }
     {
-        if !self.line.is_empty() {
-            self.end_line()?;
+        self.end_last_line()?;
+        self.end_block()
+    }
+
+    /// Reads the line as the last one, which has no line feed; none where it has no bytes.
+    fn end_last_line(&mut self) -> Result<(), OutOfMemory>
+        requires { IsSound self.old }
+        ensures sound { IsSound self.new }
+        ensures ok { OnOk result (self.new.waiting.items ++ cut_off self.new.block ≡ commands_from true self.old []) }
+        ensures line { OnOk result (self.new.line.items ≡ []) }
+    {
+        if self.line.is_empty() {
+            return Ok(());
         }
+        self.end_line()?;
+        Ok(())
+    }
+
+    /// Refuses the block that the input ends within, if there is one.
+    #[tactic(auto, unfolding(crate::specs::Commands::cut_off))]
+    fn end_block(&mut self) -> Result<(), OutOfMemory>
+        requires { IsSound self.old }
+        ensures sound { IsSound self.new }
+        ensures line { self.new.line.items ≡ self.old.line.items }
+        ensures block { self.new.block ≡ None }
+        ensures ok { OnOk result (self.new.waiting.items ≡ self.old.waiting.items ++ cut_off self.old.block) }
+        ensures err { OnErr result (self.new.waiting.items ≡ self.old.waiting.items) }
+    {
         match self.block.take() {
             Some(block) => {
                 let command = line_command(self.alloc, block.line.bytes(), None)?;

@@ -3,4 +3,7 @@ pub mod FormLemmas
 pub mod LineLemmas
 pub mod LongLemmas
 pub mod ReaderLemmas
+pub mod RestLemmas
+pub mod ScriptLemmas
+pub mod StandingLemmas
 pub mod WordLemmas

@@ -41,19 +41,19 @@ bytes_read old new bytes sound none waiting block line = record {
   commands = λ over more. rw (waiting, block, line) (ap (λ (made : List Command). old.waiting.items ++ made) (kept_line over old.block (old.line.items ++ bytes) more (ended_none-append old.line.items bytes sound.one_line none) ∙ ap (λ (l : List ℕ). commands over old.block (lines_of over l)) (append_assoc old.line.items bytes more)))
 }
 
-and_left : (a b : Bool) → (a && b) ≡ true → a ≡ true
+pub and_left : (a b : Bool) → (a && b) ≡ true → a ≡ true
 and_left true b is = refl
 and_left false b is = is
 
-and_right : (a b : Bool) → (a && b) ≡ true → b ≡ true
+pub and_right : (a b : Bool) → (a && b) ≡ true → b ≡ true
 and_right true b is = is
 and_right false b is = cc
 
-nil_if_empty : (bytes : List ℕ) → is_empty bytes ≡ true → bytes ≡ []
+pub nil_if_empty : (bytes : List ℕ) → is_empty bytes ≡ true → bytes ≡ []
 nil_if_empty [] is = refl
 nil_if_empty (x ∷ bytes) is = let no : length (x ∷ bytes) ≡ 0 = eqb-true (length (x ∷ bytes)) 0 is in absurd (omega arith)
 
-abbrev no_dots : List (List ℕ) → Bool
+abbrev pub no_dots : List (List ℕ) → Bool
 no_dots lines = list_all (λ line. not (bytes_eq line (codes "."))) lines
 
 ended_with : (text line : List ℕ) → rest_of text ≡ [] → ended line ≡ [] → ended (text ++ line ++ 10 ∷ []) ≡ ended text ++ line ∷ []

@@ -1,8 +1,8 @@
 -- The commands as a reader makes them: a line and a block of which only the first bytes are kept where they are too long.
-use Rattle.std.specs.Prelude.{◌≡◌, ℕ, ◌≤◌, Bool, true, false, List, [], ◌∷◌, ◌++◌, length, take, Option, None, Some, codes, not, if◌then◌else◌}
+use Rattle.std.specs.Prelude.{◌≡◌, ℕ, ◌≤◌, Bool, true, false, List, [], ◌∷◌, ◌++◌, length, map, take, Option, None, Some, codes, not, if◌then◌else◌}
 use Rattle.std.specs.List.{list_all}
 use Rattle.std.specs.Str.{bytes_eq}
-use Rattle.pool_text.specs.Lines.{ended, rest_of}
+use Rattle.pool_text.specs.Lines.{ended, with_feeds}
 use Rattle.pool_script.specs.Commands.{commands, is_dot, is_long, lines_of, next, takes_block}
 use Rattle.pool_script.specs.Form.{are_block_lines, is_within_form}
 use Rattle.pool_script.specs.declared.command.Command.{Command}
@@ -39,3 +39,12 @@ commands_from over reader more = reader.waiting.items ++ commands over reader.bl
 -- the new reader is the old one with the bytes behind what it has read
 pub record HasRead (old : Reader) (bytes : List ℕ) (new : Reader) : Type 0 where
   pub commands : (over : Bool) (more : List ℕ) → commands_from over new more ≡ commands_from over old (bytes ++ more)
+
+-- a line that ends in a carriage return, so that dropping one gives the line again
+abbrev pub with_return : List ℕ → List ℕ
+with_return line = line ++ 13 ∷ []
+
+-- the bytes that are no command yet: the line that took a block, the block's lines, and the line that has begun
+unfoldable pub rest_kept : Option Block → List ℕ → List ℕ
+rest_kept None line = line
+rest_kept (Some block) line = block.line ++ 10 ∷ (with_feeds (map with_return (ended block.text)) ++ line)

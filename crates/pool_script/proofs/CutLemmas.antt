@@ -18,8 +18,8 @@ onto_none x (line ∷ lines) none = cc
 pub none_step : (x : ℕ) (bytes : List ℕ) → ended (x ∷ bytes) ≡ [] → (eqb x 10 ≡ false) × (ended bytes ≡ [])
 none_step x bytes none =
     elim (cases_Bool (eqb x 10)) [
-    | inl is ↦ let some : [] ∷ ended bytes ≡ [] = rw is at none in cc
-    | inr is ↦ (is, onto_none x (ended bytes) (sym (ended_onto x bytes is) ∙ none))
+      | inl is ↦ let some : [] ∷ ended bytes ≡ [] = rw is at none in cc
+      | inr is ↦ (is, onto_none x (ended bytes) (sym (ended_onto x bytes is) ∙ none))
     ]
 
 pub none_more : (x : ℕ) (bytes : List ℕ) → eqb x 10 ≡ false → ended bytes ≡ [] → ended (x ∷ bytes) ≡ []
@@ -73,8 +73,8 @@ pub are_lines : (bytes : List ℕ) → AreLines (ended bytes)
 are_lines [] = tt
 are_lines (x ∷ bytes) =
     elim (cases_Bool (eqb x 10)) [
-    | inl is ↦ rw is (refl, are_lines bytes)
-    | inr is ↦ rw is (lines_onto x (ended bytes) is (are_lines bytes))
+      | inl is ↦ rw is (refl, are_lines bytes)
+      | inr is ↦ rw is (lines_onto x (ended bytes) is (are_lines bytes))
     ]
 
 -- lines that have ended are the first of the lines
@@ -86,8 +86,8 @@ lines_feeds over (line ∷ lines) more are =
 no_feed_at : (bytes : List ℕ) (k : ℕ) → ¬ (eqb (get_or bytes k 0) 10 ≡ true) → eqb (get_or bytes k 0) 10 ≡ false
 no_feed_at bytes k other =
     elim (cases_Bool (eqb (get_or bytes k 0) 10)) [
-    | inl is ↦ absurd (other is)
-    | inr is ↦ is
+      | inl is ↦ absurd (other is)
+      | inr is ↦ is
     ]
 
 -- bytes before the first line feed end no line

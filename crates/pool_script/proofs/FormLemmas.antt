@@ -25,16 +25,16 @@ past_blanks-le : (bytes : List ℕ) → length (past_blanks bytes) ≤ length by
 past_blanks-le [] = omega arith
 past_blanks-le (byte ∷ bytes) =
     elim (cases_Bool (is_blank byte)) [
-    | inl is ↦ let more = past_blanks-le bytes in rw is (omega arith)
-    | inr is ↦ rw is (omega arith)
+      | inl is ↦ let more = past_blanks-le bytes in rw is (omega arith)
+      | inr is ↦ rw is (omega arith)
     ]
 
 pub without_return-le : (line : List ℕ) → length (without_return line) ≤ length line
 without_return-le [] = omega arith
 without_return-le (x ∷ []) =
     elim (cases_Bool (eqb x 13)) [
-    | inl is ↦ rw is (omega arith)
-    | inr is ↦ rw is (omega arith)
+      | inl is ↦ rw is (omega arith)
+      | inr is ↦ rw is (omega arith)
     ]
 without_return-le (x ∷ y ∷ line) = let more = without_return-le (y ∷ line) in omega arith
 
@@ -65,23 +65,23 @@ named_form : (make : List ℕ → Command) → ((name : List ℕ) → is_name na
 unfolding sole_name
 named_form make form words =
     elim (cases_Bool (is_name (word_of words) && is_empty (words_behind words))) [
-    | inl is ↦ rw is (form (word_of words) (and_left (is_name (word_of words)) (is_empty (words_behind words)) is))
-    | inr is ↦ rw is (bad_form 3 refl)
+      | inl is ↦ rw is (form (word_of words) (and_left (is_name (word_of words)) (is_empty (words_behind words)) is))
+      | inr is ↦ rw is (bad_form 3 refl)
     ]
 
 bounded_form : (make : ℕ → Command) (least most : ℕ) → ((n : ℕ) → is_within least most n ≡ true → is_within_form (make n) ≡ true) → (n : Option ℕ) → is_within_form (option_map_or make (option_and_then (λ m. if nat_le least m && nat_le m most then Some m else None) n) (command.Bad 3)) ≡ true
 bounded_form make least most form None = bad_form 3 refl
 bounded_form make least most form (Some n) =
     elim (cases_Bool (nat_le least n && nat_le n most)) [
-    | inl is ↦ rw is (form n is)
-    | inr is ↦ rw is (bad_form 3 refl)
+      | inl is ↦ rw is (form n is)
+      | inr is ↦ rw is (bad_form 3 refl)
     ]
 
 number_form : (make : ℕ → Command) (least most : ℕ) → ((n : ℕ) → is_within least most n ≡ true → is_within_form (make n) ≡ true) → (words : List ℕ) → is_within_form (option_map_or make (sole_number words least most) (command.Bad 3)) ≡ true
 number_form make least most form words =
     elim (cases_Bool (is_empty (words_behind words))) [
-    | inl is ↦ rw is (bounded_form make least most form (number_of (word_of words)))
-    | inr is ↦ rw is (bad_form 3 refl)
+      | inl is ↦ rw is (bounded_form make least most form (number_of (word_of words)))
+      | inr is ↦ rw is (bad_form 3 refl)
     ]
 
 block_form : (make : List ℕ → Command) → ((text : List ℕ) → is_block_text text ≡ true → is_within_form (make text) ≡ true) → (block : Option (List ℕ)) → HasWholeLines block → is_within_form (with_block make (block_text block)) ≡ true
@@ -89,22 +89,22 @@ unfolding block_text
 block_form make form None whole = bad_form 4 refl
 block_form make form (Some text) whole =
     elim (cases_Bool (nat_le (length text) 65536)) [
-    | inl is ↦ rw is (form text (rw (is, whole) refl))
-    | inr is ↦ rw is (bad_form 5 refl)
+      | inl is ↦ rw is (form text (rw (is, whole) refl))
+      | inr is ↦ rw is (bad_form 5 refl)
     ]
 
 name_form : (name : List ℕ) (made : Command) → (is_name name ≡ true → is_within_form made ≡ true) → is_within_form (if is_name name then made else command.Bad 3) ≡ true
 name_form name made form =
     elim (cases_Bool (is_name name)) [
-    | inl is ↦ rw is (form is)
-    | inr is ↦ rw is (bad_form 3 refl)
+      | inl is ↦ rw is (form is)
+      | inr is ↦ rw is (bad_form 3 refl)
     ]
 
 alone_form : (words : List ℕ) (made : Command) → is_within_form made ≡ true → is_within_form (if is_empty words then made else command.Bad 3) ≡ true
 alone_form words made form =
     elim (cases_Bool (is_empty words)) [
-    | inl is ↦ rw is form
-    | inr is ↦ rw is (bad_form 3 refl)
+      | inl is ↦ rw is form
+      | inr is ↦ rw is (bad_form 3 refl)
     ]
 
 advertised_form : (name : List ℕ) (lifetime : ℕ) (block : List ℕ) → is_name name ≡ true → is_within 1 (10 ^ 9) lifetime ≡ true → is_block_text block ≡ true → is_within_form (command.Advertise name lifetime block) ≡ true
@@ -155,24 +155,24 @@ none_past_blanks : (bytes : List ℕ) → ended bytes ≡ [] → ended (past_bla
 none_past_blanks [] none = refl
 none_past_blanks (byte ∷ bytes) none =
     elim (cases_Bool (is_blank byte)) [
-    | inl is ↦ rw is (none_past_blanks bytes (none_step byte bytes none).1)
-    | inr is ↦ rw is none
+      | inl is ↦ rw is (none_past_blanks bytes (none_step byte bytes none).1)
+      | inr is ↦ rw is none
     ]
 
 none_past_word : (bytes : List ℕ) → ended bytes ≡ [] → ended (past_word bytes) ≡ []
 none_past_word [] none = refl
 none_past_word (byte ∷ bytes) none =
     elim (cases_Bool (is_blank byte)) [
-    | inl is ↦ rw is none
-    | inr is ↦ rw is (none_past_word bytes (none_step byte bytes none).1)
+      | inl is ↦ rw is none
+      | inr is ↦ rw is (none_past_word bytes (none_step byte bytes none).1)
     ]
 
 pub none_without_return : (line : List ℕ) → ended line ≡ [] → ended (without_return line) ≡ []
 none_without_return [] none = refl
 none_without_return (x ∷ []) none =
     elim (cases_Bool (eqb x 13)) [
-    | inl is ↦ rw is refl
-    | inr is ↦ rw is none
+      | inl is ↦ rw is refl
+      | inr is ↦ rw is none
     ]
 none_without_return (x ∷ y ∷ line) none = let first = none_step x (y ∷ line) none in none_more x (without_return (y ∷ line)) first.0 (none_without_return (y ∷ line) first.1)
 
@@ -180,8 +180,8 @@ no_blank_in_front : (bytes : List ℕ) → is_blank (slice_index (past_blanks by
 no_blank_in_front [] = refl
 no_blank_in_front (byte ∷ bytes) =
     elim (cases_Bool (is_blank byte)) [
-    | inl is ↦ rw is (no_blank_in_front bytes)
-    | inr is ↦ rw is is
+      | inl is ↦ rw is (no_blank_in_front bytes)
+      | inr is ↦ rw is is
     ]
 
 -- bytes behind a word
@@ -207,8 +207,8 @@ eval_form : (words : List ℕ) → IsRest words → is_within_form (eval words) 
 unfolding eval is_within_form
 eval_form words rest =
     elim (cases_Bool (is_empty words)) [
-    | inl is ↦ rw is refl
-    | inr is ↦ rw is (expr_form words is rest)
+      | inl is ↦ rw is refl
+      | inr is ↦ rw is (expr_form words is rest)
     ]
 
 docked_form : (name expr : List ℕ) → is_name name ≡ true → is_expr expr ≡ true → is_within_form (command.EvalIn name expr) ≡ true
@@ -223,11 +223,11 @@ eval_in_form : (words : List ℕ) → IsRest words → is_within_form (eval_in w
 unfolding eval_in
 eval_in_form words rest =
     elim (cases_Bool (is_name (word_of words) && not (is_empty (words_behind words)))) [
-    | inl is ↦
-        let named = and_left (is_name (word_of words)) (not (is_empty (words_behind words))) is in
-        let some = not_true (is_empty (words_behind words)) (and_right (is_name (word_of words)) (not (is_empty (words_behind words))) is) in
-        rw is (docked_form (word_of words) (words_behind words) named (expr_form (words_behind words) some (rest_behind_word words rest.fits rest.one_line)))
-    | inr is ↦ rw is (bad_form 3 refl)
+      | inl is ↦
+          let named = and_left (is_name (word_of words)) (not (is_empty (words_behind words))) is in
+          let some = not_true (is_empty (words_behind words)) (and_right (is_name (word_of words)) (not (is_empty (words_behind words))) is) in
+          rw is (docked_form (word_of words) (words_behind words) named (expr_form (words_behind words) some (rest_behind_word words rest.fits rest.one_line)))
+      | inr is ↦ rw is (bad_form 3 refl)
     ]
 
 clock_form : (words : List ℕ) → is_within_form (clock words) ≡ true
@@ -271,8 +271,8 @@ pub takes_block-short : (line : List ℕ) → takes_block line ≡ true → is_l
 unfolding takes_block
 takes_block-short line takes =
     elim (cases_Bool (is_long line)) [
-    | inl is ↦ let no : false ≡ true = rw is at takes in cc
-    | inr is ↦ is
+      | inl is ↦ let no : false ≡ true = rw is at takes in cc
+      | inr is ↦ is
     ]
 
 silent_form : (silent : Bool) (made : Command) → is_within_form made ≡ true → list_all is_within_form (if silent then [] else made ∷ []) ≡ true
@@ -284,8 +284,8 @@ pub given_form_outside : (line : List ℕ) → ended line ≡ [] → list_all is
 unfolding given
 given_form_outside line none =
     elim (cases_Bool (is_long line)) [
-    | inl is ↦ rw is (all_form (command.Bad 1) (bad_form 1 refl))
-    | inr is ↦ rw is (silent_form (is_silent line || takes_block line) (line_command line None) (line_form line None is none tt))
+      | inl is ↦ rw is (all_form (command.Bad 1) (bad_form 1 refl))
+      | inr is ↦ rw is (silent_form (is_silent line || takes_block line) (line_command line None) (line_form line None is none tt))
     ]
 
 -- in a block
@@ -293,6 +293,6 @@ pub given_form_inside : (block : Block) (line : List ℕ) → IsOpen block → l
 unfolding given
 given_form_inside block line is_open =
     elim (cases_Bool (is_dot line)) [
-    | inl is ↦ rw is (all_form (line_command block.line (Some block.text)) (line_form block.line (Some block.text) (takes_block-short block.line is_open.taken) is_open.one_line is_open.lines))
-    | inr is ↦ rw is refl
+      | inl is ↦ rw is (all_form (line_command block.line (Some block.text)) (line_form block.line (Some block.text) (takes_block-short block.line is_open.taken) is_open.one_line is_open.lines))
+      | inr is ↦ rw is refl
     ]

@@ -9,8 +9,8 @@ use Rattle.pool_text.specs.Lines.{ended, without_return}
 front_byte : (x y : ℕ) (front : List ℕ) (last : ℕ) → without_return (y ∷ front ++ last ∷ []) ≡ cond (eqb last 13) (y ∷ front) (y ∷ front ++ last ∷ []) → without_return (x ∷ y ∷ front ++ last ∷ []) ≡ cond (eqb last 13) (x ∷ y ∷ front) (x ∷ y ∷ front ++ last ∷ [])
 front_byte x y front last more =
     elim (cases_Bool (eqb last 13)) [
-    | inl is ↦ let front_is = rw is at more in rw is (ap (λ (l : List ℕ). x ∷ l) front_is)
-    | inr is ↦ let all_is = rw is at more in rw is (ap (λ (l : List ℕ). x ∷ l) all_is)
+      | inl is ↦ let front_is = rw is at more in rw is (ap (λ (l : List ℕ). x ∷ l) front_is)
+      | inr is ↦ let all_is = rw is at more in rw is (ap (λ (l : List ℕ). x ∷ l) all_is)
     ]
 
 -- only the last byte of a line may be dropped
@@ -18,8 +18,8 @@ pub without_return-push : (front : List ℕ) (last : ℕ) → without_return (fr
 without_return-push [] last = refl
 without_return-push (x ∷ []) last =
     elim (cases_Bool (eqb last 13)) [
-    | inl is ↦ rw is refl
-    | inr is ↦ rw is refl
+      | inl is ↦ rw is refl
+      | inr is ↦ rw is refl
     ]
 without_return-push (x ∷ y ∷ front) last = front_byte x y front last (without_return-push (y ∷ front) last)
 

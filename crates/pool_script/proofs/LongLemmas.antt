@@ -65,11 +65,11 @@ unfolding given next cut_off
 long_texts over line text text2 [] long long2 = refl
 long_texts over line text text2 (l ∷ lines) long long2 =
     elim (cases_Bool (is_dot l)) [
-    | inl is ↦ rw is (ap (λ (c : Command). c ∷ commands over None lines) (long_answer line text text2 long long2))
-    | inr is ↦ rw is (long_texts over line (text ++ without_return l ++ 10 ∷ []) (text2 ++ without_return l ++ 10 ∷ []) lines (is_long-append (text ++ without_return l) (10 ∷ []) (is_long-append text (without_return l) long)) (is_long-append (text2 ++ without_return l) (10 ∷ []) (is_long-append text2 (without_return l) long2)))
+      | inl is ↦ rw is (ap (λ (c : Command). c ∷ commands over None lines) (long_answer line text text2 long long2))
+      | inr is ↦ rw is (long_texts over line (text ++ without_return l ++ 10 ∷ []) (text2 ++ without_return l ++ 10 ∷ []) lines (is_long-append (text ++ without_return l) (10 ∷ []) (is_long-append text (without_return l) long)) (is_long-append (text2 ++ without_return l) (10 ∷ []) (is_long-append text2 (without_return l) long2)))
     ]
 
-takes_block-long : (line : List ℕ) → is_long line ≡ true → takes_block line ≡ false
+pub takes_block-long : (line : List ℕ) → is_long line ≡ true → takes_block line ≡ false
 unfolding takes_block
 takes_block-long line long = rw long refl
 
@@ -81,20 +81,20 @@ without_return-length : (line : List ℕ) → length line ≤ length (without_re
 without_return-length [] = omega arith
 without_return-length (x ∷ []) =
     elim (cases_Bool (eqb x 13)) [
-    | inl is ↦ rw is (omega arith)
-    | inr is ↦ rw is (omega arith)
+      | inl is ↦ rw is (omega arith)
+      | inr is ↦ rw is (omega arith)
     ]
 without_return-length (x ∷ y ∷ line) = let more = without_return-length (y ∷ line) in omega arith
 
 is_dot-long : (line : List ℕ) → is_long line ≡ true → is_dot line ≡ false
 is_dot-long line long =
     elim (cases_Bool (is_dot line)) [
-    | inl is ↦
-        let one = ap length ((bytes_eq-Decides (without_return line) (codes ".")).0 is) in
-        let many = without_return-length line in
-        let above : 65536 < length line = grind (arith, nat_tests) in
-        absurd (omega arith)
-    | inr is ↦ is
+      | inl is ↦
+          let one = ap length ((bytes_eq-Decides (without_return line) (codes ".")).0 is) in
+          let many = without_return-length line in
+          let above : 65536 < length line = grind (arith, nat_tests) in
+          absurd (omega arith)
+      | inr is ↦ is
     ]
 
 text_long : (text line : List ℕ) → is_long line ≡ true → is_long (text ++ without_return line ++ 10 ∷ []) ≡ true
@@ -136,12 +136,12 @@ pub long_lines : (over : Bool) (block : Option Block) (more line line2 : List �
 long_lines over block [] line line2 long long2 none none2 = rw (append-nil line, append-nil line2) (long_end over block line line2 long long2 none none2)
 long_lines over block (byte ∷ more) line line2 long long2 none none2 =
     elim (cases_Bool (eqb byte 10)) [
-    | inl is ↦
-        let feed : byte ≡ 10 = grind (arith, nat_tests) in
-        rw (feed, lines_feed over line more none, lines_feed over line2 more none2) (long_line over block line line2 (lines_of over more) long long2)
-    | inr is ↦
-        let next_is = long_lines over block more (line ++ byte ∷ []) (line2 ++ byte ∷ []) (is_long-append line (byte ∷ []) long) (is_long-append line2 (byte ∷ []) long2) (ended_none-append line (byte ∷ []) none (one_byte byte is)) (ended_none-append line2 (byte ∷ []) none2 (one_byte byte is)) in
-        ap (λ (bytes : List ℕ). commands over block (lines_of over bytes)) (sym (append_assoc line (byte ∷ []) more)) ∙ next_is ∙ ap (λ (bytes : List ℕ). commands over block (lines_of over bytes)) (append_assoc line2 (byte ∷ []) more)
+      | inl is ↦
+          let feed : byte ≡ 10 = grind (arith, nat_tests) in
+          rw (feed, lines_feed over line more none, lines_feed over line2 more none2) (long_line over block line line2 (lines_of over more) long long2)
+      | inr is ↦
+          let next_is = long_lines over block more (line ++ byte ∷ []) (line2 ++ byte ∷ []) (is_long-append line (byte ∷ []) long) (is_long-append line2 (byte ∷ []) long2) (ended_none-append line (byte ∷ []) none (one_byte byte is)) (ended_none-append line2 (byte ∷ []) none2 (one_byte byte is)) in
+          ap (λ (bytes : List ℕ). commands over block (lines_of over bytes)) (sym (append_assoc line (byte ∷ []) more)) ∙ next_is ∙ ap (λ (bytes : List ℕ). commands over block (lines_of over bytes)) (append_assoc line2 (byte ∷ []) more)
     ]
 
 kept_short : (line : List ℕ) → is_long line ≡ false → kept line ≡ line
@@ -159,8 +159,8 @@ kept_long line long =
 pub kept_line : (over : Bool) (block : Option Block) (line more : List ℕ) → ended line ≡ [] → commands over block (lines_of over (kept line ++ more)) ≡ commands over block (lines_of over (line ++ more))
 kept_line over block line more none =
     elim (cases_Bool (is_long line)) [
-    | inl is ↦ long_lines over block more (kept line) line (kept_long line is) is (ended_kept line none) none
-    | inr is ↦ ap (λ (l : List ℕ). commands over block (lines_of over (l ++ more))) (kept_short line is)
+      | inl is ↦ long_lines over block more (kept line) line (kept_long line is) is (ended_kept line none) none
+      | inr is ↦ ap (λ (l : List ℕ). commands over block (lines_of over (l ++ more))) (kept_short line is)
     ]
 
 long_next : (over : Bool) (block : Block) (line : List ℕ) (lines : List (List ℕ)) → is_dot line ≡ false → is_long block.text ≡ true → commands over (Some block) lines ≡ commands over (next (Some block) line) lines
@@ -177,12 +177,12 @@ unfolding kept_next
 kept_block over None line lines = refl
 kept_block over (Some block) line lines =
     elim (cases_Bool (is_dot line)) [
-    | inl is ↦ rw is (ap (λ (b : Option Block). commands over b lines) (next_at_dot block line is))
-    | inr is ↦
-        elim (cases_Bool (is_long block.text)) [
-        | inl long ↦ rw (is, long) (long_next over block line lines is long)
-        | inr short ↦ rw (is, short) refl
-        ]
+      | inl is ↦ rw is (ap (λ (b : Option Block). commands over b lines) (next_at_dot block line is))
+      | inr is ↦
+          elim (cases_Bool (is_long block.text)) [
+            | inl long ↦ rw (is, long) (long_next over block line lines is long)
+            | inr short ↦ rw (is, short) refl
+          ]
     ]
 
 pub kept-length : (line : List ℕ) → length (kept line) ≤ 65537

@@ -38,7 +38,7 @@ bytes_sound old new bytes sound none waiting block line = record {
 
 pub bytes_read : (old new : Reader) (bytes : List ℕ) → IsSound old → ended bytes ≡ [] → new.waiting ≡ old.waiting → new.block ≡ old.block → new.line.items ≡ kept (old.line.items ++ bytes) → HasRead old bytes new
 bytes_read old new bytes sound none waiting block line = record {
-  commands = λ over more. rw (waiting, block, line) (ap (λ (made : List Command). old.waiting.items ++ made) (kept_line over old.block (old.line.items ++ bytes) more (ended_none-append old.line.items bytes sound.one_line none) ∙ ap (λ (l : List ℕ). commands over old.block (lines_of over l)) (append_assoc old.line.items bytes more)))
+  commands = λ over more. rw (waiting, block, line) (ap (λ (made : List Command). old.waiting.items ++ made) (kept_line over old.block (old.line.items ++ bytes) more (ended_none-append old.line.items bytes sound.one_line none) ∙ ap (λ (l : List ℕ). commands over old.block (lines_of over l)) (append_assoc old.line.items bytes more)));
 }
 
 pub and_left : (a b : Bool) → (a && b) ≡ true → a ≡ true
@@ -95,20 +95,20 @@ open_outside : (line : List ℕ) → ended line ≡ [] → (block : Block) → k
 unfolding kept_next next
 open_outside line none block is =
     elim (cases_Bool (takes_block line)) [
-    | inl takes ↦ open_at (record { line = line; text = [] }) block (rw takes at is) (record { taken = takes; one_line = none; lines = refl; short = omega arith })
-    | inr other ↦ let no : None ≡ Some block = rw other at is in cc
+      | inl takes ↦ open_at (record { line = line; text = [] }) block (rw takes at is) (record { taken = takes; one_line = none; lines = refl; short = omega arith })
+      | inr other ↦ let no : None ≡ Some block = rw other at is in cc
     ]
 
 open_inside : (old : Block) (line : List ℕ) → IsOpen old → ended line ≡ [] → length line ≤ 65537 → (block : Block) → kept_next (Some old) line ≡ Some block → IsOpen block
 unfolding kept_next next
 open_inside old line is_open none fits block is =
     elim (cases_Bool (is_dot line)) [
-    | inl dot ↦ let no : None ≡ Some block = rw dot at is in cc
-    | inr other ↦
-        elim (cases_Bool (is_long old.text)) [
-        | inl long ↦ open_at old block (rw (other, long) at is) is_open
-        | inr short ↦ open_at (record { line = old.line; text = old.text ++ without_return line ++ 10 ∷ [] }) block (rw (other, short) at is) (open_with old line is_open none fits other short)
-        ]
+      | inl dot ↦ let no : None ≡ Some block = rw dot at is in cc
+      | inr other ↦
+          elim (cases_Bool (is_long old.text)) [
+            | inl long ↦ open_at old block (rw (other, long) at is) is_open
+            | inr short ↦ open_at (record { line = old.line; text = old.text ++ without_return line ++ 10 ∷ [] }) block (rw (other, short) at is) (open_with old line is_open none fits other short)
+          ]
     ]
 
 open_next : (old : Option Block) (line : List ℕ) → ((b : Block) → old ≡ Some b → IsOpen b) → ended line ≡ [] → length line ≤ 65537 → (block : Block) → kept_next old line ≡ Some block → IsOpen block
@@ -136,13 +136,13 @@ feed_commands over waiting block line more none =
 
 pub feed_read : (old new : Reader) → IsSound old → new.waiting.items ≡ old.waiting.items ++ given old.block old.line.items → new.block ≡ kept_next old.block old.line.items → new.line.items ≡ [] → HasRead old (10 ∷ []) new
 feed_read old new sound waiting block line = record {
-  commands = λ over more. rw (waiting, block, line) (feed_commands over old.waiting.items old.block old.line.items more sound.one_line)
+  commands = λ over more. rw (waiting, block, line) (feed_commands over old.waiting.items old.block old.line.items more sound.one_line);
 }
 
 -- bytes that are read one after the other are read together
 pub read_both : (old between new : Reader) (first second : List ℕ) → HasRead old first between → HasRead between second new → HasRead old (first ++ second) new
 read_both old between new first second one two = record {
-  commands = λ over more. two.commands over more ∙ one.commands over (second ++ more) ∙ ap (λ (bytes : List ℕ). commands_from over old bytes) (sym (append_assoc first second more))
+  commands = λ over more. two.commands over more ∙ one.commands over (second ++ more) ∙ ap (λ (bytes : List ℕ). commands_from over old bytes) (sym (append_assoc first second more));
 }
 
 -- one more line of a piece

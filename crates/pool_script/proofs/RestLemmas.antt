@@ -69,9 +69,9 @@ block_rest over block line more is_open =
     let none = nil_if_empty (rest_of block.text) (and_left (is_empty (rest_of block.text)) (no_dots (ended block.text)) is_open.lines) in
     let regrouped : (block.line ++ 10 ∷ (feeds ++ line)) ++ more ≡ block.line ++ 10 ∷ (feeds ++ (line ++ more)) = append_assoc block.line (10 ∷ (feeds ++ line)) more ∙ ap (λ (rest : List ℕ). block.line ++ 10 ∷ rest) (append_assoc feeds line more) in
     let as_lines : lines_of over ((block.line ++ 10 ∷ (feeds ++ line)) ++ more) ≡ block.line ∷ (map with_return (ended block.text) ++ lines_of over (line ++ more)) =
-        ap (λ (bytes : List ℕ). lines_of over bytes) regrouped ∙ lines_feed over block.line (feeds ++ (line ++ more)) is_open.one_line ∙ ap (λ (lines : List (List ℕ)). block.line ∷ lines) (lines_feeds over (map with_return (ended block.text)) (line ++ more) (lines_with_return (ended block.text) (are_lines block.text))) in
+    ap (λ (bytes : List ℕ). lines_of over bytes) regrouped ∙ lines_feed over block.line (feeds ++ (line ++ more)) is_open.one_line ∙ ap (λ (lines : List (List ℕ)). block.line ∷ lines) (lines_feeds over (map with_return (ended block.text)) (line ++ more) (lines_with_return (ended block.text) (are_lines block.text))) in
     let opened : commands over None (block.line ∷ (map with_return (ended block.text) ++ lines_of over (line ++ more))) ≡ commands over (block_at block.line []) (map with_return (ended block.text) ++ lines_of over (line ++ more)) =
-        rw (takes_given block.line is_open.taken, takes_next block.line is_open.taken) refl in
+    rw (takes_given block.line is_open.taken, takes_next block.line is_open.taken) refl in
     ap (λ (lines : List (List ℕ)). commands over None lines) as_lines ∙ opened ∙ text_again over block.line [] (ended block.text) (lines_of over (line ++ more)) dots ∙ ap (λ (t : List ℕ). commands over (block_at block.line t) (lines_of over (line ++ more))) (whole_text block.text none)
 
 rest_commands : (over : Bool) (block : Option Block) (line more : List ℕ) → ((b : Block) → block ≡ Some b → IsOpen b) → commands_of over (rest_kept block line ++ more) ≡ commands over block (lines_of over (line ++ more))

@@ -1,8 +1,6 @@
 -- What a script stands for after a piece, the end of the input, and a command that is taken.
 use Rattle.std.proofs.Common.{◌≡◌, ℕ, suc, zero, ◌-◌, ◌+◌, ◌≤◌, ◌<◌, Bool, true, false, List, [], ◌∷◌, ◌++◌, length, drop, Option, None, Some, refl, sym, ◌∙◌, ap, subst, inl, inr, arith, append_assoc, length-append}
 use Rattle.std.proofs.lemmas.List.{append-nil, append_cancel_left, drop-append-le}
-use Rattle.std.specs.List.{slice_get}
-use Rattle.std.specs.Option.{IfSome, option_to_list}
 use Rattle.pool_script.specs.Commands.{commands_of, ended_commands, whole_commands}
 use Rattle.pool_script.specs.Standing.{IsFollowed, IsResumed, Kept, Stands}
 use Rattle.pool_script.specs.declared.command.Command.{Command}
@@ -66,39 +64,3 @@ stands_ended old new bytes n open_old over_new waiting stands =
       commands = rw (over_new, whole, waiting) (followed_more (ended_commands bytes) (whole_commands old.rest) old.waiting n before);
       resumes = λ is. let no : true ≡ false = sym over_new ∙ is in cc;
     }
-
-next_at : (all waiting : List Command) (n : ℕ) → n ≤ length all → drop n all ≡ waiting → slice_get waiting 0 ≡ slice_get all n
-next_at all waiting zero fits is = ap (λ (l : List Command). slice_get l 0) (sym is)
-next_at [] waiting (suc n) fits is = absurd (omega arith)
-next_at (x ∷ all) waiting (suc n) fits is = next_at all waiting n (omega arith) is
-
-rest_at : (all : List Command) (next : Command) (waiting : List Command) (n : ℕ) → n ≤ length all → drop n all ≡ next ∷ waiting → (n + 1 ≤ length all) × (drop (n + 1) all ≡ waiting)
-rest_at [] next waiting zero fits is = cc
-rest_at (x ∷ all) next waiting zero fits is = let same : x ∷ all ≡ next ∷ waiting = is in (omega arith, cc)
-rest_at [] next waiting (suc n) fits is = absurd (omega arith)
-rest_at (x ∷ all) next waiting (suc n) fits is =
-    let more = rest_at all next waiting n (omega arith) is in
-    let later : suc n + 1 ≡ suc (n + 1) = omega arith in
-    (omega (arith, more.0), ap (λ (m : ℕ). drop m (x ∷ all)) later ∙ more.1)
-
--- the first of the commands that wait, if there is one
-pub popped : (result : Option Command) (old new : List Command) → old ≡ option_to_list result ++ new → (result ≡ None → old ≡ []) → slice_get old 0 ≡ result
-popped None old new is none = ap (λ (l : List Command). slice_get l 0) (none refl)
-popped (Some x) old new is none = ap (λ (l : List Command). slice_get l 0) is
-
--- the command that follows the n first
-pub stands_next : (old : Kept) (result : Option Command) (new : List Command) (bytes : List ℕ) (n : ℕ) → old.waiting ≡ option_to_list result ++ new → (result ≡ None → old.waiting ≡ []) → Stands old bytes n → result ≡ slice_get (commands_of old.over bytes) n
-stands_next old result new bytes n is none stands = sym (popped result old.waiting new is none) ∙ next_at (commands_of old.over bytes) old.waiting n stands.commands.taken stands.commands.waits
-
-taken_at : (old new : Kept) (next : Command) (bytes : List ℕ) (n : ℕ) → old.waiting ≡ next ∷ new.waiting → new.rest ≡ old.rest → new.over ≡ old.over → Stands old bytes n → Stands new bytes (n + 1)
-taken_at old new next bytes n is rest over stands =
-    let at_next = rest_at (commands_of old.over bytes) next new.waiting n stands.commands.taken (stands.commands.waits ∙ is) in
-    record {
-      commands = rw over (record { taken = at_next.0; waits = at_next.1 });
-      resumes = λ is_open. rw rest (stands.resumes (sym over ∙ is_open));
-    }
-
--- the script of which a command was taken stands for one more
-pub stands_taken : (old new : Kept) (result : Option Command) (bytes : List ℕ) (n : ℕ) → old.waiting ≡ option_to_list result ++ new.waiting → new.rest ≡ old.rest → new.over ≡ old.over → Stands old bytes n → IfSome result (λ _. Stands new bytes (n + 1))
-stands_taken old new None bytes n is rest over stands = tt
-stands_taken old new (Some next) bytes n is rest over stands = taken_at old new next bytes n is rest over stands

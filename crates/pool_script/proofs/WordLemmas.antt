@@ -10,8 +10,8 @@ pub word_of-past_word : (bytes : List ℕ) → word_of bytes ++ past_word bytes 
 word_of-past_word [] = refl
 word_of-past_word (byte ∷ bytes) =
     elim (cases_Bool (is_blank byte)) [
-    | inl is ↦ rw is refl
-    | inr is ↦ rw is (ap (λ (rest : List ℕ). byte ∷ rest) (word_of-past_word bytes))
+      | inl is ↦ rw is refl
+      | inr is ↦ rw is (ap (λ (rest : List ℕ). byte ∷ rest) (word_of-past_word bytes))
     ]
 
 pub past_word-le : (bytes : List ℕ) → length (past_word bytes) ≤ length bytes

@@ -13,4 +13,8 @@ mod tests;
 mod words;
 
 pub use command::Command;
+pub use laws::{
+    commands_are_no_more_than_bytes, ended_commands_come_first,
+    taken_and_waiting_are_no_more_than_bytes,
+};
 pub use script::Script;

@@ -1,6 +1,22 @@
 // A script as its callers see it: the commands that wait, the bytes that are no command yet, and whether the input is over.
 ghost use Rattle.std.specs.Prelude.{
-    ◌≡◌, ◌↔◌, ◌≤◌, ◌+◌, ◌*◌, ◌++◌, ℕ, List, [], true, false, length, slice_get, IfNone, IfSome, IsNone, OnOk
+  ◌≡◌,
+  ◌↔◌,
+  ◌≤◌,
+  ◌+◌,
+  ◌*◌,
+  ◌++◌,
+  ℕ,
+  List,
+  [],
+  true,
+  false,
+  length,
+  slice_get,
+  IfNone,
+  IfSome,
+  IsNone,
+  OnOk,
 };
 ghost use Rattle.std.specs.Option.{option_to_list};
 ghost use Rattle.pool_script.specs.Commands.{commands_of, ended_commands, whole_commands};

@@ -1,0 +1,8 @@
+use Rattle.std.proofs.Common.{◌≡◌, length}
+use Rattle.pool_script.proofs.tests.take_all.Given as goal
+
+abbrev pub invariant-loop-command : goal.invariant-loop-command
+invariant-loop-command l = l.script.over ≡ l.initial.script.over
+
+abbrev pub decreases-loop-command : goal.decreases-loop-command
+decreases-loop-command l = length l.script.waiting

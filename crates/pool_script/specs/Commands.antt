@@ -4,11 +4,10 @@ use Rattle.std.specs.Option.{option_map_or}
 use Rattle.std.specs.Str.{bytes_eq}
 use Rattle.pool_text.specs.Lines.{ended, whole, without_return}
 use Rattle.pool_script.specs.Keywords.{keyword_of, opens_block}
-use Rattle.pool_script.specs.Rows.{keyword_command}
+use Rattle.pool_script.specs.Rows.{keyword_command, line_too_long, unknown_command}
 use Rattle.pool_script.specs.Words.{is_empty, past_blanks, word_of, words_behind}
 use Rattle.pool_script.specs.declared.reader.Block.{Block}
 use Rattle.pool_script.specs.declared.command.Command.{Command}
-use Rattle.pool_script.specs.declared.command.Command.TheVariants as command
 
 -- a line from its first word on
 abbrev pub text_of : List ℕ → List ℕ
@@ -32,11 +31,11 @@ is_dot line = bytes_eq (without_return line) (codes ".")
 
 -- the command of a line, with the text of its block where the block has ended
 unfoldable pub line_command : List ℕ → Option (List ℕ) → Command
-line_command line block = option_map_or (λ keyword. keyword_command keyword (words_behind (text_of line)) block) (keyword_of (word_of (text_of line))) (command.Bad 2)
+line_command line block = option_map_or (λ keyword. keyword_command keyword (words_behind (text_of line)) block) (keyword_of (word_of (text_of line))) unknown_command
 
 -- the commands that a line gives, in a block or outside one
 unfoldable pub given : Option Block → List ℕ → List Command
-given None line = if is_long line then command.Bad 1 ∷ [] else (if is_silent line || takes_block line then [] else line_command line None ∷ [])
+given None line = if is_long line then line_too_long ∷ [] else (if is_silent line || takes_block line then [] else line_command line None ∷ [])
 given (Some block) line = if is_dot line then line_command block.line (Some block.text) ∷ [] else []
 
 -- the block behind a line

@@ -1,8 +1,19 @@
 // The commands that a script may hold.
 use pool_text::Text;
 
-/// A command of the pool. A name is 1 to 64 bytes, each an ASCII letter, a digit, `_`, `-`, `.` or `@`; a block is a
-/// text of at most 65,536 bytes whose lines all end.
+/// The refusals that `Command::Bad` carries.
+pub(crate) const LINE_TOO_LONG: u8 = 1;
+
+pub(crate) const UNKNOWN_COMMAND: u8 = 2;
+
+pub(crate) const WRONG_WORDS: u8 = 3;
+
+pub(crate) const BLOCK_NOT_ENDED: u8 = 4;
+
+pub(crate) const BLOCK_TOO_LONG: u8 = 5;
+
+/// A command of the pool. A name is 1 to 64 bytes, each an ASCII letter, a digit, `_`, `-`, `.` or `@`. A block is a
+/// text of at most 65,536 bytes whose lines all end and none of which is a dot. An expression has no line feed.
 #[derive(Debug, Drop)]
 pub enum Command {
     /// Sets the moment, from 0 to 10^12.

@@ -4,6 +4,7 @@ ghost use Rattle.pool_script.specs.Commands.{line_command};
 ghost use Rattle.pool_script.specs.Rows as rows;
 
 use crate::Command;
+use crate::command::{BLOCK_NOT_ENDED, BLOCK_TOO_LONG, UNKNOWN_COMMAND, WRONG_WORDS};
 use crate::keyword::{Keyword, keyword_of};
 use crate::line::{LONGEST, text_of};
 use crate::words::{is_name, sole_number, word_of, words_behind};
@@ -23,7 +24,7 @@ pub(crate) fn line_command(
     let text = text_of(line);
     match keyword_of(word_of(text)) {
         Some(keyword) => keyword_command(alloc, keyword, words_behind(text), block),
-        None => Ok(Command::Bad(2)),
+        None => Ok(Command::Bad(UNKNOWN_COMMAND)),
     }
 }
 
@@ -40,23 +41,35 @@ fn keyword_command(
         Keyword::Clock => Ok(clock(words)),
         Keyword::Advertise => advertise(alloc, words, block),
         Keyword::Withdraw => Ok(sole_name(alloc, words)?.map_or(
-            Command::Bad(3),
+            Command::Bad(WRONG_WORDS),
             Command::Withdraw,
         )),
-        Keyword::Show => Ok(sole_name(alloc, words)?.map_or(Command::Bad(3), Command::Show)),
+        Keyword::Show => Ok(sole_name(alloc, words)?.map_or(
+            Command::Bad(WRONG_WORDS),
+            Command::Show,
+        )),
         Keyword::List => Ok(without_words(words, Command::List)),
         Keyword::Eval => eval(alloc, words),
         Keyword::EvalIn => eval_in(alloc, words),
         Keyword::Query => Ok(query(words, block)),
         Keyword::Submit => submit(alloc, words, block),
-        Keyword::Remove => Ok(sole_name(alloc, words)?.map_or(Command::Bad(3), Command::Remove)),
+        Keyword::Remove => Ok(sole_name(alloc, words)?.map_or(
+            Command::Bad(WRONG_WORDS),
+            Command::Remove,
+        )),
         Keyword::Priority => priority(alloc, words),
         Keyword::Gang => Ok(gang(words, block)),
         Keyword::Negotiate => Ok(without_words(words, Command::Negotiate)),
-        Keyword::Claim => Ok(sole_name(alloc, words)?.map_or(Command::Bad(3), Command::Claim)),
-        Keyword::Release => Ok(sole_name(alloc, words)?.map_or(Command::Bad(3), Command::Release)),
+        Keyword::Claim => Ok(sole_name(alloc, words)?.map_or(
+            Command::Bad(WRONG_WORDS),
+            Command::Claim,
+        )),
+        Keyword::Release => Ok(sole_name(alloc, words)?.map_or(
+            Command::Bad(WRONG_WORDS),
+            Command::Release,
+        )),
         Keyword::Unlisten => Ok(sole_name(alloc, words)?.map_or(
-            Command::Bad(3),
+            Command::Bad(WRONG_WORDS),
             Command::Unlisten,
         )),
     }
@@ -83,7 +96,7 @@ fn without_words(words: &[u8], command: Command) -> Command
     if words.is_empty() {
         command
     } else {
-        Command::Bad(3)
+        Command::Bad(WRONG_WORDS)
     }
 }
 
@@ -93,8 +106,8 @@ fn block_text(block: Option<Text>) -> Result<Text, u8>
     ensures { result ≡ rows.block_text block }
 {
     match block {
-        None => Err(4),
-        Some(text) if text.bytes().len() > LONGEST => Err(5),
+        None => Err(BLOCK_NOT_ENDED),
+        Some(text) if text.bytes().len() > LONGEST => Err(BLOCK_TOO_LONG),
         Some(text) => Ok(text),
     }
 }
@@ -103,7 +116,7 @@ fn block_text(block: Option<Text>) -> Result<Text, u8>
 fn clock(words: &[u8]) -> Command
     ensures { result ≡ rows.clock words.now }
 {
-    sole_number(words, 0, 1_000_000_000_000).map_or(Command::Bad(3), Command::Clock)
+    sole_number(words, 0, 1_000_000_000_000).map_or(Command::Bad(WRONG_WORDS), Command::Clock)
 }
 
 #[tactic(auto, unfolding(crate::specs::Rows::advertise))]
@@ -121,7 +134,7 @@ fn advertise(alloc: Global, words: &[u8], block: Option<Text>) -> Result<Command
             }),
             Err(refusal) => Ok(Command::Bad(refusal)),
         },
-        _ => Ok(Command::Bad(3)),
+        _ => Ok(Command::Bad(WRONG_WORDS)),
     }
 }
 
@@ -130,7 +143,7 @@ fn eval(alloc: Global, words: &[u8]) -> Result<Command, OutOfMemory>
     ensures { IfOk result (λ command. command ≡ rows.eval words.now) }
 {
     if words.is_empty() {
-        return Ok(Command::Bad(3));
+        return Ok(Command::Bad(WRONG_WORDS));
     }
     Ok(Command::Eval(Text::from_bytes(alloc, words)?))
 }
@@ -142,7 +155,7 @@ fn eval_in(alloc: Global, words: &[u8]) -> Result<Command, OutOfMemory>
     let name = word_of(words);
     let expr = words_behind(words);
     if !is_name(name) || expr.is_empty() {
-        return Ok(Command::Bad(3));
+        return Ok(Command::Bad(WRONG_WORDS));
     }
     Ok(Command::EvalIn {
         name: Text::from_bytes(alloc, name)?,
@@ -155,7 +168,7 @@ fn query(words: &[u8], block: Option<Text>) -> Command
     ensures { result ≡ rows.query words.now block }
 {
     if !words.is_empty() {
-        return Command::Bad(3);
+        return Command::Bad(WRONG_WORDS);
     }
     match block_text(block) {
         Ok(block) => Command::Query(block),
@@ -177,7 +190,7 @@ fn submit(alloc: Global, words: &[u8], block: Option<Text>) -> Result<Command, O
             }),
             Err(refusal) => Ok(Command::Bad(refusal)),
         },
-        _ => Ok(Command::Bad(3)),
+        _ => Ok(Command::Bad(WRONG_WORDS)),
     }
 }
 
@@ -191,7 +204,7 @@ fn priority(alloc: Global, words: &[u8]) -> Result<Command, OutOfMemory>
             user: Text::from_bytes(alloc, user)?,
             n,
         }),
-        _ => Ok(Command::Bad(3)),
+        _ => Ok(Command::Bad(WRONG_WORDS)),
     }
 }
 
@@ -200,7 +213,7 @@ fn gang(words: &[u8], block: Option<Text>) -> Command
     ensures { result ≡ rows.gang words.now block }
 {
     if !words.is_empty() {
-        return Command::Bad(3);
+        return Command::Bad(WRONG_WORDS);
     }
     match block_text(block) {
         Ok(block) => Command::Gang(block),

@@ -1,10 +1,11 @@
 // The commands of lines, read one line at a time.
-ghost use Rattle.std.specs.Prelude.{◌≡◌, ◌++◌, ◌∷◌, [], None, Some, MatchOption, OnOk, OnErr};
+ghost use Rattle.std.specs.Prelude.{◌≡◌, ◌++◌, ◌∷◌, [], true, None, Some, MatchOption, OnOk, OnErr};
 ghost use Rattle.pool_text.specs.Lines.{ended};
 ghost use Rattle.pool_script.specs.Cuts.{CutsAtFeed};
 ghost use Rattle.pool_script.specs.Commands.{cut_off, given};
 
 use crate::Command;
+use crate::command::LINE_TOO_LONG;
 use crate::line::{LONGEST, is_dot, is_silent, takes_block, without_return};
 use crate::parse::line_command;
 use memchr::memchr;
@@ -30,7 +31,8 @@ pub(crate) struct Reader {
 
 /// The bytes before the first line feed, and those behind it; none where there is no line feed.
 fn split_line(bytes: &[u8]) -> Option<(&[u8], &[u8])>
-    ensures { MatchOption result (ended bytes.now ≡ []) (λ parts. CutsAtFeed bytes.now parts.0.now parts.1.now) }
+    ensures { MatchOption result (ended bytes.now ≡ [])
+        (λ parts. CutsAtFeed bytes.now parts.0.now parts.1.now) }
 {
     match memchr(b'\n', bytes) {
         Some(place) => Some((&bytes[..place], &bytes[place + 1..])),
@@ -40,8 +42,8 @@ fn split_line(bytes: &[u8]) -> Option<(&[u8], &[u8])>
 
 impl Reader {
     ghost use Rattle.pool_script.specs.Reading.{commands_from, kept_next, HasRead, IsSound};
-    ghost use Rattle.std.specs.Prelude.{true};
 
+    /// A reader of no bytes, which takes no memory yet.
     pub(crate) fn new(alloc: Global) -> Reader
         ensures waiting { result.waiting.items ≡ [] }
         ensures block { result.block ≡ None }
@@ -55,7 +57,7 @@ impl Reader {
         }
     }
 
-    /// Reads a piece.
+    /// Reads a piece, of any size.
     pub(crate) fn feed(&mut self, piece: &[u8]) -> Result<(), OutOfMemory>
         requires { IsSound self.old }
         ensures sound { IsSound self.new }
@@ -86,7 +88,8 @@ impl Reader {
     fn end_last_line(&mut self) -> Result<(), OutOfMemory>
         requires { IsSound self.old }
         ensures sound { IsSound self.new }
-        ensures ok { OnOk result (self.new.waiting.items ++ cut_off self.new.block ≡ commands_from true self.old []) }
+        ensures ok { OnOk result
+            (self.new.waiting.items ++ cut_off self.new.block ≡ commands_from true self.old []) }
         ensures line { OnOk result (self.new.line.items ≡ []) }
     {
         if self.line.is_empty() {
@@ -103,16 +106,15 @@ impl Reader {
         ensures sound { IsSound self.new }
         ensures line { self.new.line.items ≡ self.old.line.items }
         ensures block { self.new.block ≡ None }
-        ensures ok { OnOk result (self.new.waiting.items ≡ self.old.waiting.items ++ cut_off self.old.block) }
+        ensures ok { OnOk result
+            (self.new.waiting.items ≡ self.old.waiting.items ++ cut_off self.old.block) }
         ensures err { OnErr result (self.new.waiting.items ≡ self.old.waiting.items) }
     {
-        match self.block.take() {
-            Some(block) => {
-                let command = line_command(self.alloc, block.line.bytes(), None)?;
-                self.waiting.push_back(command)?;
-            }
-            None => {}
-        }
+        let Some(block) = self.block.take() else {
+            return Ok(());
+        };
+        let command = line_command(self.alloc, block.line.bytes(), None)?;
+        self.waiting.push_back(command)?;
         Ok(())
     }
 
@@ -144,7 +146,8 @@ impl Reader {
     /// Reads the line, in a block or outside one.
     fn read_line(&mut self) -> Result<(), OutOfMemory>
         ensures line { self.new.line.items ≡ self.old.line.items }
-        ensures ok_waiting { OnOk result (self.new.waiting.items ≡ self.old.waiting.items ++ given self.old.block self.old.line.items) }
+        ensures ok_waiting { OnOk result
+            (self.new.waiting.items ≡ self.old.waiting.items ++ given self.old.block self.old.line.items) }
         ensures ok_block { OnOk result (self.new.block ≡ kept_next self.old.block self.old.line.items) }
         ensures err_waiting { OnErr result (self.new.waiting.items ≡ self.old.waiting.items) }
         ensures err_block { OnErr result (self.new.block ≡ None) }
@@ -155,11 +158,13 @@ impl Reader {
         }
     }
 
+    /// Reads the line as one of the block, of which no more is kept once its text is too long.
     #[tactic(auto, unfolding(crate::specs::Commands::given, crate::specs::Commands::next, crate::specs::Reading::kept_next))]
     fn read_in_block(&mut self, block: Block) -> Result<(), OutOfMemory>
         requires { self.old.block ≡ None }
         ensures line { self.new.line.items ≡ self.old.line.items }
-        ensures ok_waiting { OnOk result (self.new.waiting.items ≡ self.old.waiting.items ++ given (Some block) self.old.line.items) }
+        ensures ok_waiting { OnOk result
+            (self.new.waiting.items ≡ self.old.waiting.items ++ given (Some block) self.old.line.items) }
         ensures ok_block { OnOk result (self.new.block ≡ kept_next (Some block) self.old.line.items) }
         ensures err_waiting { OnErr result (self.new.waiting.items ≡ self.old.waiting.items) }
         ensures err_block { OnErr result (self.new.block ≡ None) }
@@ -178,17 +183,19 @@ impl Reader {
         Ok(())
     }
 
+    /// Reads the line as one outside a block.
     #[tactic(auto, unfolding(crate::specs::Commands::given, crate::specs::Commands::next, crate::specs::Reading::kept_next))]
     fn read_outside(&mut self) -> Result<(), OutOfMemory>
         requires { self.old.block ≡ None }
         ensures line { self.new.line.items ≡ self.old.line.items }
-        ensures ok_waiting { OnOk result (self.new.waiting.items ≡ self.old.waiting.items ++ given None self.old.line.items) }
+        ensures ok_waiting { OnOk result
+            (self.new.waiting.items ≡ self.old.waiting.items ++ given None self.old.line.items) }
         ensures ok_block { OnOk result (self.new.block ≡ kept_next None self.old.line.items) }
         ensures err_waiting { OnErr result (self.new.waiting.items ≡ self.old.waiting.items) }
         ensures err_block { OnErr result (self.new.block ≡ None) }
     {
         if self.line.len() > LONGEST {
-            self.waiting.push_back(Command::Bad(1))?;
+            self.waiting.push_back(Command::Bad(LINE_TOO_LONG))?;
         } else if takes_block(&self.line) {
             self.block = Some(Block {
                 line: Text::from_bytes(self.alloc, &self.line)?,

@@ -1,23 +1,6 @@
 // A script as its callers see it: the commands that wait, the bytes that are no command yet, and whether the input is over.
-ghost use Rattle.std.specs.Prelude.{
-  ◌≡◌,
-  ◌↔◌,
-  ◌≤◌,
-  ◌+◌,
-  ◌*◌,
-  ◌++◌,
-  ℕ,
-  List,
-  [],
-  true,
-  false,
-  length,
-  slice_get,
-  IfNone,
-  IfSome,
-  IsNone,
-  OnOk,
-};
+ghost use Rattle.std.specs.Prelude.{◌≡◌, ◌↔◌, ◌≤◌, ◌+◌, ◌*◌, ◌++◌, ℕ, List, [], true, false, length, slice_get};
+ghost use Rattle.std.specs.Prelude.{IfNone, IfSome, IsNone, IsTrue, OnOk};
 ghost use Rattle.std.specs.Option.{option_to_list};
 ghost use Rattle.pool_script.specs.Commands.{commands_of, ended_commands, whole_commands};
 ghost use Rattle.pool_script.specs.Form.{is_within_form};
@@ -43,7 +26,11 @@ impl Model for Script {
 
     ghost Value = { Kept };
 
-    ghost view = { λ s. record { waiting = s.reader.waiting.items; rest = rest_kept s.reader.block s.reader.line.items; over = s.over } };
+    ghost view = { λ s. record {
+      waiting = s.reader.waiting.items;
+      rest = rest_kept s.reader.block s.reader.line.items;
+      over = s.over;
+    } };
 
     ghost invariant = { λ s. IsSound s.reader };
 }
@@ -66,7 +53,8 @@ impl Script {
         requires { self.old.over ≡ false }
         ensures stands { OnOk result
             ((bytes : List ℕ) (n : ℕ) → Stands self.old bytes n → Stands self.new (bytes ++ piece.now) n) }
-        ensures waiting { OnOk result (self.new.waiting ≡ self.old.waiting ++ ended_commands (self.old.rest ++ piece.now)) }
+        ensures waiting { OnOk result
+            (self.new.waiting ≡ self.old.waiting ++ ended_commands (self.old.rest ++ piece.now)) }
         ensures over { OnOk result (self.new.over ≡ false) }
         ensures bounded { length self.new.rest ≤ 6 * 65537 }
     {
@@ -90,8 +78,10 @@ impl Script {
 
     /// The next command; none where each command that has ended was taken.
     pub fn take(&mut self) -> Option<Command>
-        ensures next { (bytes : List ℕ) (n : ℕ) → Stands self.old bytes n → result ≡ slice_get (commands_of self.old.over bytes) n }
-        ensures stands { (bytes : List ℕ) (n : ℕ) → Stands self.old bytes n → IfSome result (λ _. Stands self.new bytes (n + 1)) }
+        ensures next { (bytes : List ℕ) (n : ℕ) → Stands self.old bytes n
+            → result ≡ slice_get (commands_of self.old.over bytes) n }
+        ensures stands { (bytes : List ℕ) (n : ℕ) → Stands self.old bytes n
+            → IfSome result (λ _. Stands self.new bytes (n + 1)) }
         ensures none { IsNone result ↔ (self.old.waiting ≡ []) }
         ensures unchanged { IfNone result (self.new ≡ self.old) }
 
@@ -99,7 +89,7 @@ impl Script {
         ensures rest { self.new.rest ≡ self.old.rest }
         ensures over { self.new.over ≡ self.old.over }
 
-        ensures form { IfSome result (λ command. is_within_form command ≡ true) }
+        ensures form { IfSome result (λ command. IsTrue (is_within_form command)) }
     {
         self.reader.waiting.pop_front()
     }

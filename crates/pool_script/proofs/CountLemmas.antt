@@ -1,12 +1,12 @@
 -- How many commands there are, and which come first.
-use Rattle.std.proofs.Common.{◌≡◌, ℕ, ◌-◌, ◌+◌, ◌≤◌, ◌<◌, Bool, true, false, ◌||◌, List, [], ◌∷◌, ◌++◌, length, take, drop, Option, None, Some, refl, sym, ◌∙◌, ap, inl, inr, arith, append_assoc, length-append, length-drop}
+use Rattle.std.proofs.Common.{◌≡◌, ℕ, ◌+◌, ◌≤◌, Bool, true, false, ◌||◌, List, [], ◌∷◌, ◌++◌, length, take, Option, None, Some, refl, sym, ◌∙◌, ap, inl, inr, arith, append_assoc, length-append, length-drop}
 use Rattle.std.proofs.Math.Seq.{take-append_seam}
 use Rattle.std.proofs.lemmas.Bool.{cases_Bool}
 use Rattle.std.specs.Bool.{if◌then◌else◌}
-use Rattle.pool_text.specs.Lines.{ended, last_line, rest_of, whole, with_feeds}
+use Rattle.pool_text.specs.Lines.{ended, last_line, rest_of, with_feeds}
 use Rattle.pool_text.proofs.LineLemmas.{with_feeds-ended}
 use Rattle.pool_script.specs.Commands.{commands, commands_of, cut_off, ended_commands, given, is_dot, is_long, is_silent, line_command, lines_of, next, takes_block, whole_commands}
-use Rattle.pool_script.specs.Standing.{IsFollowed, Kept, Stands}
+use Rattle.pool_script.specs.Standing.{Kept, Stands}
 use Rattle.pool_script.specs.declared.command.Command.{Command}
 use Rattle.pool_script.specs.declared.reader.Block.{Block}
 use Rattle.pool_script.proofs.LongLemmas.{takes_block-long}

@@ -1,11 +1,10 @@
 -- Lines at a line feed, of bytes with no line feed before it.
-use Rattle.std.proofs.Common.{◌≡◌, ◌≢◌, ℕ, zero, suc, ◌-◌, ◌+◌, ◌≤◌, ◌<◌, Bool, true, false, cond, eqb, List, [], ◌∷◌, ◌++◌, length, take, drop, get_or, refl, sym, ◌∙◌, ap, None, Some, inl, inr, arith, add-one, append_assoc, drop-cons}
+use Rattle.std.proofs.Common.{◌≡◌, ℕ, zero, suc, ◌-◌, ◌+◌, ◌≤◌, ◌<◌, Bool, true, false, eqb, List, [], ◌∷◌, ◌++◌, length, take, drop, get_or, refl, sym, ◌∙◌, ap, None, Some, inl, inr, arith, add-one, append_assoc, drop-cons}
 use Rattle.std.proofs.Math.Seq.{take-length}
 use Rattle.std.proofs.lemmas.Bool.{cases_Bool, eqb-true}
-use Rattle.std.proofs.lemmas.Bool.Decides.{nat_tests}
-use Rattle.std.proofs.lemmas.List.{append-nil, length-drop, take-append-drop, take_all}
+use Rattle.std.proofs.lemmas.List.{length-drop, take-append-drop, take_all}
 use Rattle.memchr.specs.Find.{IsFirstByte, is_byte}
-use Rattle.pool_text.specs.Lines.{ended, last_line, onto, rest_behind, rest_of, whole, with_feeds}
+use Rattle.pool_text.specs.Lines.{ended, last_line, onto, rest_behind, rest_of, with_feeds}
 use Rattle.pool_text.proofs.LineLemmas.{ended-append, ended_onto, rest_onto, with_feeds-ended}
 use Rattle.pool_script.specs.Commands.{lines_of}
 use Rattle.pool_script.specs.Cuts.{CutsAtFeed}

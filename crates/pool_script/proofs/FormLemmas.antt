@@ -1,17 +1,17 @@
 -- Every command that a line gives is within form.
-use Rattle.std.proofs.Common.{◌≡◌, ◌≢◌, ℕ, zero, suc, ◌-◌, ◌+◌, ◌≤◌, ◌<◌, ◌^◌, Bool, true, false, not, ◌&&◌, ◌||◌, cond, eqb, ltb, nat_le, slice_index, List, [], ◌∷◌, ◌++◌, length, Option, None, Some, Result, Ok, Err, option_and_then, refl, sym, ◌∙◌, ap, subst, inl, inr, arith}
+use Rattle.std.proofs.Common.{◌≡◌, ℕ, ◌≤◌, ◌^◌, Bool, true, false, not, ◌&&◌, ◌||◌, eqb, nat_le, slice_index, List, [], ◌∷◌, length, Option, None, Some, option_and_then, refl, sym, inl, inr, arith}
 use Rattle.std.proofs.lemmas.Bool.{cases_Bool}
 use Rattle.std.proofs.lemmas.Bool.Decides.{nat_tests}
 use Rattle.std.specs.Bool.{if◌then◌else◌}
 use Rattle.std.specs.List.{list_all}
 use Rattle.std.specs.Option.{option_map_or}
-use Rattle.pool_text.specs.Lines.{ended, rest_of, without_return}
+use Rattle.pool_text.specs.Lines.{ended, without_return}
 use Rattle.pool_text.specs.Number.{number_of}
 use Rattle.pool_script.specs.Commands.{given, is_dot, is_long, is_silent, line_command, takes_block, text_of}
 use Rattle.pool_script.specs.Form.{are_block_lines, holds_no_feed, is_block_text, is_expr, is_within, is_within_form}
 use Rattle.pool_script.specs.Keywords.{keyword_of}
 use Rattle.pool_script.specs.Rows.{advertise, block_text, clock, eval, eval_in, gang, keyword_command, priority, query, sole_name, submit, with_block, without_words}
-use Rattle.pool_script.specs.Words.{is_blank, is_empty, is_name, number_within, past_blanks, past_word, sole_number, word_of, words_behind}
+use Rattle.pool_script.specs.Words.{is_blank, is_empty, is_name, past_blanks, past_word, sole_number, word_of, words_behind}
 use Rattle.pool_script.specs.declared.command.Command.{Command}
 use Rattle.pool_script.specs.declared.command.Command.TheVariants as command
 use Rattle.pool_script.specs.declared.keyword.Keyword.{Keyword}

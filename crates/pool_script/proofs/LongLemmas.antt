@@ -1,12 +1,11 @@
 -- Of a line or a block that is too long, the bytes past the limit make no difference.
-use Rattle.std.proofs.Common.{◌≡◌, ◌≢◌, ℕ, zero, suc, ◌-◌, ◌+◌, ◌≤◌, ◌<◌, Bool, true, false, not, cond, eqb, ltb, List, [], ◌∷◌, ◌++◌, length, take, Option, None, Some, Result, Ok, Err, refl, sym, ◌∙◌, ap, subst, eq-eqb, inl, inr, arith, append_assoc, length-append, codes}
+use Rattle.std.proofs.Common.{◌≡◌, ℕ, ◌+◌, ◌≤◌, ◌<◌, Bool, true, false, eqb, ltb, List, [], ◌∷◌, ◌++◌, length, Option, None, Some, Err, refl, sym, ◌∙◌, ap, inl, inr, arith, append_assoc, length-append, codes}
 use Rattle.std.proofs.lemmas.Bool.{cases_Bool}
 use Rattle.std.proofs.lemmas.Bool.Decides.{nat_tests}
 use Rattle.std.proofs.lemmas.List.{append-nil, length-take, length-take-le, take_all}
 use Rattle.std.proofs.lemmas.Slice.Eq.{bytes_eq-Decides}
 use Rattle.std.specs.Option.{option_map_or}
-use Rattle.std.specs.Str.{bytes_eq}
-use Rattle.pool_text.specs.Lines.{ended, last_line, rest_of, whole, without_return}
+use Rattle.pool_text.specs.Lines.{ended, last_line, whole, without_return}
 use Rattle.pool_script.specs.Commands.{commands, cut_off, given, is_dot, is_long, line_command, lines_of, next, takes_block, text_of}
 use Rattle.pool_script.specs.Keywords.{keyword_of}
 use Rattle.pool_script.specs.Reading.{kept, kept_next}

@@ -1,15 +1,12 @@
 -- The bytes that a reader keeps give the commands that the reader gives.
-use Rattle.std.proofs.Common.{◌≡◌, ℕ, ◌-◌, ◌+◌, ◌*◌, ◌≤◌, ◌<◌, Bool, true, false, not, ◌&&◌, ◌||◌, cond, List, [], ◌∷◌, ◌++◌, length, map, Option, None, Some, refl, sym, ◌∙◌, ap, inl, inr, arith, append_assoc, length-append, codes}
-use Rattle.std.proofs.lemmas.Bool.{cases_Bool}
+use Rattle.std.proofs.Common.{◌≡◌, ℕ, ◌*◌, ◌≤◌, Bool, true, false, not, ◌||◌, List, [], ◌∷◌, ◌++◌, length, map, Option, None, Some, refl, sym, ◌∙◌, ap, arith, append_assoc, length-append, codes}
 use Rattle.std.proofs.lemmas.Bool.Decides.{nat_tests}
 use Rattle.std.proofs.lemmas.List.{append-nil}
-use Rattle.std.specs.List.{list_all}
 use Rattle.std.specs.Str.{bytes_eq}
-use Rattle.pool_text.specs.Lines.{ended, rest_of, whole, with_feeds, without_return}
+use Rattle.pool_text.specs.Lines.{ended, rest_of, with_feeds, without_return}
 use Rattle.pool_text.proofs.LineLemmas.{with_feeds-ended}
-use Rattle.pool_script.specs.Commands.{commands, commands_of, ended_commands, given, is_dot, is_long, is_silent, lines_of, next, takes_block}
-use Rattle.pool_script.specs.Form.{are_block_lines}
-use Rattle.pool_script.specs.Reading.{HasRead, IsOpen, IsSound, commands_from, rest_kept, with_return}
+use Rattle.pool_script.specs.Commands.{commands, commands_of, ended_commands, given, is_dot, is_silent, lines_of, next, takes_block}
+use Rattle.pool_script.specs.Reading.{IsOpen, IsSound, commands_from, rest_kept, with_return}
 use Rattle.pool_script.specs.Words.{is_empty}
 use Rattle.pool_script.specs.declared.command.Command.{Command}
 use Rattle.pool_script.specs.declared.reader.Block.{Block}

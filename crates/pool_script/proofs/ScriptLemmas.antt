@@ -1,10 +1,9 @@
 -- A reader as a script.
-use Rattle.std.proofs.Common.{◌≡◌, ℕ, ◌*◌, ◌≤◌, Bool, true, false, List, [], ◌∷◌, ◌++◌, length, refl, sym, ◌∙◌, ap, subst}
+use Rattle.std.proofs.Common.{◌≡◌, ℕ, Bool, true, false, List, [], ◌++◌, refl, sym, ◌∙◌, ap, subst}
 use Rattle.std.proofs.lemmas.List.{append-nil}
-use Rattle.pool_script.specs.Commands.{commands_of, ended_commands, whole_commands}
+use Rattle.pool_script.specs.Commands.{ended_commands, whole_commands}
 use Rattle.pool_script.specs.Reading.{HasRead, IsSound, commands_from, rest_kept}
-use Rattle.pool_script.specs.Standing.{IsFollowed, IsResumed, Kept, Stands}
-use Rattle.pool_script.specs.declared.command.Command.{Command}
+use Rattle.pool_script.specs.Standing.{Kept, Stands}
 use Rattle.pool_script.specs.declared.reader.Reader.{Reader}
 use Rattle.pool_script.proofs.RestLemmas.{commands_from-rest, none_ended, rest_in}
 use Rattle.pool_script.proofs.StandingLemmas.{Promises, fed_waiting, stands_ended, stands_fed}

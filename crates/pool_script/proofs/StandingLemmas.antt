@@ -1,5 +1,5 @@
 -- What a script stands for after a piece, the end of the input, and a command that is taken.
-use Rattle.std.proofs.Common.{◌≡◌, ℕ, suc, zero, ◌-◌, ◌+◌, ◌≤◌, ◌<◌, Bool, true, false, List, [], ◌∷◌, ◌++◌, length, drop, Option, None, Some, refl, sym, ◌∙◌, ap, subst, inl, inr, arith, append_assoc, length-append}
+use Rattle.std.proofs.Common.{◌≡◌, ℕ, Bool, true, false, List, [], ◌++◌, refl, sym, ◌∙◌, ap, arith, append_assoc, length-append}
 use Rattle.std.proofs.lemmas.List.{append-nil, append_cancel_left, drop-append-le}
 use Rattle.pool_script.specs.Commands.{commands_of, ended_commands, whole_commands}
 use Rattle.pool_script.specs.Standing.{IsFollowed, IsResumed, Kept, Stands}

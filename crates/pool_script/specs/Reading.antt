@@ -1,7 +1,6 @@
 -- The commands as a reader makes them: a line and a block of which only the first bytes are kept where they are too long.
-use Rattle.std.specs.Prelude.{◌≡◌, ℕ, ◌≤◌, Bool, true, false, List, [], ◌∷◌, ◌++◌, length, map, take, Option, None, Some, codes, not, if◌then◌else◌}
+use Rattle.std.specs.Prelude.{◌≡◌, ℕ, ◌≤◌, Bool, true, List, [], ◌∷◌, ◌++◌, length, map, take, Option, None, Some, if◌then◌else◌}
 use Rattle.std.specs.List.{list_all}
-use Rattle.std.specs.Str.{bytes_eq}
 use Rattle.pool_text.specs.Lines.{ended, with_feeds}
 use Rattle.pool_script.specs.Commands.{commands, is_dot, is_long, lines_of, next, takes_block}
 use Rattle.pool_script.specs.Form.{are_block_lines, is_within_form}

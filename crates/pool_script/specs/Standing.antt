@@ -1,6 +1,5 @@
 -- What a script stands for.
-use Rattle.std.specs.Prelude.{◌≡◌, ℕ, ◌≤◌, Bool, true, false, List, [], ◌∷◌, ◌++◌, length, drop, map, Option, None, Some}
-use Rattle.pool_text.specs.Lines.{ended, with_feeds}
+use Rattle.std.specs.Prelude.{◌≡◌, ℕ, ◌≤◌, Bool, false, List, ◌++◌, length, drop}
 use Rattle.pool_script.specs.Commands.{commands_of, ended_commands, whole_commands}
 use Rattle.pool_script.specs.declared.command.Command.{Command}
 

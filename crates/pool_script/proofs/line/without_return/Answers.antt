@@ -1,4 +1,4 @@
-use Rattle.std.proofs.Common.{arith, rules, ◌≡◌, ◌≢◌, length, get_or, take, ◌-◌}
+use Rattle.std.proofs.Common.{arith}
 use Rattle.pool_script.proofs.LineLemmas.{without_return-at_return, without_return-at_other}
 use Rattle.pool_script.proofs.line.without_return.Goals as goal
 

@@ -1,4 +1,3 @@
-use Rattle.std.proofs.Common.{arith}
 use Rattle.pool_script.proofs.WordLemmas.{past_word-le, take-word_of}
 use Rattle.pool_script.proofs.words.word_of.Goals as goal
 

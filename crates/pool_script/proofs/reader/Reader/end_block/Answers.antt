@@ -1,5 +1,4 @@
-use Rattle.std.proofs.Common.{◌≡◌, ◌++◌, ◌∷◌, [], None, Some, true, ℕ, ◌+◌, ◌-◌, ◌<◌, ◌≤◌, length, min, take, Bool, false, List, arith, rules, refl, sym, ap, ◌∙◌}
-use Rattle.std.proofs.lemmas.Grind.{common_steps}
+use Rattle.std.proofs.Common.{◌≡◌, ◌++◌, rules, refl}
 use Rattle.pool_script.specs.Commands.{cut_off}
 use Rattle.pool_script.proofs.ReaderLemmas.{end_sound}
 use Rattle.pool_script.proofs.reader.Reader.end_block.Goals as goal

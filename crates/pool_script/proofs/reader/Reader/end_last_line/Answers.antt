@@ -1,8 +1,6 @@
-use Rattle.std.proofs.Common.{◌≡◌, ◌++◌, ◌∷◌, [], None, Some, true, ℕ, ◌+◌, ◌-◌, ◌<◌, ◌≤◌, length, min, take, Bool, false, List, arith, rules, refl, sym, ap, ◌∙◌}
+use Rattle.std.proofs.Common.{◌<◌, length, arith}
 use Rattle.std.proofs.lemmas.Bool.Decides.{nat_tests}
-use Rattle.pool_text.specs.Lines.{ended}
-use Rattle.pool_script.specs.Reading.{commands_from, kept_next, HasRead, IsSound, kept}
-use Rattle.pool_script.proofs.ReaderLemmas.{end_with_line, end_without_line}
+use Rattle.pool_script.proofs.ReaderLemmas.{end_with_line}
 use Rattle.pool_script.proofs.reader.Reader.end_last_line.Goals as goal
 
 pub returns-clause-ok : goal.returns-clause-ok

@@ -1,6 +1,3 @@
-use Rattle.std.proofs.Common.{◌≡◌, ◌++◌, ◌∷◌, [], None, Some, true, ℕ, ◌+◌, ◌-◌, ◌≤◌, length, Bool, false, List, arith, rules, refl, sym, ap, ◌∙◌}
-use Rattle.pool_text.specs.Lines.{ended}
-use Rattle.pool_script.specs.Reading.{commands_from, kept_next, HasRead, IsSound, kept}
 use Rattle.pool_script.proofs.ReaderLemmas.{feed_read, feed_sound}
 use Rattle.pool_script.proofs.reader.Reader.end_line.Goals as goal
 

@@ -1,6 +1,5 @@
-use Rattle.std.proofs.Common.{◌≡◌, ◌++◌, ◌∷◌, [], None, Some, true, ℕ, ◌+◌, ◌-◌, ◌<◌, ◌≤◌, length, min, take, Bool, false, List, arith, rules, refl, sym, ap, ◌∙◌}
-use Rattle.pool_text.specs.Lines.{ended}
-use Rattle.pool_script.specs.Reading.{commands_from, kept_next, HasRead, IsSound, kept}
+use Rattle.std.proofs.Common.{◌≡◌, ◌++◌, ℕ, ◌-◌, length, min, take, refl, ap, ◌∙◌}
+use Rattle.pool_script.specs.Reading.{kept}
 use Rattle.pool_script.proofs.ReaderLemmas.{bytes_read, bytes_sound, kept-append}
 use Rattle.pool_script.proofs.reader.Reader.extend_line.Goals as goal
 

@@ -1,6 +1,5 @@
-use Rattle.std.proofs.Common.{◌≡◌, ◌++◌, ◌∷◌, [], None, Some, true, ℕ, ◌+◌, ◌-◌, ◌<◌, ◌≤◌, length, min, take, Bool, false, List, arith, rules, refl, sym, ap, ◌∙◌}
-use Rattle.pool_text.specs.Lines.{ended}
-use Rattle.pool_script.specs.Reading.{commands_from, kept_next, HasRead, IsSound, kept}
+use Rattle.std.proofs.Common.{◌≡◌, ◌++◌, ℕ, length, Bool, List}
+use Rattle.pool_script.specs.Reading.{commands_from, IsSound}
 use Rattle.pool_script.proofs.reader.Reader.feed.Given as goal
 
 abbrev pub invariant-loop-line : goal.invariant-loop-line

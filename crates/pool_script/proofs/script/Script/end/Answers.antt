@@ -1,4 +1,3 @@
-use Rattle.std.proofs.Common.{rules}
 use Rattle.pool_script.specs.Reading.{rest_kept}
 use Rattle.pool_script.proofs.ScriptLemmas.{ended_stands, ended_waits}
 use Rattle.pool_script.proofs.script.Script.end.Goals as goal

@@ -1,4 +1,3 @@
-use Rattle.std.proofs.Common.{rules}
 use Rattle.pool_script.specs.Reading.{rest_kept}
 use Rattle.pool_script.proofs.StandingLemmas.{stands_new}
 use Rattle.pool_script.proofs.script.Script.new.Goals as goal

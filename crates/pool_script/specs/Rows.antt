@@ -49,7 +49,7 @@ advertise words block =
 
 -- `eval EXPR`
 unfoldable pub eval : List ℕ → Command
-eval words = if is_empty words then command.Bad 3 else command.Eval words
+eval words = if is_empty words then wrong_words else command.Eval words
 
 -- `evalin NAME EXPR`
 unfoldable pub eval_in : List ℕ → Command

@@ -1,5 +1,7 @@
 // The commands of scripts that come whole and in pieces; a command's parts are written with a blank between them and a bar behind.
-ghost use Rattle.std.specs.Prelude.{◌≡◌, ◌<◌, false, OnOk};
+ghost use Rattle.std.specs.Prelude.{◌≡◌, ◌<◌, ◌++◌, ℕ, List, [], IfOk, OnOk};
+ghost use Rattle.pool_script.specs.Commands.{whole_commands};
+ghost use Rattle.pool_script.specs.Standing.{Stands};
 
 use crate::{Command, Script};
 use pool_text::{OutOfMemory, Text, append_number};
@@ -87,7 +89,7 @@ const SCRIPTS: [(&[u8], &[u8]); 32] = [
 fn commands_are_the_same_however_they_are_cut(rt: HostRuntime) -> Result<(), Fail> {
     for (input, commands) in SCRIPTS {
         for most in [65_536, 1, 2, 3, 7] {
-            let read = read_commands(rt.alloc(), input, most)?;
+            let read = written(rt.alloc(), &read_commands(rt.alloc(), input, most)?)?;
             assert!(rt;
                 read.bytes() == commands,
                 "{input:?} in pieces of {most}: {read:?}"
@@ -122,7 +124,7 @@ fn limits_are_those_of_the_format(rt: HostRuntime) -> Result<(), Fail> {
         }
         input.append(behind)?;
         for most in [1_000_000, 1, 1000] {
-            let read = read_commands(rt.alloc(), input.bytes(), most)?;
+            let read = written(rt.alloc(), &read_commands(rt.alloc(), input.bytes(), most)?)?;
             assert!(rt;
                 read.bytes().starts_with(commands),
                 "{before:?} and {count} in pieces of {most}"
@@ -133,27 +135,43 @@ fn limits_are_those_of_the_format(rt: HostRuntime) -> Result<(), Fail> {
 }
 
 /// The commands of the input in pieces of at most `most` bytes, each taken as soon as it has ended.
-fn read_commands(alloc: Global, input: &[u8], most: usize) -> Result<Text, OutOfMemory>
+fn read_commands(alloc: Global, input: &[u8], most: usize) -> Result<Vec<Command>, OutOfMemory>
     requires { 0 < most }
+    ensures { IfOk result (λ commands. commands.items ≡ whole_commands input.now) }
 {
     let mut script = Script::new(alloc);
-    let mut commands = Text::new(alloc);
-    for piece in input.chunks(most) {
+    let mut commands = Vec::new(alloc);
+    let mut left = input;
+    while !left.is_empty() {
+        let (piece, behind) = left.split_at(most.min(left.len()));
         script.feed(piece)?;
         take_all(&mut script, &mut commands)?;
+        left = behind;
     }
     script.end()?;
     take_all(&mut script, &mut commands)?;
     Ok(commands)
 }
 
-fn take_all(script: &mut Script, commands: &mut Text) -> Result<(), OutOfMemory>
-    ensures { script.new.over ≡ script.old.over }
+fn take_all(script: &mut Script, commands: &mut Vec<Command>) -> Result<(), OutOfMemory>
+    ensures commands { OnOk result (commands.new.items ≡ commands.old.items ++ script.old.waiting) }
+    ensures waiting { OnOk result (script.new.waiting ≡ []) }
+    ensures over { script.new.over ≡ script.old.over }
+    ensures stands { (bytes : List ℕ) (n : ℕ) → Stands script.old bytes n → (m : ℕ) × Stands script.new bytes m }
 {
     while let Some(command) = script.take() {
-        append_command(commands, &command)?;
+        commands.push(command)?;
     }
     Ok(())
+}
+
+/// The commands as they are written here.
+fn written(alloc: Global, commands: &[Command]) -> Result<Text, OutOfMemory> {
+    let mut text = Text::new(alloc);
+    for command in commands {
+        append_command(&mut text, command)?;
+    }
+    Ok(text)
 }
 
 fn append_command(out: &mut Text, command: &Command) -> Result<(), OutOfMemory> {

@@ -1,2 +1,4 @@
+pub mod IdentityLemmas
 pub mod LogicLemmas
 pub mod PlainLemmas
+pub mod WeightLemmas

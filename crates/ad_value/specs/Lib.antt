@@ -1,2 +1,3 @@
 pub mod Logic
+pub mod Operators
 pub mod Plain

@@ -26,6 +26,11 @@ abbrev pub plains_of : List Plain → Plains
 plains_of [] = no_plains
 plains_of (p ∷ ps) = plain_then p (plains_of ps)
 
+-- the elements of a list value as a list of values
+abbrev pub elements : Plains → List Plain
+elements no_plains = []
+elements (plain_then p ps) = p ∷ elements ps
+
 -- one level of a value, with what is inside already plain
 abbrev pub value_step : Value-F Plain (List Plain) → Plain
 value_step Value-F.Undefined = undefined

@@ -1,14 +1,25 @@
 //! The values of the ClassAd language and its operators on them.
 #![tactic(auto)]
 
+mod arithmetic;
+mod copying;
+mod identity;
 mod laws;
 mod literal;
 mod logic;
+mod operators;
 #[cfg(test)]
 mod tests;
 mod value;
+mod weighing;
 
-pub use laws::{or_mirrors_and, undemanded_side_makes_no_difference};
+pub use copying::copy;
+pub use identity::same;
+pub use laws::{
+    equal_texts_fold_alike, is_is_equality, or_mirrors_and, undemanded_side_makes_no_difference,
+};
 pub use literal::from_lit;
 pub use logic::{and_ends, and_step, or_ends, or_step};
+pub use operators::{binary, unary};
 pub use value::{Value, Values};
+pub use weighing::weight;

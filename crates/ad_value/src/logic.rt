@@ -5,8 +5,8 @@ ghost use Rattle.ad_value.specs.Logic.{and_is_decided, and_value, or_is_decided,
 
 use crate::Value;
 
-/// The value of `left && right`. An operand that is neither a Boolean nor Undefined is as Error; false on the left
-/// wins over all, false on the right over true and Undefined.
+/// The value of `left && right`, as in the ClassAd Language Reference Manual 2.4: false on the left wins over all, and
+/// Undefined gives way to false and to Error on the right. An operand that is neither a Boolean nor Undefined is as Error.
 pub fn and_step(left: &Value, right: &Value) -> Value
     ensures { plain result ≡ and_value (plain left.now) (plain right.now) }
 {

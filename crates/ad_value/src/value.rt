@@ -23,7 +23,7 @@ pub enum Value {
 #[cycle(value)]
 #[derive(Debug, Drop)]
 pub struct Values {
-    items: Vec<Value>,
+    pub(crate) items: Vec<Value>,
 }
 
 impl Values {

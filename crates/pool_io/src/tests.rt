@@ -1,0 +1,52 @@
+// Each call once with ample memory, and the adapters over std's reader and writer in memory.
+use crate::*;
+use pool_text::{Slots, Text};
+use std::test::Fail;
+
+#[test]
+fn a_source_gives_pieces_and_fails_where_it_is_told(rt: HostRuntime) -> Result<(), Fail> {
+    let alloc = rt.alloc();
+    let mut failing = Slots::new(alloc);
+    failing.push(2)?;
+    let mut source = MemorySource::new(Text::from_bytes(alloc, b"advertise")?, 7, failing);
+    let mut buffer = [0; 16];
+    assert_eq!(rt; source.read(&mut buffer), Ok(7));
+    assert_eq!(rt; &buffer[..7], b"adverti".as_slice());
+    assert_eq!(rt; source.read(&mut buffer), Err(Failed));
+    assert_eq!(rt; source.read(&mut buffer), Ok(2));
+    assert_eq!(rt; &buffer[..2], b"se".as_slice());
+    assert_eq!(rt; source.read(&mut buffer), Ok(0));
+    Ok(())
+}
+
+#[test]
+fn a_sink_takes_pieces_and_fails_where_it_is_told(rt: HostRuntime) -> Result<(), Fail> {
+    let alloc = rt.alloc();
+    let mut failing = Slots::new(alloc);
+    failing.push(3)?;
+    let mut sink = MemorySink::new(alloc, 2, 6, failing)?;
+    assert_eq!(rt; sink.write(b"abc"), Ok(2));
+    assert_eq!(rt; write_all(&mut sink, b"cde"), Err(Failed));
+    assert_eq!(rt; sink.taken(), b"abcd".as_slice());
+    assert_eq!(rt; write_all(&mut sink, b"ef"), Ok(()));
+    assert_eq!(rt; sink.write(b"g"), Err(Failed));
+    assert_eq!(rt; sink.taken(), b"abcdef".as_slice());
+    Ok(())
+}
+
+#[test]
+fn adapters_pass_bytes_on(rt: HostRuntime) -> Result<(), Fail> {
+    let alloc = rt.alloc();
+    let mut source = StdSource::new(b"jobs".as_slice());
+    let mut buffer = [0; 3];
+    assert_eq!(rt; source.read(&mut buffer), Ok(3));
+    assert_eq!(rt; buffer.as_slice(), b"job".as_slice());
+    assert_eq!(rt; source.read(&mut buffer), Ok(1));
+    assert_eq!(rt; source.read(&mut buffer), Ok(0));
+    let mut written = Vec::new(alloc);
+    let mut sink = StdSink::new(&mut written);
+    assert_eq!(rt; write_all(&mut sink, b"offers 1\n"), Ok(()));
+    drop(sink);
+    assert_eq!(rt; written.as_slice(), b"offers 1\n".as_slice());
+    Ok(())
+}

@@ -1,0 +1,89 @@
+// The operators that demand all their operands.
+ghost use Rattle.std.specs.Prelude.{◌≡◌};
+ghost use Rattle.ad_value.specs.Plain.{plain};
+ghost use Rattle.ad_value.specs.Operators.{binary_value, negated_value, strict, strict_row, text_row, unary_row, unary_value};
+
+use crate::arithmetic::{integer_result, number, on_numbers};
+use crate::{Value, same};
+use pool_text::{BinOp, UnOp, order_folded};
+
+/// The value of `a op b`, with the strictness of the ClassAd Language Reference Manual 2.4.
+///
+/// `is` and `isnt` give a Boolean always. With any other operator Error on a side gives Error, else Undefined on a side
+/// gives Undefined. Numbers are Integers and Booleans, the latter as 1 or 0; a result out of 64 bits, a divisor 0, and
+/// a shift below 0 or over 63 give Error. Texts are compared after `A` to `Z` are made small. All else is Error.
+pub fn binary(op: BinOp, a: &Value, b: &Value) -> Value
+    ensures { plain result ≡ binary_value op (plain a.now) (plain b.now) }
+{
+    match op {
+        BinOp::Same => Value::Boolean(same(a, b)),
+        BinOp::NotSame => Value::Boolean(!same(a, b)),
+        _ => strict_result(op, a, b),
+    }
+}
+
+// The value of `a op b` where the operator is strict.
+fn strict_result(op: BinOp, a: &Value, b: &Value) -> Value
+    ensures { plain result ≡ strict (strict_row op) (plain a.now) (plain b.now) }
+{
+    match (a, b) {
+        (Value::Error, _) | (_, Value::Error) => Value::Error,
+        (Value::Undefined, _) | (_, Value::Undefined) => Value::Undefined,
+        (Value::Str(x), Value::Str(y)) => on_texts(op, x.bytes(), y.bytes()),
+        _ => match (number(a), number(b)) {
+            (Some(x), Some(y)) => on_numbers(op, x, y),
+            _ => Value::Error,
+        },
+    }
+}
+
+// The result of an operator for two texts.
+fn on_texts(op: BinOp, a: &[u8], b: &[u8]) -> Value
+    ensures { plain result ≡ text_row op a.now b.now }
+{
+    let order = order_folded(a, b);
+    match op {
+        BinOp::Equal => Value::Boolean(order.is_eq()),
+        BinOp::Unequal => Value::Boolean(order.is_ne()),
+        BinOp::Less => Value::Boolean(order.is_lt()),
+        BinOp::AtMost => Value::Boolean(order.is_le()),
+        BinOp::Greater => Value::Boolean(order.is_gt()),
+        BinOp::AtLeast => Value::Boolean(order.is_ge()),
+        _ => Value::Error,
+    }
+}
+
+/// The value of `op a`: Error and Undefined stay, `!` takes a Boolean alone, and the others give the Integer of a number,
+/// with Error where it is out of 64 bits.
+pub fn unary(op: UnOp, a: &Value) -> Value
+    ensures { plain result ≡ unary_value op (plain a.now) }
+{
+    match a {
+        Value::Error => Value::Error,
+        Value::Undefined => Value::Undefined,
+        _ => unary_result(op, a),
+    }
+}
+
+// The value of `op a`, where a is neither Error nor Undefined.
+fn unary_result(op: UnOp, a: &Value) -> Value
+    ensures { plain result ≡ unary_row op (plain a.now) }
+{
+    match (op, number(a)) {
+        (UnOp::Not, _) => negated(a),
+        (_, None) => Value::Error,
+        (UnOp::Plus, Some(x)) => Value::Integer(x),
+        (UnOp::Minus, Some(x)) => integer_result(x.checked_neg()),
+        (UnOp::Complement, Some(x)) => Value::Integer(!x),
+    }
+}
+
+// `!a`, where a is neither Error nor Undefined.
+fn negated(a: &Value) -> Value
+    ensures { plain result ≡ negated_value (plain a.now) }
+{
+    match a {
+        Value::Boolean(b) => Value::Boolean(!*b),
+        _ => Value::Error,
+    }
+}

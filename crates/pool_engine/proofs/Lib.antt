@@ -1,0 +1,8 @@
+mod Cases
+mod FeedLemmas
+mod KeptLemmas
+mod ReturnLemmas
+mod RunEndLemmas
+mod RunLemmas
+mod SessionLemmas
+mod WroteLemmas

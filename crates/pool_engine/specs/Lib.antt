@@ -1,0 +1,6 @@
+pub mod Answers
+pub mod Ends
+pub mod Limits
+pub mod Replies
+pub mod Session
+pub mod Words

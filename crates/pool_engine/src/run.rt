@@ -1,0 +1,132 @@
+// The run of a script over a source and a sink.
+ghost use Rattle.std.specs.Prelude.{◌≡◌, ◌↔◌, ◌≤◌, ◌<◌, [], length, ◌≢◌, IsTrue, IfOk, IfSome};
+ghost use Rattle.pool_text.specs.Lines.{whole};
+ghost use Rattle.pool_io.specs.Flow.{Reads, Rose};
+ghost use Rattle.pool_engine.specs.Answers.{answers, text};
+ghost use Rattle.pool_engine.specs.Ends.{Ends, IsDoneOrOutOfMemory, LeavesAtMost, end_of, status_of};
+ghost use Rattle.pool_engine.specs.Limits.{input_limit};
+
+use crate::session::Session;
+use pool_io::{Failed, Sink, Source};
+use pool_text::{OutOfMemory, Text};
+use std::alloc::Global;
+
+// An input may have so many bytes.
+const INPUT_LIMIT: usize = 1 << 30;
+
+// A read offers room for so many bytes.
+const READ_SIZE: usize = 4096;
+
+/// How a run ended.
+#[derive(Clone, Copy, Debug, PartialEq, Eq)]
+pub enum RunEnd {
+    /// All of the input was read and all replies were taken; `refused` counts the refused commands.
+    Done { refused: u64 },
+    /// The words of the command line are wrong. Nothing was read or written.
+    BadWords,
+    /// The source failed.
+    ReadFault,
+    /// The sink failed.
+    WriteFault,
+    /// The input has more than 1,073,741,824 bytes.
+    TooLong,
+    /// The system gave no memory.
+    OutOfMemory,
+}
+
+impl From<OutOfMemory> for RunEnd {
+    ghost use Rattle.pool_engine.specs.declared.run.RunEnd.TheVariants as ends;
+
+    ghost from_gives = { λ _ end. end ≡ ends.OutOfMemory };
+
+    fn from(_: OutOfMemory) -> Self {
+        RunEnd::OutOfMemory
+    }
+}
+
+impl RunEnd {
+    /// The status with which a program ends after such a run, from 0 to 6.
+    pub fn status(&self) -> u8
+        ensures { result ≡ status_of self.now }
+    {
+        match self {
+            RunEnd::Done { refused: 0 } => 0,
+            RunEnd::Done { .. } => 1,
+            RunEnd::BadWords => 2,
+            RunEnd::ReadFault => 3,
+            RunEnd::WriteFault => 4,
+            RunEnd::TooLong => 5,
+            RunEnd::OutOfMemory => 6,
+        }
+    }
+}
+
+/// Runs the script that a source gives: reads it to its end, answers each line as soon as it has ended, and offers each
+/// reply to the sink as one piece. No byte is read after the first one past the limit.
+pub fn run_pool<S: Source, K: Sink>(
+    alloc: Global,
+    words: &[Text],
+    source: &mut S,
+    sink: &mut K,
+) -> RunEnd
+    ensures ends { Ends (S.shows source.old) (S.shows source.new) (K.shows sink.old) (K.shows sink.new) result }
+
+    // No word is built, so any word is a wrong one, and then nothing was read or written.
+    ensures words { (result ≡ RunEnd.BadWords) ↔ (0 < length words.now) }
+    ensures untouched { result ≡ RunEnd.BadWords → source.new ≡ source.old }
+    ensures unwritten { result ≡ RunEnd.BadWords → sink.new ≡ sink.old }
+
+    // With no word, an input within the limit and no fault, all is read and answered, or memory is wanting.
+    ensures complete { words.now ≡ [] → LeavesAtMost input_limit (S.shows source.old).left
+        → ¬ Rose (S.shows source.old).faults (S.shows source.new).faults
+        → ¬ Rose (K.shows sink.old).faults (K.shows sink.new).faults
+        → IsDoneOrOutOfMemory result }
+    ensures sure_source { IsTrue (S.shows source.old).sure → result ≢ RunEnd.ReadFault }
+    ensures sure_sink { IfSome (S.shows source.old).left (λ bytes.
+        length (text (answers (whole bytes))) ≤ (K.shows sink.old).sure → result ≢ RunEnd.WriteFault) }
+{
+    if words.len() > 0 {
+        return RunEnd::BadWords;
+    }
+    match run_input(alloc, source, sink) {
+        Ok(refused) => RunEnd::Done { refused },
+        Err(end) => end,
+    }
+}
+
+// The number of refusals of a run that read and answered all, or why another run ended.
+fn run_input<S: Source, K: Sink>(alloc: Global, source: &mut S, sink: &mut K) -> Result<u64, RunEnd>
+    ensures ends { Ends (S.shows source.old) (S.shows source.new) (K.shows sink.old) (K.shows sink.new) (end_of result) }
+    ensures words { result ≢ Err RunEnd.BadWords }
+{
+    let mut buffer = [0; READ_SIZE];
+    let mut session = Session::new(alloc);
+    let mut left = INPUT_LIMIT;
+    while left > 0 {
+        let Ok(count) = read_piece(source, &mut buffer, left) else {
+            return Err(RunEnd::ReadFault);
+        };
+        if count == 0 {
+            return session.finish(alloc, sink);
+        }
+        session.feed(alloc, &buffer[..count], sink)?;
+        left -= count;
+    }
+    match read_piece(source, &mut buffer, 1) {
+        Ok(0) => session.finish(alloc, sink),
+        Ok(_) => Err(RunEnd::TooLong),
+        Err(_) => Err(RunEnd::ReadFault),
+    }
+}
+
+// Reads into the front of a buffer, at most so many bytes.
+fn read_piece<S: Source>(source: &mut S, buffer: &mut [u8], most: usize) -> Result<usize, Failed>
+    requires some { 0 < most }
+    requires room { 0 < length buffer.old }
+    ensures reads { Reads (S.shows source.old) (S.shows source.new) result buffer.new }
+    ensures within { IfOk result (λ n. n ≤ most) }
+    ensures inside { IfOk result (λ n. n ≤ length buffer.new) }
+{
+    let room = most.min(buffer.len());
+    source.read(&mut buffer[..room])
+}

@@ -1,9 +1,8 @@
 -- What is kept of a line tells its answer.
-use Rattle.std.proofs.Common.{◌≡◌, ℕ, zero, suc, ◌+◌, ◌-◌, ◌≤◌, ◌<◌, min, true, ltb, List, [], ◌∷◌, ◌++◌, length, take, refl, sym, ◌∙◌, ap, inl, inr, arith, Some, Option, length-take}
-use Rattle.std.specs.List.{cons_option}
+use Rattle.std.proofs.Common.{◌≡◌, ℕ, zero, suc, ◌+◌, ◌-◌, ◌≤◌, ◌<◌, min, true, ltb, List, [], ◌∷◌, ◌++◌, length, take, refl, sym, ◌∙◌, ap, inl, inr, arith, subst, Bool, true, false, MatchBool, Option, length-take}
 use Rattle.pool_text.specs.Lines.{ended}
 use Rattle.pool_engine.proofs.FeedLemmas.{ended-take}
-use Rattle.pool_engine.specs.Answers.{Answer, answer_to, answers, line_too_long}
+use Rattle.pool_engine.specs.Answers.{Answer, IsLineAnswer}
 use Rattle.pool_engine.specs.Limits.{line_limit}
 use Rattle.pool_engine.specs.Session.{kept}
 use Rattle.std.proofs.lemmas.Bool.Decides.{nat_tests}
@@ -34,23 +33,31 @@ append-take_room (suc n) (x ∷ a) b fits =
 kept_is_long : (n : ℕ) (line : List ℕ) → n + 1 < length line → ltb n (length (take (n + 1) line)) ≡ true
 kept_is_long n line long = let kept_length = length-take (n + 1) line in grind (arith, nat_tests)
 
-too_long : (line : List ℕ) → ltb line_limit (length line) ≡ true → answer_to line ≡ Some line_too_long
-too_long line long = rw long refl
+choose_too_long : (b c : Bool) (P Q R : Type 0) → b ≡ true → c ≡ true → MatchBool b P Q → MatchBool c P R
+choose_too_long true true P Q R p q given = given
+choose_too_long false c P Q R p q given = absurd (cc)
+choose_too_long true false P Q R p q given = absurd (cc)
 
--- what is kept of a line tells whether it is too long, and is the line where it isn't
-pub answer_to-kept : (line : List ℕ) → answer_to (kept line) ≡ answer_to line
+-- what is kept of a line tells whether it is too long, and is the line where it isn't: it has the same answers
+pub IsLineAnswer-kept : (line : List ℕ) (given : Option Answer) → IsLineAnswer (kept line) given → IsLineAnswer line given
 unfolding kept
-answer_to-kept line = elim (at_most_or_above (length line) (line_limit + 1)) [
-  | inl short ↦ ap answer_to (take_all (line_limit + 1) line short)
+IsLineAnswer-kept line given is = elim (at_most_or_above (length line) (line_limit + 1)) [
+  | inl short ↦ subst (λ (l : List ℕ). IsLineAnswer l given) (take_all (line_limit + 1) line short) is
   | inr long ↦
       let kept_long : ltb line_limit (length (kept line)) ≡ true = kept_is_long (line_limit) line long in
       let line_long : ltb line_limit (length line) ≡ true = grind (arith, nat_tests) in
-      too_long (kept line) kept_long ∙ sym (too_long line line_long)
+      choose_too_long _ _ _ _ _ kept_long line_long is
 ]
 
--- and so are the answers to lines of which the first is kept alone
-pub answers-kept : (line : List ℕ) (lines : List (List ℕ)) → answers (kept line ∷ lines) ≡ answers (line ∷ lines)
-answers-kept line lines = ap (λ (a : Option Answer). cons_option a (answers lines)) (answer_to-kept line)
+pub IsLineAnswer-of_kept : (line : List ℕ) (given : Option Answer) → IsLineAnswer line given → IsLineAnswer (kept line) given
+unfolding kept
+IsLineAnswer-of_kept line given is = elim (at_most_or_above (length line) (line_limit + 1)) [
+  | inl short ↦ subst (λ (l : List ℕ). IsLineAnswer l given) (sym (take_all (line_limit + 1) line short)) is
+  | inr long ↦
+      let kept_long : ltb line_limit (length (kept line)) ≡ true = kept_is_long (line_limit) line long in
+      let line_long : ltb line_limit (length line) ≡ true = grind (arith, nat_tests) in
+      choose_too_long _ _ _ _ _ line_long kept_long is
+]
 
 -- a line that has begun is kept as far as it goes
 pub kept-append : (a b : List ℕ) → kept (kept a ++ b) ≡ kept (a ++ b)
@@ -71,3 +78,7 @@ ended-kept a none = ended-take (line_limit + 1) a none
 pub kept-nil : kept [] ≡ []
 unfolding kept
 kept-nil = refl
+
+-- a line is answered alike where its first part is cut
+pub IsLineAnswer-front : (r a : List ℕ) (given : Option Answer) → IsLineAnswer (kept r ++ a) given → IsLineAnswer (r ++ a) given
+IsLineAnswer-front r a given is = IsLineAnswer-kept (r ++ a) given (subst (λ (l : List ℕ). IsLineAnswer l given) (kept-append r a) (IsLineAnswer-of_kept (kept r ++ a) given is))

@@ -1,3 +1,4 @@
+mod AnswerLemmas
 mod Cases
 mod FeedLemmas
 mod KeptLemmas
@@ -5,4 +6,7 @@ mod ReturnLemmas
 mod RunEndLemmas
 mod RunLemmas
 mod SessionLemmas
+mod UniqueLemmas
+mod ValueLemmas
+mod WordLemmas
 mod WroteLemmas

@@ -5,7 +5,7 @@ use Rattle.pool_text.specs.Lines.{ended, whole}
 use Rattle.pool_io.specs.Flow.{Supply, Intake, Rose}
 use Rattle.pool_engine.specs.declared.run.RunEnd.{RunEnd}
 use Rattle.pool_engine.specs.declared.run.RunEnd.TheVariants.{Done, BadWords, ReadFault, WriteFault, TooLong, OutOfMemory}
-use Rattle.pool_engine.specs.Answers.{Answer, answers, text, refusals}
+use Rattle.pool_engine.specs.Answers.{Answer, AreAnswers, text, refusals}
 use Rattle.pool_engine.specs.Limits.{input_limit}
 
 -- a source gave these bytes, and had no fault where it was sure
@@ -40,28 +40,35 @@ pub record IsDone (s t : Supply) (k m : Intake) (refused : ℕ) : Type 0 where
   pub within : length bytes ≤ input_limit
   pub gave : Gave s t bytes
   pub at_end : IsAtEnd t.left
-  pub wrote : Wrote k m (text (answers (whole bytes)))
-  pub counted : refused ≡ refusals (answers (whole bytes))
+  pub given : List Answer
+  pub are : AreAnswers (whole bytes) given
+  pub wrote : Wrote k m (text given)
+  pub counted : refused ≡ refusals given
 
 -- the source failed: the answers to the lines that had ended were taken
 pub record IsReadFault (s t : Supply) (k m : Intake) : Type 0 where
   pub bytes : List ℕ
   pub within : length bytes ≤ input_limit
   pub lost : Lost s t bytes
-  pub wrote : Wrote k m (text (answers (ended bytes)))
+  pub given : List Answer
+  pub are : AreAnswers (ended bytes) given
+  pub wrote : Wrote k m (text given)
 
 -- the lines to answer after these bytes: those that have ended, or all of them where nothing is left to read
 abbrev pub AreDue : Supply → List ℕ → List (List ℕ) → Type 0
 AreDue t bytes lines = (lines ≡ ended bytes) ⊎ ((lines ≡ whole bytes) × IsAtEnd t.left)
 
--- the sink failed: a proper front of the answers that were due was taken
+-- the sink failed: a proper front of the answers to the first of the lines that were due was taken
 pub record IsWriteFault (s t : Supply) (k m : Intake) : Type 0 where
   pub bytes : List ℕ
   pub within : length bytes ≤ input_limit
   pub gave : Gave s t bytes
-  pub lines : List (List ℕ)
-  pub due : AreDue t bytes lines
-  pub broke : Broke k m (text (answers lines))
+  pub front : List (List ℕ)
+  pub others : List (List ℕ)
+  pub due : AreDue t bytes (front ++ others)
+  pub given : List Answer
+  pub are : AreAnswers front given
+  pub broke : Broke k m (text given)
 
 -- one byte past the limit was read: the answers to the lines that had ended before it were taken
 pub record IsTooLong (s t : Supply) (k m : Intake) : Type 0 where
@@ -69,17 +76,21 @@ pub record IsTooLong (s t : Supply) (k m : Intake) : Type 0 where
   pub last : ℕ
   pub full : length bytes ≡ input_limit
   pub gave : Gave s t (bytes ++ last ∷ [])
-  pub wrote : Wrote k m (text (answers (ended bytes)))
+  pub given : List Answer
+  pub are : AreAnswers (ended bytes) given
+  pub wrote : Wrote k m (text given)
 
--- memory was wanting: the first of the answers were taken, each whole
+-- memory was wanting: the answers to the first of the lines were taken, each whole
 pub record IsOutOfMemory (s t : Supply) (k m : Intake) : Type 0 where
   pub bytes : List ℕ
   pub within : length bytes ≤ input_limit
   pub gave : Gave s t bytes
-  pub front : List Answer
-  pub others : List Answer
-  pub split : answers (whole bytes) ≡ front ++ others
-  pub wrote : Wrote k m (text front)
+  pub front : List (List ℕ)
+  pub others : List (List ℕ)
+  pub split : whole bytes ≡ front ++ others
+  pub given : List Answer
+  pub are : AreAnswers front given
+  pub wrote : Wrote k m (text given)
 
 -- a run ended so, from these states of source and sink to those
 abbrev pub Ends : Supply → Supply → Intake → Intake → RunEnd → Type 0

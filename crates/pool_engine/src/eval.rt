@@ -1,76 +1,78 @@
-// The value of an expression of literals: one, or two with `&&` or `||` between them.
-ghost use Rattle.std.specs.Prelude.{◌≡◌};
-ghost use Rattle.std.specs.Option.{option_map, option_and_then};
-ghost use Rattle.pool_text.specs.Number.{number_of};
-ghost use Rattle.ad_value.specs.Plain.{plain};
-ghost use Rattle.pool_engine.specs.Answers.{literal_of, integer_of, sole_literal, is_word, operation, value_of};
+// The value of an expression of literals, `&&` and `||`.
+ghost use Rattle.std.specs.Prelude.{◌≡◌, true, false, IsTrue, IfOk};
+ghost use Rattle.ad_tree.specs.Tree.{pack, tree, trees};
+ghost use Rattle.ad_value.specs.Plain.{boolean, plain};
+ghost use Rattle.pool_engine.specs.Values.{are_built, conjunction, disjunction, is_built, value};
 
-use crate::words::split_word;
-use ad_value::{Value, and_step, or_step};
-use pool_text::{read_number, same_folded};
+use ad_tree::{Expr, Exprs};
+use ad_value::{Value, and_ends, and_step, from_lit, or_ends, or_step};
+use pool_text::{Lit, OutOfMemory};
+use std::alloc::Global;
 
-/// The value of the text behind `eval`, or none where it is not of a form that is built.
-pub(crate) fn evaluate(text: &[u8]) -> Option<Value>
-    ensures { option_map plain result ≡ value_of text.now }
+/// Whether the value of the expression can be found today: it holds literals that are no strings, `&&` and `||` alone.
+#[cycle(built)]
+pub(crate) fn is_built(expr: &Expr) -> bool
+    ensures { result ≡ is_built (tree expr.now) }
 {
-    let (word, rest) = split_word(text);
-    if rest.len() == 0 {
-        return read_literal(word);
-    }
-    let (operator, right) = split_word(rest);
-    operate(read_literal(word)?, operator, read_sole_literal(right)?)
-}
-
-fn operate(left: Value, operator: &[u8], right: Value) -> Option<Value>
-    ensures { option_map plain result ≡ operation (plain left) operator.now (plain right) }
-{
-    if operator == b"&&".as_slice() {
-        Some(and_step(&left, &right))
-    } else if operator == b"||".as_slice() {
-        Some(or_step(&left, &right))
-    } else {
-        None
+    match expr {
+        Expr::Literal(lit) => !matches!(lit, Lit::Str(_)),
+        Expr::And(items) => are_built(items),
+        Expr::Or(items) => are_built(items),
+        _ => false,
     }
 }
 
-// The literal of a text of one word.
-fn read_sole_literal(text: &[u8]) -> Option<Value>
-    ensures { option_map plain result ≡ sole_literal text.now }
+#[cycle(built)]
+fn are_built(items: &Exprs) -> bool
+    ensures { result ≡ are_built (pack (trees items.now)) }
 {
-    let (word, rest) = split_word(text);
-    if rest.len() == 0 {
-        read_literal(word)
-    } else {
-        None
+    for i in 0..items.len() {
+        if !is_built(items.at(i)) {
+            return false;
+        }
+    }
+    true
+}
+
+/// The value of such an expression. A chain is folded from the left, and an element that isn't demanded is left out.
+#[cycle(evaluation)]
+pub(crate) fn evaluate(alloc: Global, expr: &Expr) -> Result<Value, OutOfMemory>
+    ensures { IfOk result (λ v. plain v ≡ value (tree expr.now)) }
+{
+    match expr {
+        Expr::Literal(lit) => from_lit(alloc, lit),
+        Expr::And(items) => conjunction(alloc, items),
+        Expr::Or(items) => disjunction(alloc, items),
+        _ => Ok(Value::Undefined),
     }
 }
 
-fn read_literal(word: &[u8]) -> Option<Value>
-    ensures { option_map plain result ≡ literal_of word.now }
+#[cycle(evaluation)]
+fn conjunction(alloc: Global, items: &Exprs) -> Result<Value, OutOfMemory>
+    ensures { IfOk result (λ v. plain v ≡ conjunction (boolean true) (pack (trees items.now))) }
 {
-    if is_word(word, b"true") {
-        Some(Value::Boolean(true))
-    } else if is_word(word, b"false") {
-        Some(Value::Boolean(false))
-    } else if is_word(word, b"undefined") {
-        Some(Value::Undefined)
-    } else if is_word(word, b"error") {
-        Some(Value::Error)
-    } else {
-        read_integer(word)
+    let mut left = Value::Boolean(true);
+    for i in 0..items.len() {
+        if and_ends(&left) {
+            return Ok(left);
+        }
+        let right = evaluate(alloc, items.at(i))?;
+        left = and_step(&left, &right);
     }
+    Ok(left)
 }
 
-// Whether the word is this one, in any case.
-fn is_word(word: &[u8], name: &[u8]) -> bool
-    ensures { result ≡ is_word word.now name.now }
+#[cycle(evaluation)]
+fn disjunction(alloc: Global, items: &Exprs) -> Result<Value, OutOfMemory>
+    ensures { IfOk result (λ v. plain v ≡ disjunction (boolean false) (pack (trees items.now))) }
 {
-    same_folded(word, name)
-}
-
-fn read_integer(word: &[u8]) -> Option<Value>
-    ensures { option_map plain result ≡ option_and_then integer_of (number_of word.now) }
-{
-    let number = read_number(word)?;
-    Some(Value::Integer(i64::try_from(number).ok()?))
+    let mut left = Value::Boolean(false);
+    for i in 0..items.len() {
+        if or_ends(&left) {
+            return Ok(left);
+        }
+        let right = evaluate(alloc, items.at(i))?;
+        left = or_step(&left, &right);
+    }
+    Ok(left)
 }

@@ -1,8 +1,8 @@
 // The run of a script over a source and a sink.
-ghost use Rattle.std.specs.Prelude.{◌≡◌, ◌↔◌, ◌≤◌, ◌<◌, [], length, ◌≢◌, IsTrue, IfOk, IfSome};
+ghost use Rattle.std.specs.Prelude.{◌≡◌, ◌↔◌, ◌≤◌, ◌<◌, List, [], length, ◌≢◌, IsTrue, IfOk, IfSome};
 ghost use Rattle.pool_text.specs.Lines.{whole};
 ghost use Rattle.pool_io.specs.Flow.{Reads, Rose};
-ghost use Rattle.pool_engine.specs.Answers.{answers, text};
+ghost use Rattle.pool_engine.specs.Answers.{Answer, AreAnswers, text};
 ghost use Rattle.pool_engine.specs.Ends.{Ends, IsDoneOrOutOfMemory, LeavesAtMost, end_of, status_of};
 ghost use Rattle.pool_engine.specs.Limits.{input_limit};
 
@@ -82,8 +82,8 @@ pub fn run_pool<S: Source, K: Sink>(
         → ¬ Rose (K.shows sink.old).faults (K.shows sink.new).faults
         → IsDoneOrOutOfMemory result }
     ensures sure_source { IsTrue (S.shows source.old).sure → result ≢ RunEnd.ReadFault }
-    ensures sure_sink { IfSome (S.shows source.old).left (λ bytes.
-        length (text (answers (whole bytes))) ≤ (K.shows sink.old).sure → result ≢ RunEnd.WriteFault) }
+    ensures sure_sink { IfSome (S.shows source.old).left (λ bytes. (given : List Answer) → AreAnswers (whole bytes) given
+        → length (text given) ≤ (K.shows sink.old).sure → result ≢ RunEnd.WriteFault) }
 {
     if words.len() > 0 {
         return RunEnd::BadWords;

@@ -1,7 +1,6 @@
 // A script that comes in pieces, and the answers to its lines.
 ghost use Rattle.std.specs.Prelude.{◌≡◌, ◌+◌, ◌^◌, ◌<◌, ◌≤◌, ◌++◌, ◌∷◌, [], ℕ, length, OnOk, OnErr, IfOk, IfNone, IfSome, MatchOption};
 ghost use Rattle.pool_text.specs.Lines.{ended, rest_of, last_line};
-ghost use Rattle.pool_engine.specs.Answers.{answers, refusals};
 ghost use Rattle.pool_engine.specs.Limits.{line_limit};
 ghost use Rattle.pool_engine.specs.Session.{Answered, kept, first_feed};
 
@@ -39,9 +38,9 @@ impl Session {
         requires short { length self.old.line ≤ line_limit + 1 }
         requires one { ended self.old.line ≡ [] }
         requires room { self.old.refused + length piece.now < 2 ^ 64 }
-        ensures answered { Answered (K.shows sink.old) (K.shows sink.new) (answers (ended (self.old.line ++ piece.now))) result }
+        ensures answered { Answered (K.shows sink.old) (K.shows sink.new) (ended (self.old.line ++ piece.now))
+            self.old.refused (λ _. self.new.refused) result }
         ensures line { OnOk result (self.new.line ≡ kept (rest_of (self.old.line ++ piece.now))) }
-        ensures refused { OnOk result (self.new.refused ≡ self.old.refused + refusals (answers (ended (self.old.line ++ piece.now)))) }
     {
         let mut rest = piece;
         while let Some((last, after)) = split_line(rest) {
@@ -55,8 +54,7 @@ impl Session {
     /// Answers the last line of the script, which no line feed ends, and gives the number of all refusals.
     pub(crate) fn finish<K: Sink>(self, alloc: Global, sink: &mut K) -> Result<u64, RunEnd>
         requires { self.refused < 2 ^ 63 }
-        ensures answered { Answered (K.shows sink.old) (K.shows sink.new) (answers (last_line self.line)) result }
-        ensures refused { IfOk result (λ n. n ≡ self.refused + refusals (answers (last_line self.line))) }
+        ensures { Answered (K.shows sink.old) (K.shows sink.new) (last_line self.line) self.refused (λ n. n) result }
     {
         let Session { line, refused } = self;
         if line.bytes().len() == 0 {
@@ -113,9 +111,8 @@ fn end_line<K: Sink>(
     sink: &mut K,
 ) -> Result<u64, RunEnd>
     requires { length line.old ≤ line_limit + 1 }
-    ensures answered { Answered (K.shows sink.old) (K.shows sink.new) (answers ((line.old ++ last.now) ∷ [])) result }
+    ensures answered { Answered (K.shows sink.old) (K.shows sink.new) ((line.old ++ last.now) ∷ []) 0 (λ n. n) result }
     ensures empty { OnOk result (line.new ≡ []) }
-    ensures refused { IfOk result (λ n. n ≡ refusals (answers ((line.old ++ last.now) ∷ []))) }
     ensures one { IfOk result (λ n. n ≤ 1) }
 {
     if line.bytes().len() == 0 {
@@ -129,11 +126,10 @@ fn end_line<K: Sink>(
 
 // Answers a line, where it has an answer, and gives the number of refusals, 0 or 1.
 fn answer_line<K: Sink>(alloc: Global, line: &[u8], sink: &mut K) -> Result<u64, RunEnd>
-    ensures answered { Answered (K.shows sink.old) (K.shows sink.new) (answers (line.now ∷ [])) result }
-    ensures refused { IfOk result (λ n. n ≡ refusals (answers (line.now ∷ []))) }
+    ensures answered { Answered (K.shows sink.old) (K.shows sink.new) (line.now ∷ []) 0 (λ n. n) result }
     ensures one { IfOk result (λ n. n ≤ 1) }
 {
-    let Some(reply) = reply_to(line) else {
+    let Some(reply) = reply_to(alloc, line)? else {
         return Ok(0);
     };
     let text = reply.print(alloc)?;

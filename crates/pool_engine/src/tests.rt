@@ -46,31 +46,35 @@ fn lines_are_answered(rt: HostRuntime) -> Result<(), Fail> {
             0,
             b"true\nerror\nfalse\nerror\n",
         ),
-        (
-            b"eval 1 + 1\neval 010\neval  TRUE  ||  error\n",
-            2,
-            b"refused 14 not built\nrefused 14 not built\ntrue\n",
-        ),
-        (
-            b"eval 9223372036854775807\neval 9223372036854775808",
-            1,
-            b"9223372036854775807\nrefused 14 not built\n",
-        ),
         (b"\n \t \n# eval 1\n  #x\n\r\n", 0, b""),
         (b"eval 7\r\neval 8\r", 0, b"7\n8\n"),
-        (b"eval 7\r\r\n", 1, b"refused 14 not built\n"),
+        (b"eval 7\r\r\n", 0, b"7\n"),
         (b"\teval\tUNDEFINED\t", 0, b"undefined\n"),
         (
-            b"eval\nfly\nEVAL 1\nevaluate 1",
+            b"eval\neval \nfly\nEVAL 1\n",
             4,
-            b"refused 14 not built\nrefused 14 not built\nrefused 14 not built\nrefused 14 not built\n",
+            b"refused 3 wrong words\nrefused 3 wrong words\nrefused 14 not built\nrefused 14 not built\n",
         ),
         (
-            b"eval true &&\neval true && && true\neval true false true",
+            b"eval 0x1F\neval 010\neval 09\neval 1 && 1.5\neval 9223372036854775808",
             3,
-            b"refused 14 not built\nrefused 14 not built\nrefused 14 not built\n",
+            b"31\n8\nrefused 6 lexical 4 at 0\nrefused 6 lexical 5 at 5\nrefused 6 lexical 4 at 0\n",
         ),
-        (b"eval true || false || true", 1, b"refused 14 not built\n"),
+        (
+            b"eval \"abc\neval 1 /* x\neval 1 &&\neval \"abc\"\neval a\neval 1 + 1\neval { }",
+            7,
+            b"refused 6 lexical 2 at 0\nrefused 6 lexical 6 at 2\nrefused 6 grammar\nrefused 14 not built\nrefused 14 not built\nrefused 14 not built\nrefused 14 not built\n",
+        ),
+        (
+            b"eval (true || error) && (false || undefined)\neval true && (true && 1)\neval false || (undefined || true)",
+            0,
+            b"undefined\nerror\ntrue\n",
+        ),
+        (
+            b"eval false && \"x\"\neval true || [ ]",
+            2,
+            b"refused 14 not built\nrefused 14 not built\n",
+        ),
     ];
     for (script, refused, replies) in cases {
         let whole = run(alloc, script, (4096, 4096), 0, 0)?;
@@ -79,6 +83,40 @@ fn lines_are_answered(rt: HostRuntime) -> Result<(), Fail> {
         let cut = run(alloc, script, (1, 1), 0, 0)?;
         assert!(rt; cut.0 == whole.0);
         assert_eq!(rt; cut.1.bytes(), replies);
+    }
+    Ok(())
+}
+
+// An `eval` line of a text, and then so many times another.
+fn repeated(alloc: Global, first: &[u8], more: &[u8], times: usize) -> Result<Text, OutOfMemory> {
+    let mut script = Text::from_bytes(alloc, b"eval ")?;
+    script.append(first)?;
+    for _ in 0..times {
+        script.append(more)?;
+    }
+    Ok(script)
+}
+
+#[test]
+fn limits_of_expressions(rt: HostRuntime) -> Result<(), Fail> {
+    let alloc = rt.alloc();
+    let cases: [(&[u8], &[u8], usize, &[u8]); 6] = [
+        (b"1", b" + 1", 63, b"refused 14 not built\n"),
+        (b"1", b" + 1", 64, b"refused 6 depth\n"),
+        (b"true", b" && true", 99, b"true\n"),
+        (b"", b"(", 131, b"refused 6 nesting\n"),
+        (b"", b"(", 130, b"refused 6 grammar\n"),
+        (b"1", b" ? 1 : 1", 2000, b"refused 6 depth\n"),
+    ];
+    for (first, more, times, reply) in cases {
+        let ended = run(
+            alloc,
+            repeated(alloc, first, more, times)?.bytes(),
+            (4096, 4096),
+            0,
+            0,
+        )?;
+        assert_eq!(rt; ended.1.bytes(), reply);
     }
     Ok(())
 }

@@ -10,7 +10,7 @@ pub finish-requires : goal.finish-requires
 finish-requires g c = let few = Reading-few _ _ _ _ _ _ _ c.loop-left.invariant.0 in omega (arith, few)
 
 pub returns-then-count-eq0-clause-ends : goal.returns-then-count-eq0-clause-ends
-returns-then-count-eq0-clause-ends g c = Reading-finish _ _ _ _ _ _ _ _ _ _ _ _ c.loop-left.invariant.0 c.in-Ok.ensures.reads c.if-count-eq0.true (omega (arith, c.read_piece.auto.buffer, c.loop-left.invariant.1)) c.finish.ensures.answered c.finish.ensures.refused
+returns-then-count-eq0-clause-ends g c = Reading-finish _ _ _ _ _ _ _ _ _ _ _ _ c.loop-left.invariant.0 c.in-Ok.ensures.reads c.if-count-eq0.true (omega (arith, c.read_piece.auto.buffer, c.loop-left.invariant.1)) c.finish.ensures
 
 pub feed-requires-clause-short : goal.feed-requires-clause-short
 feed-requires-clause-short g c = Reading-short _ _ _ _ _ _ _ c.loop-left.invariant.0
@@ -28,13 +28,13 @@ returns-in_err-feed-clause-ends g c =
     rw (exit.1, exit.2) stopped
 
 pub loop-left-preserved : goal.loop-left-preserved
-loop-left-preserved g c = (Reading-piece _ _ _ _ _ _ _ _ _ _ _ _ _ c.loop-left.invariant.0 c.in-Ok.ensures.reads (omega (arith, c.in-Ok.ensures.inside, length-take c.in-Ok.count c.read_piece.new.buffer)) c.in-Ok.ensures.within c.in_ok-feed.ensures.answered c.in_ok-feed.ensures.line c.in_ok-feed.ensures.refused, omega (arith, c.read_piece.auto.buffer, c.loop-left.invariant.1))
+loop-left-preserved g c = (Reading-piece _ _ _ _ _ _ _ _ _ _ _ _ _ c.loop-left.invariant.0 c.in-Ok.ensures.reads (omega (arith, c.in-Ok.ensures.inside, length-take c.in-Ok.count c.read_piece.new.buffer)) c.in-Ok.ensures.within c.in_ok-feed.ensures.answered c.in_ok-feed.ensures.line, omega (arith, c.read_piece.auto.buffer, c.loop-left.invariant.1))
 
 pub finish-requires-in-Ok-eq0 : goal.finish-requires-in-Ok-eq0
 finish-requires-in-Ok-eq0 g c = let few = Reading-few _ _ _ _ _ _ _ c.loop-left.invariant.0 in omega (arith, few)
 
 pub returns-in-Ok-eq0-clause-ends : goal.returns-in-Ok-eq0-clause-ends
-returns-in-Ok-eq0-clause-ends g c = Reading-finish _ _ _ _ _ _ _ _ _ _ _ _ c.loop-left.invariant.0 c.in-Ok-eq0.ensures.reads c.in-Ok-eq0.field-0-test (omega (arith, c.read_piece-2.auto.buffer, c.loop-left.invariant.1)) c.finish-in-Ok-eq0.ensures.answered c.finish-in-Ok-eq0.ensures.refused
+returns-in-Ok-eq0-clause-ends g c = Reading-finish _ _ _ _ _ _ _ _ _ _ _ _ c.loop-left.invariant.0 c.in-Ok-eq0.ensures.reads c.in-Ok-eq0.field-0-test (omega (arith, c.read_piece-2.auto.buffer, c.loop-left.invariant.1)) c.finish-in-Ok-eq0.ensures
 
 pub returns-in-Ok-read_piece-clause-ends : goal.returns-in-Ok-read_piece-clause-ends
 returns-in-Ok-read_piece-clause-ends g c =

@@ -11,6 +11,7 @@ mod ListLemmas
 pub mod MadeLemmas
 pub mod MadeWordLemmas
 mod NodeLemmas
+mod ParseLemmas
 mod QuoteLemmas
 mod ReaderLemmas
 mod Readings

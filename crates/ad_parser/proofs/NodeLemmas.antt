@@ -53,13 +53,13 @@ two-high label x y = omega arith
 pub height-joined : (op : Infix) (x y : Inline) → height (joined op x y) ≡ joined_height (extends op x) (height x) (height y)
 height-joined conjunction (shape label xs) y =
     elim label as (λ l. height (joined conjunction (shape l xs) y) ≡ joined_height (extends conjunction (shape l xs)) (height (shape l xs)) (height y)) [
-      all ↦ omega (arith, followed_by-highest xs y)
+      | all ↦ omega (arith, followed_by-highest xs y)
       | _ ↦ omega arith
     ]
 height-joined conjunction (inner ds) y = omega arith
 height-joined disjunction (shape label xs) y =
     elim label as (λ l. height (joined disjunction (shape l xs) y) ≡ joined_height (extends disjunction (shape l xs)) (height (shape l xs)) (height y)) [
-      any ↦ omega (arith, followed_by-highest xs y)
+      | any ↦ omega (arith, followed_by-highest xs y)
       | _ ↦ omega arith
     ]
 height-joined disjunction (inner ds) y = omega arith

@@ -36,7 +36,7 @@ early-fault rule frames text faults.OutOfMemory is = tt
 pub is_read-ok : {A B : Type 0} (seen : A → B) (wanted : Option B) (a : A) → wanted ≡ Some (seen a) → IsRead seen wanted (Ok a)
 is_read-ok seen wanted a is = record {
   ok = λ b same. let one : a ≡ b = cc in is ∙ ap (λ x. Some (seen x)) one;
-  none = λ same. absurd cc
+  none = λ same. absurd cc;
 }
 
 pub is_read-none : {A B : Type 0} (seen : A → B) (wanted : Option B) (stop : Stop) → wanted ≡ None → IsRead seen wanted (Err stop)

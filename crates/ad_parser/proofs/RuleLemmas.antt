@@ -126,7 +126,7 @@ suffixes_suc e n x (quoted t ∷ ws) h k = refl
 suffixes_suc e n x (constant l ∷ ws) h k = refl
 suffixes_suc e n x (mark m ∷ ws) h k =
     elim m as (λ n1. Lacks Dot (mark n1 ∷ ws) → Lacks OpenBracket (mark n1 ∷ ws) → suffixes height_limit e (suc n) x (mark n1 ∷ ws) ≡ Some (x, mark n1 ∷ ws)) [
-      Dot ↦ λ l r. absurd (l ws refl)
+      | Dot ↦ λ l r. absurd (l ws refl)
       | OpenBracket ↦ λ l r. absurd (r ws refl)
       | _ ↦ λ l r. refl
     ] h k

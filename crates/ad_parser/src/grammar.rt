@@ -266,7 +266,11 @@ fn several(alloc: Global, reader: &mut Reader<'_, '_>, fuel: usize) -> Result<Pa
 
 /// The definitions of an ad behind its opening mark.
 #[cycle(grammar)]
-pub fn definitions(alloc: Global, reader: &mut Reader<'_, '_>, fuel: usize) -> Result<DefinitionParts, Stop>
+pub fn definitions(
+    alloc: Global,
+    reader: &mut Reader<'_, '_>,
+    fuel: usize,
+) -> Result<DefinitionParts, Stop>
     ensures { Gives (λ p. cut_defined_before (definition_parts p) (Some no_defs))
         (rules.ad_behind (rules.expression height_limit fuel) (left reader.old)) result (left reader.new) }
 {
@@ -277,7 +281,11 @@ pub fn definitions(alloc: Global, reader: &mut Reader<'_, '_>, fuel: usize) -> R
 }
 
 #[cycle(grammar)]
-fn some_definitions(alloc: Global, reader: &mut Reader<'_, '_>, fuel: usize) -> Result<DefinitionParts, Stop>
+fn some_definitions(
+    alloc: Global,
+    reader: &mut Reader<'_, '_>,
+    fuel: usize,
+) -> Result<DefinitionParts, Stop>
     ensures { Gives (λ p. cut_defined_before (definition_parts p) (Some no_defs))
         (rules.definitions_at (rules.expression height_limit fuel) (length (left reader.old)) (left reader.old))
         result (left reader.new) }

@@ -93,14 +93,23 @@ pub fn subscript(alloc: Global, base: Part, place: Part) -> Result<Part, OutOfMe
 }
 
 /// A conditional.
-pub fn choice(alloc: Global, condition: Part, first: Part, second: Part) -> Result<Part, OutOfMemory>
+pub fn choice(
+    alloc: Global,
+    condition: Part,
+    first: Part,
+    second: Part,
+) -> Result<Part, OutOfMemory>
     ensures { IfOk result (λ p. part p
         ≡ cut_three height_limit (shapes.over_three labels.choice) (part condition) (part first) (part second)) }
 {
     let height = condition.height.max(first.height.max(second.height)) + 1;
     match (condition.node, first.node, second.node) {
         (Some(a), Some(b), Some(c)) => {
-            let node = Node::Choice(Box::new(alloc, a)?, Box::new(alloc, b)?, Box::new(alloc, c)?);
+            let node = Node::Choice(
+                Box::new(alloc, a)?,
+                Box::new(alloc, b)?,
+                Box::new(alloc, c)?,
+            );
             Ok(cut(node, height))
         }
         _ => Ok(nothing()),
@@ -244,7 +253,11 @@ pub fn no_definitions(alloc: Global) -> DefinitionParts
 }
 
 /// One definition more.
-pub fn add_definition(list: DefinitionParts, name: Text, last: Part) -> Result<DefinitionParts, OutOfMemory>
+pub fn add_definition(
+    list: DefinitionParts,
+    name: Text,
+    last: Part,
+) -> Result<DefinitionParts, OutOfMemory>
     ensures { IfOk result (λ p. definition_parts p ≡ cut_last_def (definition_parts list) name (part last)) }
 {
     let highest = list.highest.max(last.height);
@@ -267,7 +280,10 @@ pub fn add_definition(list: DefinitionParts, name: Text, last: Part) -> Result<D
 pub fn ad(list: DefinitionParts) -> Part
     ensures { part result ≡ cut_ad height_limit (cut_defined_before (definition_parts list) (Some no_defs)) }
 {
-    let DefinitionParts { definitions, highest } = list;
+    let DefinitionParts {
+        definitions,
+        highest,
+    } = list;
     match definitions {
         Some(definitions) => cut(Node::Ad(definitions), highest + 1),
         None => nothing(),

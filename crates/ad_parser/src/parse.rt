@@ -100,7 +100,10 @@ fn read_ad(alloc: Global, words: &[Word<'_>]) -> Result<Option<Definitions>, Sto
 fn low_definitions(list: DefinitionParts) -> Option<Definitions>
     ensures { literal_of result ≡ cut_ad height_limit (cut_defined_before (definition_parts list) (Some no_defs)) }
 {
-    let DefinitionParts { definitions, highest } = list;
+    let DefinitionParts {
+        definitions,
+        highest,
+    } = list;
     if highest < HEIGHT_LIMIT {
         definitions
     } else {

@@ -61,9 +61,9 @@ IsWordAnswer-unique : (word rest : List ℕ) (a b : Option Answer) → IsWordAns
 IsWordAnswer-unique [] rest a b first second = first ∙ sym second
 IsWordAnswer-unique (byte ∷ word) rest a b first second =
     both (byte == 35) first second (λ x y. x ∙ sym y)
-      (λ x y. x.1 ∙ ap (λ answer. Some answer) (IsCommandAnswer-unique (byte ∷ word) rest x.0 y.0 x.2 y.2) ∙ sym y.1)
+    (λ x y. x.1 ∙ ap (λ answer. Some answer) (IsCommandAnswer-unique (byte ∷ word) rest x.0 y.0 x.2 y.2) ∙ sym y.1)
 
 pub IsLineAnswer-unique : (line : List ℕ) (a b : Option Answer) → IsLineAnswer line a → IsLineAnswer line b → a ≡ b
 IsLineAnswer-unique line a b first second =
     both (nat_lt line_limit (length line)) first second (λ x y. x ∙ sym y)
-      (λ x y. IsWordAnswer-unique (word_of (without_return line)) (behind (without_return line)) a b x y)
+    (λ x y. IsWordAnswer-unique (word_of (without_return line)) (behind (without_return line)) a b x y)

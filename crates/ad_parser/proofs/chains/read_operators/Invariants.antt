@@ -7,7 +7,7 @@ use Rattle.ad_parser.proofs.chains.read_operators.Given as goal
 abbrev pub invariant-loop-turns : goal.invariant-loop-turns
 invariant-loop-turns l = record {
   read : (e : Rule) → prefixes height_limit e (left l.initial.reader) ≡ wrapped l.operators.items (prefixes height_limit e (left l.reader));
-  count : l.turns ≡ length (left l.reader)
+  count : l.turns ≡ length (left l.reader);
 }
 
 abbrev pub decreases-loop-turns : goal.decreases-loop-turns

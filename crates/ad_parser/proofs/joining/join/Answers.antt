@@ -26,6 +26,6 @@ pub returns-in_default : goal.returns-in_default
 returns-in_default c =
     let f = joined (as_infix c.args.joint) in
     elim c.in_default.branch [
-      in_default-via-in-Some+in_default w ↦ c.nothing.ensures ∙ sym (none-two f (part c.args.left) (part c.args.right) (ap (option_map inline) w.in_default.is-1))
+      | in_default-via-in-Some+in_default w ↦ c.nothing.ensures ∙ sym (none-two f (part c.args.left) (part c.args.right) (ap (option_map inline) w.in_default.is-1))
       | in_default-via-in_default w ↦ c.nothing.ensures ∙ sym (ap (λ o. cut_two height_limit f (option_map inline o) (part c.args.right)) w.in_default.is-0)
     ]

@@ -12,6 +12,6 @@ use Rattle.ad_parser.proofs.joining.subscript.Goals.{in_default-via-in-Some+in_d
 pub returns-in_default : goal.returns-in_default
 returns-in_default c =
     elim c.in_default.branch [
-      in_default-via-in-Some+in_default w ↦ c.nothing.ensures ∙ sym (none-two (over_two subscript) (part c.args.base) (part c.args.place) (ap (option_map inline) w.in_default.is-1))
+      | in_default-via-in-Some+in_default w ↦ c.nothing.ensures ∙ sym (none-two (over_two subscript) (part c.args.base) (part c.args.place) (ap (option_map inline) w.in_default.is-1))
       | in_default-via-in_default w ↦ c.nothing.ensures ∙ sym (ap (λ o. cut_two height_limit (over_two subscript) (option_map inline o) (part c.args.place)) w.in_default.is-0)
     ]

@@ -32,7 +32,7 @@ returns-in_err-check_counts c =
     let low = ad-low text (map meaning c.deref.result.now) shallow (inner ds) (c.in_ok-list.ensures.ok found refl ∙ ap (λ o. Some (literal_of o)) some) in
     hands_on IsRoot frames_of_ad text (AnswersAd text) (λ fault is. is) c.in_err-check_counts.field-0.0 c.from_residual-in_err-check_counts.result c.from_residual-in_err-check_counts.ensures.0 c.from_residual-in_err-check_counts.ensures.1
     (counted-fault IsRoot frames_of_ad text (inner ds) low.0 low.1 (count_defs ds) (c.tally_definitions.result.frames + 1) c.tally_definitions.result.definitions refl (ap (λ n. n + 1) c.tally_definitions.ensures.frames) c.tally_definitions.ensures.definitions
-      c.in_err-check_counts.field-0.0 c.in_err-check_counts.ensures)
+    c.in_err-check_counts.field-0.0 c.in_err-check_counts.ensures)
 
 pub returns : goal.returns
 returns c =
@@ -43,5 +43,5 @@ returns c =
     let some : found ≡ Some c.in-Some.list = c.in-Some.is in
     let low = ad-low text (map meaning c.deref.result.now) shallow (inner ds) (c.in_ok-list.ensures.ok found refl ∙ ap (λ o. Some (literal_of o)) some) in
     let within = counted-within IsRoot frames_of_ad text (inner ds) low.0 low.1 (count_defs ds) (c.tally_definitions.result.frames + 1) c.tally_definitions.result.definitions refl (ap (λ n. n + 1) c.tally_definitions.ensures.frames) c.tally_definitions.ensures.definitions
-      c.in_ok-check_counts.field-0 c.in_ok-check_counts.ensures in
+    c.in_ok-check_counts.field-0 c.in_ok-check_counts.ensures in
     (inner ds, low.0, within, c.in_ok-convert_ad.ensures)

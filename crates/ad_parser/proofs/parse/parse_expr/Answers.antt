@@ -37,7 +37,7 @@ returns-in_err-check_counts c =
     let low = expr-low text (map meaning c.deref.result.now) shallow x (c.in_ok-node.ensures.ok part refl ∙ ap (λ n. Some (option_map inline n)) some) in
     hands_on IsExpr frames_of_expr text (AnswersExpr text) (λ fault is. is) c.in_err-check_counts.field-0.0 c.from_residual-in_err-check_counts.result c.from_residual-in_err-check_counts.ensures.0 c.from_residual-in_err-check_counts.ensures.1
     (counted-fault IsExpr frames_of_expr text x low.0 low.1 (count x) (c.tally.result.frames + 1) c.tally.result.definitions refl (ap (λ n. n + 1) c.tally.ensures.frames) c.tally.ensures.definitions
-      c.in_err-check_counts.field-0.0 c.in_err-check_counts.ensures)
+    c.in_err-check_counts.field-0.0 c.in_err-check_counts.ensures)
 
 pub returns : goal.returns
 returns c =
@@ -50,5 +50,5 @@ returns c =
     let some : part.node ≡ Some c.in-Some.node = cc in
     let low = expr-low text (map meaning c.deref.result.now) shallow x (c.in_ok-node.ensures.ok part refl ∙ ap (λ n. Some (option_map inline n)) some) in
     let within = counted-within IsExpr frames_of_expr text x low.0 low.1 (count x) (c.tally.result.frames + 1) c.tally.result.definitions refl (ap (λ n. n + 1) c.tally.ensures.frames) c.tally.ensures.definitions
-      c.in_ok-check_counts.field-0 c.in_ok-check_counts.ensures in
+    c.in_ok-check_counts.field-0 c.in_ok-check_counts.ensures in
     (x, low.0, within, c.in_ok-convert_phrase.ensures.0, c.in_ok-convert_phrase.ensures.1)

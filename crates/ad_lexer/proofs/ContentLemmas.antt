@@ -16,14 +16,14 @@ content-skip quote zero text = refl
 content-skip quote (suc skip) [] = refl
 content-skip quote (suc skip) (byte ∷ bytes) = content-skip quote skip bytes
 
-len_by : (n : ℕ) (escape simple : Bool) (second third : ℕ) → 0 < cond escape (cond simple 2 (octal_len second third)) 1
-len_by n true true second third = omega arith
-len_by n true false second third = grind (arith, nat_tests)
-len_by n false simple second third = omega arith
+len_by : (escape simple : Bool) (second third : ℕ) → 0 < cond escape (cond simple 2 (octal_len second third)) 1
+len_by true true second third = omega arith
+len_by true false second third = grind (arith, nat_tests)
+len_by false simple second third = omega arith
 
 pub letter_some : (bytes : List ℕ) → 0 < letter_len bytes
 unfolding letter_len
-letter_some bytes = len_by 0 (eqb (slice_index bytes 0) 92) (is_some (escaped (slice_index bytes 1))) (slice_index bytes 2) (slice_index bytes 3)
+letter_some bytes = len_by (eqb (slice_index bytes 0) 92) (is_some (escaped (slice_index bytes 1))) (slice_index bytes 2) (slice_index bytes 3)
 
 drop_more : (n byte : ℕ) (bytes : List ℕ) → 0 < n → drop (n - 1) bytes ≡ drop n (byte ∷ bytes)
 drop_more zero byte bytes some = absurd (omega arith)

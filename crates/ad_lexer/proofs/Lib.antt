@@ -2,6 +2,7 @@ pub mod AloneLemmas
 pub mod Begins
 pub mod BlankLemmas
 pub mod ContentLemmas
+pub mod DecimalLemmas
 pub mod ItemLemmas
 pub mod LetterLemmas
 pub mod NextLemmas
@@ -9,8 +10,10 @@ pub mod NumberLemmas
 pub mod QuotedLemmas
 mod Reached
 pub mod Runs
+pub mod SliceLemmas
 pub mod Steps
 pub mod SymbolLemmas
+pub mod TextLemmas
 pub mod Texts
 mod Turns
 pub mod Utf8Lemmas

@@ -12,7 +12,7 @@ use Rattle.ad_lexer.specs.declared.fault.LexKind.TheVariants as kinds
 use Rattle.ad_lexer.specs.declared.next.Step.{Step}
 use Rattle.ad_lexer.specs.declared.next.Step.TheVariants as steps
 use Rattle.ad_lexer.specs.declared.token.TokenKind.TheVariants.{Int}
-use Rattle.ad_lexer.specs.Reading.{number, is_decimal_mark}
+use Rattle.ad_lexer.specs.Reading.{number, is_whole, is_decimal_mark}
 use Rattle.ad_lexer.proofs.Runs.{run_reaches, all_weaker}
 
 hexadecimal_digit : (c : ℕ) → is_digit c 16 ≡ true → is_ascii_hexdigit c ≡ true
@@ -106,10 +106,10 @@ number_fits text =
 
 abbrev pub chosen : Bool → Bool → Bool → Bool → ℕ → Step
 chosen hexadecimal mark behind integer len =
-    cond (mark && not hexadecimal) (steps.Fault kinds.Decimal 0) (cond (behind || not integer) (steps.Fault kinds.Number 0) (steps.Token Int len))
+    cond (mark && not hexadecimal) (steps.Fault kinds.Decimal 0) (cond (not behind && integer) (steps.Token Int len) (steps.Fault kinds.Number 0))
 
 pub number_chosen : (text : List ℕ) → number text ≡ chosen (is_hexadecimal text) (is_decimal_mark (behind_number text)) (is_word_byte (behind_number text)) (is_integer (take (number_len text) text)) (number_len text)
-unfolding number
+unfolding number is_whole
 number_chosen text = refl
 
 -- the two faults of a number, from the tests
@@ -133,10 +133,10 @@ bad_number true false false false false len is = refl
 bad_number true false false false true len is = absurd (cc)
 
 pub decimal_met : (text : List ℕ) → is_decimal text ≡ true → number text ≡ steps.Fault kinds.Decimal 0
-decimal_met text is = number_chosen text ∙ bad_decimal (is_ascii_digit (slice_index text 0)) (is_hexadecimal text) (is_decimal_mark (behind_number text)) _ _ _ is
+decimal_met text is = number_chosen text ∙ bad_decimal (is_ascii_digit (slice_index text 0)) (is_hexadecimal text) (is_decimal_mark (behind_number text)) (is_word_byte (behind_number text)) (is_integer (take (number_len text) text)) (number_len text) is
 
 pub number_met : (text : List ℕ) → is_bad_number text ≡ true → number text ≡ steps.Fault kinds.Number 0
-number_met text is = number_chosen text ∙ bad_number (is_ascii_digit (slice_index text 0)) (is_hexadecimal text) (is_decimal_mark (behind_number text)) _ _ _ is
+number_met text is = number_chosen text ∙ bad_number (is_ascii_digit (slice_index text 0)) (is_hexadecimal text) (is_decimal_mark (behind_number text)) (is_word_byte (behind_number text)) (is_integer (take (number_len text) text)) (number_len text) is
 
 -- what a number is read as, by the tests
 abbrev pub Reads : Bool → Bool → Bool → Bool → Bool → ℕ → Step → Type 0
@@ -164,5 +164,5 @@ abbrev pub NumberReads : List ℕ → Step → Type 0
 NumberReads text step = Reads (is_ascii_digit (slice_index text 0)) (is_hexadecimal text) (is_decimal_mark (behind_number text)) (is_word_byte (behind_number text)) (is_integer (take (number_len text) text)) (number_len text) step
 
 pub number_reads : (text : List ℕ) → is_ascii_digit (slice_index text 0) ≡ true → NumberReads text (number text)
-unfolding number
+unfolding number is_whole
 number_reads text is = rw is (reads (is_hexadecimal text) (is_decimal_mark (behind_number text)) (is_word_byte (behind_number text)) (is_integer (take (number_len text) text)) (number_len text))

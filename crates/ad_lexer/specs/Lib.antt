@@ -6,7 +6,9 @@ pub mod Lexeme
 pub mod Numbers
 pub mod Quoted
 pub mod Reading
+pub mod Slices
 pub mod Spelling
 pub mod Symbols
+pub mod Texts
 pub mod Tokens
 pub mod Words

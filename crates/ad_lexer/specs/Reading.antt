@@ -53,12 +53,15 @@ has_value base n (c ∷ cs) = (is_digit c base && nat_lt (n * base + digit_value
 abbrev pub is_decimal_mark : ℕ → Bool
 is_decimal_mark byte = byte == 46 || byte == 101 || byte == 69
 
+-- the first bytes are an integer, with no letter, digit or `_` behind them
+unfoldable pub is_whole : List ℕ → ℕ → Bool
+is_whole text len = not (is_word_byte (slice_index text len)) && is_integer (take len text)
+
 unfoldable pub number : List ℕ → Step
 number text =
-    let behind = slice_index text (number_len text) in
-    if is_decimal_mark behind && not (is_hexadecimal text) then steps.Fault kinds.Decimal 0
-    else (if is_word_byte behind || not (is_integer (take (number_len text) text)) then steps.Fault kinds.Number 0
-    else steps.Token Int (number_len text))
+    if is_decimal_mark (slice_index text (number_len text)) && not (is_hexadecimal text) then steps.Fault kinds.Decimal 0
+    else (if is_whole text (number_len text) then steps.Token Int (number_len text)
+    else steps.Fault kinds.Number 0)
 
 -- ---- symbols
 

@@ -14,6 +14,9 @@ mod tests;
 mod token;
 
 pub use fault::{LexFault, LexKind};
-pub use laws::{integer_fits, one_answer, one_content, one_kind, spelling_stands};
+pub use laws::{
+    decimal_spells, integer_fits, one_answer, one_content, one_kind, quoted_in_utf8,
+    spelling_stands, tokens_are_slices, tokens_mean_texts,
+};
 pub use lexer::lex;
 pub use token::{Token, TokenKind, Tokens};

@@ -3,7 +3,7 @@ ghost use Rattle.std.specs.Prelude.{◌≡◌, ◌<◌, ◌≤◌, length, slice
 ghost use Rattle.ad_lexer.specs.Numbers as numbers;
 ghost use Rattle.ad_lexer.specs.Reading as spec;
 
-use crate::bytes::{Class, behind, byte_at, is_in, run_len};
+use crate::bytes::{Class, behind, byte_at, front, is_in, run_len};
 use crate::fault::LexKind;
 use crate::next::{Begin, Step};
 use crate::token::TokenKind;
@@ -40,13 +40,20 @@ pub fn number(text: &[u8]) -> Step
     let is_mark = next == b'.' || next == b'e' || next == b'E';
     if is_mark && !is_hexadecimal(text) {
         Step::Fault(LexKind::Decimal, 0)
-    } else if is_in(Class::Word, next) {
-        Step::Fault(LexKind::Number, 0)
-    } else if !is_integer(&text[..len]) {
-        Step::Fault(LexKind::Number, 0)
-    } else {
+    } else if is_whole(text, len) {
         Step::Token(TokenKind::Int, len)
+    } else {
+        Step::Fault(LexKind::Number, 0)
     }
+}
+
+/// Whether the first `len` bytes are an integer with no letter, digit or `_` behind it.
+#[tactic(auto, unfolding(crate::specs::Reading::is_whole))]
+fn is_whole(text: &[u8], len: usize) -> bool
+    requires { len ≤ length text.now }
+    ensures { result ≡ spec.is_whole text.now len }
+{
+    !is_in(Class::Word, byte_at(text, len)) && is_integer(front(text, len))
 }
 
 fn is_integer(number: &[u8]) -> bool

@@ -1,11 +1,11 @@
 -- Laws of ads: where cited frames stand, that numbering makes ads, and that an ad is opened level by level.
-use Rattle.std.proofs.Common.{refl, arith, ◌≡◌, ◌≤◌, ◌<◌, ℕ, zero, suc, ◌+◌, List, [], ◌∷◌, ◌++◌, length, map, Bool, true, false, ◌&&◌, ap, sym, ◌∙◌, subst, Option, None, Some, option_map, slice_get, Contains, IsTrue, inl, inr, ◌⊎◌}
-use Rattle.std.proofs.lemmas.List.Elements.{Contains-append_left, Contains-append_right, Contains-append_cases}
+use Rattle.std.proofs.Common.{refl, arith, ◌≡◌, ◌≤◌, ◌<◌, ℕ, zero, suc, ◌+◌, List, [], ◌∷◌, ◌++◌, length, true, ap, sym, ◌∙◌, subst, Option, None, Some, option_map, slice_get, Contains, IsTrue}
+use Rattle.std.proofs.lemmas.List.Elements.{Contains-append_left, Contains-append_right}
 use Rattle.std.proofs.lemmas.Option.{slice_get_within, slice_get_past}
-use Rattle.ad_tree.specs.Tree.{Label, Tree, node, frame, Trees, none, more, cited, cited_all}
-use Rattle.ad_tree.specs.Names.{same_name, are_apart}
+use Rattle.ad_tree.specs.Tree.{Tree, node, frame, Trees, none, more, cited, cited_all}
+use Rattle.ad_tree.specs.Names.{are_apart}
 use Rattle.ad_tree.specs.Frames.{Frame, empty_frame, attributes_at, attributes_in, names_of, names_in, cited_in, parent_of, IsAd}
-use Rattle.ad_tree.specs.Inline.{Inline, shape, inner, Inlines, end, next, Defs, no_defs, def, count, count_all, count_defs, number, number_all, attributes_from, frames, frames_all, frames_in, inlined, inlined_all, defs_of, inside, opened, spelled, spelled_tree, is_apart, all_apart, defs_apart, def_names}
+use Rattle.ad_tree.specs.Inline.{Inline, shape, inner, Inlines, end, next, Defs, no_defs, def, count, number, number_all, attributes_from, frames, frames_all, frames_in, inlined, inlined_all, defs_of, inside, spelled_tree, is_apart, all_apart, defs_apart}
 use Rattle.ad_tree.proofs.NameLemmas.{both_left, both_right, both}
 use Rattle.ad_tree.proofs.InlineLemmas.{length-frames, names-attributes_from, names-defs_of, inlined-apart, defs_of-apart}
 use Rattle.ad_tree.proofs.SpellingLemmas.{Stand, Stand-left, Stand-right, Stand-behind, as_it_is, map-as_it_is}

@@ -1,11 +1,11 @@
 -- Laws of attributes: defining them in turn, and names that stay apart.
-use Rattle.std.proofs.Common.{refl, ◌≡◌, ℕ, List, [], ◌∷◌, ◌++◌, map, Bool, true, false, not, ◌&&◌, ◌||◌, ap, sym, ◌∙◌, cond, append_assoc}
+use Rattle.std.proofs.Common.{refl, ◌≡◌, ℕ, List, [], ◌∷◌, ◌++◌, Bool, true, false, not, ◌||◌, ap, sym, ◌∙◌, cond, append_assoc}
 use Rattle.std.proofs.lemmas.List.{append-nil}
 use Rattle.ad_tree.specs.Tree.{Tree}
 use Rattle.ad_tree.specs.Names.{same_name, has_name, are_apart}
-use Rattle.ad_tree.specs.Frames.{Frame, put_attribute, put_all, names_of, settled_frame}
+use Rattle.ad_tree.specs.Frames.{put_attribute, put_all, names_of}
 use Rattle.ad_tree.specs.Inline.{Inline, Defs, no_defs, def, put, def_names}
-use Rattle.ad_tree.proofs.NameLemmas.{both_left, both_right, both, not_true, neither_left, neither_right, neither, same_name-along, same_name-along_left}
+use Rattle.ad_tree.proofs.NameLemmas.{both_left, both_right, both, not_true, neither_left, neither_right, neither, same_name-along}
 
 -- names after one is defined
 abbrev pub put_name : List ℕ → List (List ℕ) → List (List ℕ)

@@ -1,5 +1,5 @@
 -- The frames of a draft: the root, and those behind it.
-use Rattle.std.proofs.Common.{refl, arith, ◌≡◌, ◌≤◌, ◌<◌, ◌-◌, ℕ, zero, suc, ◌+◌, List, [], ◌∷◌, ◌++◌, length, map, get_or, ap, sym, ◌∙◌, subst, Option, None, Some, option_map, slice_get, slice_set, Result, Ok, Err, OnOk, OnErr}
+use Rattle.std.proofs.Common.{refl, arith, ◌≡◌, ◌≤◌, ◌<◌, ◌-◌, ℕ, zero, suc, List, [], ◌∷◌, ◌++◌, length, get_or, ap, sym, ◌∙◌, None, Some, option_map, slice_get, slice_set, Result, Ok, Err, OnOk, OnErr}
 use Rattle.std.proofs.lemmas.List.{length-map, map-append}
 use Rattle.std.proofs.lemmas.Option.{slice_get_read, slice_get_past, slice_get-map}
 use Rattle.ad_tree.specs.declared.frame.AdFrame.{AdFrame}

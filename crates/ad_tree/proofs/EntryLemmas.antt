@@ -1,5 +1,5 @@
 -- A frame's entries and its attributes: what the map does under the folded names is done under the names.
-use Rattle.std.proofs.Common.{refl, arith, ◌≡◌, ◌≤◌, ◌<◌, ℕ, zero, suc, ◌+◌, List, [], ◌∷◌, ◌++◌, length, map, take, drop, get_or, Bool, true, false, not, cond, ap, sym, ◌∙◌, subst, Option, None, Some, position, nat_lt, nat_eq, slice_get, slice_set, option_map, Vec, Result, Ok, Err, OnOk, OnErr, IsTrue, inl, inr, ◌⊎◌}
+use Rattle.std.proofs.Common.{refl, arith, ◌≡◌, ◌≤◌, ◌<◌, ℕ, zero, suc, ◌+◌, List, [], ◌∷◌, ◌++◌, length, map, take, drop, get_or, Bool, true, false, not, cond, ap, sym, ◌∙◌, None, Some, position, nat_lt, nat_eq, slice_get, slice_set, Vec, Result, Ok, Err, OnOk, OnErr, IsTrue, inl, inr, ◌⊎◌}
 use Rattle.std.specs.Cmp.Lexicographic.{pointwise}
 use Rattle.std.specs.List.{prefix_len}
 use Rattle.std.specs.Char.{to_ascii_lowercase}
@@ -7,17 +7,15 @@ use Rattle.std.specs.Map.{keys_of}
 use Rattle.std.specs.declared.alloc.Global.{Global}
 use Rattle.std.proofs.lemmas.Bool.Decides.{Decides-eqb}
 use Rattle.std.proofs.lemmas.Slice.Eq.{slice_eq-Decides}
-use Rattle.std.proofs.lemmas.List.{length-map}
 use Rattle.indexmap.specs.IndexMap.{insert_entry}
 use Rattle.pool_text.specs.Folding.{folded}
 use Rattle.ad_tree.specs.declared.frame.Attribute.{Attribute}
 use Rattle.ad_tree.specs.declared.frame.AdFrame.{AdFrame}
-use Rattle.ad_tree.specs.Tree.{Tree, tree}
+use Rattle.ad_tree.specs.Tree.{tree}
 use Rattle.ad_tree.specs.Names.{same_name, are_apart}
-use Rattle.ad_tree.specs.Frames.{put_attribute, names_of, attributes_in, names_in}
+use Rattle.ad_tree.specs.Frames.{put_attribute, names_of, names_in}
 use Rattle.ad_tree.specs.Entries.{attribute_of, attributes_of, keys_fold_names}
-use Rattle.ad_tree.specs.Table.{frame_of, frames_of}
-use Rattle.ad_tree.proofs.AttributeLemmas.{apart-put_attribute}
+use Rattle.ad_tree.specs.Table.{frames_of}
 
 abbrev Entry : Type 0
 Entry = Vec ℕ Global × Attribute

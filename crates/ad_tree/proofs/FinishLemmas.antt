@@ -1,10 +1,10 @@
 -- What a finished draft is: its spelled tree in the numbering of the opening brackets.
-use Rattle.std.proofs.Common.{refl, ◌≡◌, ℕ, zero, suc, List, [], ◌∷◌, ◌++◌, length, map, ap, sym, ◌∙◌, subst, IsTrue, Result, Ok, Err, IfOk}
+use Rattle.std.proofs.Common.{◌≡◌, ℕ, zero, suc, List, [], ◌∷◌, ◌++◌, length, map, ap, sym, ◌∙◌, subst, IsTrue, Result, Ok, Err, IfOk}
 use Rattle.ad_tree.specs.declared.frame.AdFrame.{AdFrame}
 use Rattle.ad_tree.specs.Tree.{Tree}
 use Rattle.ad_tree.specs.Names.{are_apart}
 use Rattle.ad_tree.specs.Frames.{Frame, empty_frame, names_in, settled_frame, IsAd}
-use Rattle.ad_tree.specs.Inline.{Inline, inner, frames, number, inlined, inside, opened, spelled, spelled_tree}
+use Rattle.ad_tree.specs.Inline.{frames, number, inlined, inside, opened, spelled, spelled_tree}
 use Rattle.ad_tree.specs.Placed.{IsPlaced}
 use Rattle.ad_tree.specs.Table.{frame_of, frames_of}
 use Rattle.ad_tree.proofs.AdLemmas.{IsAd-frames, IsAd-phrase, inside-apart, spelled_tree-apart}

@@ -1,11 +1,10 @@
 -- Laws of spelled trees: how many frames they open, one tree more at the end, and repeated names.
-use Rattle.std.proofs.Common.{refl, arith, ◌≡◌, ◌≤◌, ℕ, zero, suc, ◌+◌, List, [], ◌∷◌, ◌++◌, length, map, Bool, true, false, ◌&&◌, ap, sym, ◌∙◌, cond, length-append, append_assoc}
+use Rattle.std.proofs.Common.{refl, arith, ◌≡◌, ℕ, suc, ◌+◌, List, [], ◌∷◌, ◌++◌, length, true, ap, sym, ◌∙◌, length-append, append_assoc}
 use Rattle.std.proofs.lemmas.List.{append-nil}
-use Rattle.ad_tree.specs.Tree.{Label, Tree, node, frame, Trees, none, more, pack}
-use Rattle.ad_tree.specs.Names.{same_name, has_name, are_apart}
-use Rattle.ad_tree.specs.Frames.{Frame, names_of}
-use Rattle.ad_tree.specs.Inline.{Inline, shape, inner, Inlines, end, next, Defs, no_defs, def, count, count_all, count_defs, number, number_all, attributes_from, frames, frames_all, frames_in, inlined, inlined_all, defs_of, put, settled, settled_all, settled_defs, def_names, is_apart, all_apart, defs_apart}
-use Rattle.ad_tree.proofs.NameLemmas.{both_left, both_right, both, not_true, neither_left, neither_right, neither, has_name-append}
+use Rattle.ad_tree.specs.Tree.{Tree, node, frame, Trees, none, more, pack}
+use Rattle.ad_tree.specs.Frames.{names_of}
+use Rattle.ad_tree.specs.Inline.{Inline, shape, inner, Inlines, end, next, Defs, no_defs, def, count, count_all, count_defs, number, number_all, attributes_from, frames, frames_all, frames_in, inlined, inlined_all, defs_of, def_names, is_apart, all_apart, defs_apart}
+use Rattle.ad_tree.proofs.NameLemmas.{both}
 
 -- a tree opens one frame for each of its ad literals
 mutual

@@ -1,6 +1,6 @@
 -- The measure of the walk over a draft: levels of frames first, then the tree.
-use Rattle.std.proofs.Common.{refl, arith, ◌≡◌, ◌≤◌, ◌<◌, ◌*◌, ◌-◌, ℕ, zero, suc, ◌+◌, List, [], ◌∷◌, Option, Some, None, slice_get, sym, ap, ◌∙◌}
-use Rattle.ad_tree.specs.Tree.{Tree, Trees, size, size_all}
+use Rattle.std.proofs.Common.{arith, ◌≡◌, ◌≤◌, ◌<◌, ◌*◌, ◌-◌, ℕ, zero, suc, ◌+◌, List, [], ◌∷◌, Some, slice_get, ap}
+use Rattle.ad_tree.specs.Tree.{Tree, size}
 use Rattle.ad_tree.specs.Frames.{Frame}
 
 -- the sizes of all expressions of a frame, and of a list of frames

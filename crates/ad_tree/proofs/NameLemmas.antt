@@ -1,9 +1,9 @@
 -- Laws of names that are apart.
-use Rattle.std.proofs.Common.{refl, ◌≡◌, ℕ, List, [], ◌∷◌, ◌++◌, map, Bool, true, false, not, ◌&&◌, ◌||◌, bytes_eq, ap, sym, ◌∙◌, subst}
+use Rattle.std.proofs.Common.{refl, ◌≡◌, ℕ, List, [], ◌∷◌, ◌++◌, Bool, true, false, not, ◌&&◌, ◌||◌, bytes_eq, ap}
 use Rattle.std.proofs.lemmas.Bool.Decides.{Decides-eqb}
 use Rattle.std.proofs.lemmas.Slice.Eq.{slice_eq-Decides}
 use Rattle.pool_text.specs.Folding.{folded}
-use Rattle.ad_tree.specs.Names.{same_name, has_name, are_apart}
+use Rattle.ad_tree.specs.Names.{same_name, has_name}
 
 -- both parts of a test that holds
 pub both_left : (a b : Bool) → (a && b) ≡ true → a ≡ true

@@ -1,9 +1,9 @@
 -- How copies of parts make up the copy of a whole, for whatever walks over a tree and fills an ad.
-use Rattle.std.proofs.Common.{refl, arith, ◌≡◌, ℕ, zero, suc, ◌+◌, List, [], ◌∷◌, ◌++◌, length, map, ap, sym, ◌∙◌, length-append, append_assoc, slice_set}
+use Rattle.std.proofs.Common.{refl, arith, ◌≡◌, ℕ, suc, ◌+◌, List, [], ◌∷◌, ◌++◌, length, map, ap, sym, ◌∙◌, length-append, append_assoc, slice_set}
 use Rattle.std.proofs.lemmas.List.{append-nil, map-append, length-map}
 use Rattle.ad_tree.specs.Tree.{Label, Tree, node, frame, Trees, none, more}
 use Rattle.ad_tree.specs.Frames.{Frame, empty_frame, defined_in, defined, put_attribute, put_all, settled_frame}
-use Rattle.ad_tree.specs.Inline.{Inline, shape, inner, Inlines, end, next, Defs, no_defs, def, count, count_all, count_defs, number, number_all, attributes_from, frames, frames_all, frames_in}
+use Rattle.ad_tree.specs.Inline.{Inline, shape, inner, Inlines, end, next, Defs, no_defs, count, count_all, count_defs, number, number_all, attributes_from, frames, frames_all, frames_in}
 use Rattle.ad_tree.specs.Placed.{IsPlaced, AreAllPlaced, AreDefinitionsPlaced, HasDefined}
 use Rattle.ad_tree.proofs.AttributeLemmas.{put_all-push}
 use Rattle.ad_tree.proofs.InlineLemmas.{length-frames, length-frames_all, length-frames_in, more_last, next_last, def_last, number_all-last, attributes_from-last, frames_all-last, frames_in-last}

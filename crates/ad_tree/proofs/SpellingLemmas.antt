@@ -1,14 +1,13 @@
 -- Frames and spelled trees are two views of one thing: what is numbered is spelled back.
-use Rattle.std.proofs.Common.{refl, arith, ◌≡◌, ◌≤◌, ◌<◌, ℕ, zero, suc, ◌+◌, List, [], ◌∷◌, ◌++◌, length, map, Bool, true, false, ◌&&◌, ap, sym, ◌∙◌, subst, cond, append_assoc, length-append, Option, None, Some, slice_get, Contains}
+use Rattle.std.proofs.Common.{refl, arith, ◌≡◌, ◌≤◌, ℕ, zero, suc, ◌+◌, List, [], ◌∷◌, ◌++◌, length, map, Bool, true, false, ap, sym, ◌∙◌, subst, cond, append_assoc, length-append, Some, slice_get}
 use Rattle.std.proofs.lemmas.List.{length-map, map-append}
-use Rattle.std.proofs.lemmas.List.Elements.{Contains-append_left, Contains-append_right}
-use Rattle.ad_tree.specs.Tree.{Label, Tree, node, frame, Trees, none, more, cited, cited_all}
+use Rattle.ad_tree.specs.Tree.{Tree}
 use Rattle.ad_tree.specs.Names.{same_name, are_apart}
-use Rattle.ad_tree.specs.Frames.{Frame, empty_frame, attributes_at, attributes_in, put_attribute, put_all, settled_frame, names_of, names_in, cited_in, parent_of, IsAd}
-use Rattle.ad_tree.specs.Inline.{Inline, shape, inner, Inlines, end, next, Defs, no_defs, def, count, count_all, count_defs, number, number_all, attributes_from, frames, frames_all, frames_in, inlined, inlined_all, defs_of, inside, opened, spelled, spelled_tree, put, settled, settled_all, settled_defs, ad_of, phrase_of, phrase_tree, literals, literals_all, literals_in, is_apart, all_apart, defs_apart, def_names}
+use Rattle.ad_tree.specs.Frames.{Frame, empty_frame, attributes_in, put_attribute, put_all, settled_frame}
+use Rattle.ad_tree.specs.Inline.{Inline, shape, inner, Inlines, end, next, Defs, no_defs, def, count, count_all, count_defs, number, number_all, attributes_from, frames, frames_all, frames_in, inlined, inlined_all, defs_of, inside, spelled, spelled_tree, put, settled, settled_all, settled_defs, ad_of, phrase_of, phrase_tree, literals, literals_all, literals_in, is_apart, all_apart, defs_apart, def_names}
 use Rattle.ad_tree.proofs.NameLemmas.{both_left, both_right, both}
 use Rattle.ad_tree.proofs.AttributeLemmas.{names-put, apart-put_name, put_all-apart}
-use Rattle.ad_tree.proofs.InlineLemmas.{length-frames, length-frames_all, length-frames_in, names-attributes_from}
+use Rattle.ad_tree.proofs.InlineLemmas.{length-frames, names-attributes_from}
 
 -- frames, each changed by h, stand in a list from place b on
 abbrev pub Stand : (Frame → Frame) → List Frame → ℕ → List Frame → Type 0

@@ -1,5 +1,5 @@
 -- Laws of plain trees: lists item by item, and sizes, by which recursions over trees end.
-use Rattle.std.proofs.Common.{refl, arith, ◌≡◌, ◌≤◌, ◌<◌, ℕ, zero, suc, ◌+◌, max, List, [], ◌∷◌, map, Option, Some, None, slice_get, ap, sym, ◌∙◌}
+use Rattle.std.proofs.Common.{arith, ◌≡◌, ◌≤◌, ◌<◌, ℕ, zero, suc, ◌+◌, List, [], ◌∷◌, drop, map, Some, slice_get, ap, sym, ◌∙◌}
 use Rattle.std.specs.declared.boxed.Box.{Box}
 use Rattle.std.specs.declared.alloc.Global.{Global}
 use Rattle.pool_text.specs.declared.language.Lit.{Lit}
@@ -9,7 +9,7 @@ use Rattle.ad_tree.specs.declared.tree.Expr.{Expr, fold-roll-Expr}
 use Rattle.ad_tree.specs.declared.tree.Expr.TheVariants as expr
 use Rattle.ad_tree.specs.declared.tree.Scope.{Scope}
 use Rattle.ad_tree.specs.declared.tree.Exprs.{Exprs, fold_out-Exprs}
-use Rattle.ad_tree.specs.Tree.{literal, name, unary, binary, all, any, choice, select, subscript, call, list, one, two, three, Tree, node, frame, Trees, none, more, tree, trees, layer, pack, size, size_all, height_of, highest_of}
+use Rattle.ad_tree.specs.Tree.{literal, name, unary, binary, all, any, choice, select, subscript, call, list, one, two, three, Tree, node, frame, none, more, tree, trees, layer, pack, size, size_all, height_of, highest_of}
 
 -- a list of expressions is seen item by item
 pub trees-items : (l : Exprs) → trees l ≡ map tree l.items.items
@@ -31,6 +31,18 @@ pub height_of-at : (ts : List Tree) (k : ℕ) (t : Tree) → slice_get ts k ≡ 
 height_of-at [] k t e = absurd (cc)
 height_of-at (u ∷ us) zero t e = let same : u ≡ t = cc in omega (arith, ap height_of same)
 height_of-at (u ∷ us) (suc k) t e = omega (arith, height_of-at us k t e)
+
+-- the trees of a list from a place on, as a loop over the list reads them
+pub pack-drop : (ts : List Tree) (k : ℕ) (t : Tree) → slice_get ts k ≡ Some t → pack (drop k ts) ≡ more t (pack (drop (k + 1) ts))
+pack-drop ts k t h = by ts k h ∙ ap (λ n. more t (pack (drop n ts))) one_more
+  where
+    one_more : suc k ≡ k + 1
+    one_more = omega arith
+
+    by : (us : List Tree) (j : ℕ) → slice_get us j ≡ Some t → pack (drop j us) ≡ more t (pack (drop (suc j) us))
+    by [] j e = absurd (cc)
+    by (u ∷ us) zero e = let same : u ≡ t = cc in ap (λ v. more v (pack us)) same
+    by (u ∷ us) (suc j) e = by us j e
 
 -- ---- the plain tree of each kind of expression ----
 

@@ -1,10 +1,10 @@
 -- The steps of the walk that copies a draft into an ad.
-use Rattle.std.proofs.Common.{refl, arith, ◌≡◌, ◌-◌, ℕ, zero, suc, ◌+◌, List, [], ◌∷◌, ◌++◌, length, take, ap, sym, ◌∙◌, subst, Option, None, Some, slice_get, slice_set, add-one}
+use Rattle.std.proofs.Common.{refl, arith, ◌≡◌, ◌-◌, ℕ, zero, suc, ◌+◌, List, [], ◌∷◌, ◌++◌, length, take, ap, sym, ◌∙◌, subst, None, Some, slice_get, slice_set, add-one}
 use Rattle.ad_tree.specs.Tree.{Tree, frame, pack}
-use Rattle.ad_tree.specs.Frames.{Frame, empty_frame, attributes_at, attributes_in, defined_in}
-use Rattle.ad_tree.specs.Inline.{Inline, inner, Defs, no_defs, inlined, inlined_all, defs_of, inside, opened}
+use Rattle.ad_tree.specs.Frames.{Frame, empty_frame, attributes_in, defined_in}
+use Rattle.ad_tree.specs.Inline.{inner, Defs, no_defs, inlined, inlined_all, defs_of, inside, opened}
 use Rattle.ad_tree.specs.Placed.{IsPlaced, AreAllPlaced, AreDefinitionsPlaced}
-use Rattle.ad_tree.proofs.InlineLemmas.{more_last, next_last, def_last, pack-push, inlined_all-last, defs_of-push}
+use Rattle.ad_tree.proofs.InlineLemmas.{next_last, def_last, pack-push, inlined_all-last, defs_of-push}
 use Rattle.ad_tree.proofs.PlacedLemmas.{last-placed, def-placed, empty-placed, frame-placed}
 
 -- one item more from the front

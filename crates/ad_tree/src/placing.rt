@@ -1,9 +1,8 @@
 // A draft's expressions are copied into an ad, whose frames are numbered as the copy meets them: in the order of their
 // opening brackets. `turns` bounds the descent through frames; a draft's number of frames is enough of them.
 ghost use Rattle.std.specs.Prelude.{◌≡◌, IfOk};
-ghost use Rattle.ad_tree.specs.Tree.{tree, trees, frame as frame_numbered, pack, none, more};
-ghost use Rattle.ad_tree.specs.Inline.{inside, inlined, inlined_all, opened, end, next, defs_of};
-ghost use Rattle.ad_tree.specs.Frames.{attributes_at};
+ghost use Rattle.ad_tree.specs.Tree.{tree, trees, frame as frame_numbered, pack, two, three};
+ghost use Rattle.ad_tree.specs.Inline.{inside, inlined, inlined_all, opened, defs_of};
 ghost use Rattle.ad_tree.specs.Placed.{IsPlaced, AreAllPlaced, AreDefinitionsPlaced};
 ghost use Rattle.ad_tree.specs.Table.{frame_of, frames_of};
 ghost use Rattle.ad_tree.specs.Draft.{draft_frames};
@@ -87,8 +86,8 @@ fn place_two(
     out: &mut Vec<AdFrame>,
 ) -> Result<(Box<Expr>, Box<Expr>), OutOfMemory>
     ensures { IfOk result (λ copies. AreAllPlaced parent
-        (inlined_all (inside (draft_frames draft.now) turns) (more (tree a.now) (more (tree b.now) none)))
-        (more (tree copies.0.value) (more (tree copies.1.value) none))
+        (inlined_all (inside (draft_frames draft.now) turns) (two (tree a.now) (tree b.now)))
+        (two (tree copies.0.value) (tree copies.1.value))
         (frames_of out.old.items) (frames_of out.new.items)) }
 {
     let a = place_boxed(alloc, draft, turns, parent, a, out)?;
@@ -107,8 +106,8 @@ fn place_three(
 ) -> Result<(Box<Expr>, Box<Expr>, Box<Expr>), OutOfMemory>
     ensures { IfOk result (λ copies. AreAllPlaced parent
         (inlined_all (inside (draft_frames draft.now) turns)
-        (more (tree exprs.entry.0.now) (more (tree exprs.entry.1.now) (more (tree exprs.entry.2.now) none))))
-        (more (tree copies.0.value) (more (tree copies.1.value) (more (tree copies.2.value) none)))
+        (three (tree exprs.entry.0.now) (tree exprs.entry.1.now) (tree exprs.entry.2.now)))
+        (three (tree copies.0.value) (tree copies.1.value) (tree copies.2.value))
         (frames_of out.old.items) (frames_of out.new.items)) }
 {
     let (a, b, c) = exprs;

@@ -1,5 +1,5 @@
 // A sink that keeps its bytes in memory, for tests and for library users.
-ghost use Rattle.std.specs.Prelude.{◌≡◌, ◌≤◌, ◌↔◌, ◌⊎◌, [], length, ◌<◌, IfOk, IsErr, IsTrue};
+ghost use Rattle.std.specs.Prelude.{◌≡◌, ◌≤◌, ◌<◌, ◌-◌, ◌↔◌, ◌⊎◌, [], length, min, IfOk, IsErr, IsTrue, OnOk, OnErr};
 ghost use Rattle.pool_io.specs.Flow.{Writes};
 ghost use Rattle.pool_io.specs.Memory.{intake_of, is_listed, next_count};
 
@@ -75,7 +75,10 @@ impl Sink for MemorySink {
         requires { 0 < length piece.now }
         ensures writes { Writes (intake_of self.old) (intake_of self.new) result piece.now }
         ensures exactly { IsErr result ↔ (IsTrue (is_listed self.old.failing self.old.calls) ⊎ (length self.old.taken ≡ self.old.room)) }
+        ensures amount { IfOk result (λ n. n ≡ min (min (length piece.now) self.old.most) (self.old.room - length self.old.taken)) }
         ensures counted { self.new.calls ≡ next_count self.old.calls }
+        ensures kept { OnOk result (self.new.faults ≡ self.old.faults) }
+        ensures failed { OnErr result (self.new.faults ≡ next_count self.old.faults) }
         ensures same { (self.new.most ≡ self.old.most) × (self.new.room ≡ self.old.room) × (self.new.failing ≡ self.old.failing) }
     {
         let fails = is_listed(&self.failing, self.calls);

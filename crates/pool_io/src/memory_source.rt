@@ -1,5 +1,5 @@
 // A source over a text in memory, for tests and for library users.
-ghost use Rattle.std.specs.Prelude.{◌≡◌, ◌≤◌, ◌↔◌, ◌∷◌, [], length, IsTrue, IsErr};
+ghost use Rattle.std.specs.Prelude.{◌≡◌, ◌≤◌, ◌↔◌, ◌∷◌, [], length, min, IsTrue, IsErr, IfOk, OnOk, OnErr};
 ghost use Rattle.pool_io.specs.Flow.{Reads};
 ghost use Rattle.pool_io.specs.Memory.{supply_of, is_listed, next_count};
 
@@ -71,7 +71,10 @@ impl Source for MemorySource {
     fn read(&mut self, buf: &mut [u8]) -> Result<usize, Failed>
         ensures reads { Reads (supply_of self.old) (supply_of self.new) result buf.new }
         ensures exactly { IsErr result ↔ IsTrue (is_listed self.old.failing self.old.calls) }
+        ensures amount { IfOk result (λ n. n ≡ min (min (length self.old.left) self.old.most) (length buf.old)) }
         ensures counted { self.new.calls ≡ next_count self.old.calls }
+        ensures kept { OnOk result (self.new.faults ≡ self.old.faults) }
+        ensures failed { OnErr result (self.new.faults ≡ next_count self.old.faults) }
         ensures same { (self.new.most ≡ self.old.most) × (self.new.failing ≡ self.old.failing) }
     {
         let fails = is_listed(&self.failing, self.calls);

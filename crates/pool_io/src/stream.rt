@@ -1,6 +1,7 @@
 // std's readers and writers as sources and sinks. They are a trusted edge: what a device does is not proved.
-ghost use Rattle.std.specs.Prelude.{◌≡◌, false};
-ghost use Rattle.pool_io.specs.Flow.{Supply, Intake};
+ghost use Rattle.std.specs.Prelude.{◌≡◌, ◌<◌, false, length, OnOk, OnErr};
+ghost use Rattle.pool_io.specs.Flow.{Supply, Intake, Reads, Writes};
+ghost use Rattle.pool_io.specs.Memory.{next_count};
 
 use crate::{Failed, Sink, Source};
 use std::io::{Read, Write};
@@ -34,7 +35,11 @@ impl<R: Read> StdSource<R> {
 impl<R: Read> Source for StdSource<R> {
     ghost shows = { λ s. s };
 
-    fn read(&mut self, buf: &mut [u8]) -> Result<usize, Failed> {
+    fn read(&mut self, buf: &mut [u8]) -> Result<usize, Failed>
+        ensures reads { Reads self.old self.new result buf.new }
+        ensures kept { OnOk result (self.new.faults ≡ self.old.faults) }
+        ensures failed { OnErr result (self.new.faults ≡ next_count self.old.faults) }
+    {
         match self.reader.read(buf) {
             Ok(count) => Ok(count),
             Err(_) => {
@@ -72,7 +77,12 @@ impl<W: Write> StdSink<W> {
 impl<W: Write> Sink for StdSink<W> {
     ghost shows = { λ s. s };
 
-    fn write(&mut self, piece: &[u8]) -> Result<usize, Failed> {
+    fn write(&mut self, piece: &[u8]) -> Result<usize, Failed>
+        requires { 0 < length piece.now }
+        ensures writes { Writes self.old self.new result piece.now }
+        ensures kept { OnOk result (self.new.faults ≡ self.old.faults) }
+        ensures failed { OnErr result (self.new.faults ≡ next_count self.old.faults) }
+    {
         match self.writer.write(piece) {
             Ok(count) if count > 0 => Ok(count),
             _ => {

@@ -1,4 +1,4 @@
-use Rattle.std.proofs.Common.{◌∙◌, ◌≡◌, ◌<◌, ◌+◌, suc, ap, sym, arith, length, take, drop, get_or, ◌++◌, slice_set, add-one}
+use Rattle.std.proofs.Common.{◌∙◌, ap, sym, arith, take, drop, get_or, ◌++◌, slice_set, add-one}
 use Rattle.std.specs.Char.{to_ascii_lowercase}
 use Rattle.pool_text.specs.Folding.{folded}
 use Rattle.ad_tree.proofs.EntryLemmas.{folded-step}

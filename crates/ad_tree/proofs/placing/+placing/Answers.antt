@@ -1,12 +1,12 @@
-use Rattle.std.proofs.Common.{arith, ◌≡◌, ◌<◌, ◌≤◌, ◌+◌, ◌∙◌, ap, sym, refl, length, Some, slice_get}
+use Rattle.std.proofs.Common.{arith, ◌∙◌, ap, sym}
 use Rattle.std.proofs.lemmas.List.{length-map}
 use Rattle.ad_tree.specs.Tree.{tree, trees}
 use Rattle.ad_tree.specs.Frames.{empty_frame, defined_in}
 use Rattle.ad_tree.specs.Inline.{inside}
-use Rattle.ad_tree.specs.Table.{frame_of, frames_of}
+use Rattle.ad_tree.specs.Table.{frame_of}
 use Rattle.ad_tree.specs.Draft.{draft_frames}
 use Rattle.ad_tree.proofs.DraftLemmas.{frames_of-push, frames_of-set}
-use Rattle.ad_tree.proofs.Measures.{levels, weight, attributes_size-at, weight-at, levels-down}
+use Rattle.ad_tree.proofs.Measures.{attributes_size-at, weight-at, levels-down}
 use Rattle.ad_tree.proofs.PlacedLemmas.{next-placed, one-placed, length-defs_placed}
 use Rattle.ad_tree.proofs.TreeLemmas.{size-at}
 use Rattle.ad_tree.proofs.WalkLemmas.{list-placed, defs-placed, missing-placed, frame_opened}

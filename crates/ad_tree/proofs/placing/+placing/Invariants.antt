@@ -1,4 +1,4 @@
-use Rattle.std.proofs.Common.{ℕ, ◌+◌, ◌*◌, take}
+use Rattle.std.proofs.Common.{◌+◌, ◌*◌, take}
 use Rattle.ad_tree.specs.Tree.{tree, trees, pack, size, size_all}
 use Rattle.ad_tree.specs.Inline.{inside, inlined_all, defs_of}
 use Rattle.ad_tree.specs.Placed.{AreAllPlaced, AreDefinitionsPlaced}

@@ -1,4 +1,4 @@
-use Rattle.std.proofs.Common.{arith, sym}
+use Rattle.std.proofs.Common.{sym}
 use Rattle.ad_tree.proofs.DraftLemmas.{parent-read}
 use Rattle.ad_tree.proofs.ad.Ad.parent.Goals as goal
 

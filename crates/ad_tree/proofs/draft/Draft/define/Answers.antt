@@ -1,4 +1,4 @@
-use Rattle.std.proofs.Common.{arith, ◌≡◌, ◌<◌, ◌-◌, length}
+use Rattle.std.proofs.Common.{arith, ◌<◌, ◌-◌, length}
 use Rattle.std.proofs.lemmas.List.{length-map}
 use Rattle.ad_tree.specs.Tree.{tree}
 use Rattle.ad_tree.specs.Table.{frame_of}

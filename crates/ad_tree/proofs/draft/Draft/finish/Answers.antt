@@ -1,10 +1,6 @@
-use Rattle.std.proofs.Common.{◌∙◌, ap, ◌≡◌, [], IsTrue, ℕ}
-use Rattle.ad_tree.specs.Names.{are_apart}
-use Rattle.ad_tree.specs.Frames.{names_in}
-use Rattle.ad_tree.specs.Ad.{ad_frames}
+use Rattle.std.proofs.Common.{◌∙◌, ap}
 use Rattle.ad_tree.specs.Draft.{draft_frames}
 use Rattle.ad_tree.specs.Table.{frames_of}
-use Rattle.ad_tree.specs.Inline.{frames, spelled}
 use Rattle.ad_tree.proofs.FinishLemmas.{apart-draft, finished, finished_is_ad, if_ok}
 use Rattle.ad_tree.proofs.draft.Draft.finish.Goals as goal
 

@@ -1,10 +1,10 @@
-use Rattle.std.proofs.Common.{◌∙◌, ap, ◌≡◌, ◌∷◌, ◌++◌, []}
+use Rattle.std.proofs.Common.{◌∙◌, ap, ◌∷◌, ◌++◌, []}
 use Rattle.ad_tree.specs.Tree.{tree}
 use Rattle.ad_tree.specs.Frames.{empty_frame}
 use Rattle.ad_tree.specs.Draft.{draft_frames}
 use Rattle.ad_tree.specs.Table.{frames_of}
 use Rattle.ad_tree.proofs.DraftLemmas.{frames_of-push}
-use Rattle.ad_tree.proofs.FinishLemmas.{apart-draft, finished_phrase, phrase_is_ad, phrase_tree}
+use Rattle.ad_tree.proofs.FinishLemmas.{apart-draft, finished_phrase, phrase_is_ad}
 use Rattle.ad_tree.proofs.draft.Draft.finish_phrase.Goals as goal
 
 pub from_frames-requires : goal.from_frames-requires

@@ -1,5 +1,5 @@
 use Rattle.std.proofs.Common.{arith}
-use Rattle.ad_tree.proofs.DraftLemmas.{inner-read, inner-past}
+use Rattle.ad_tree.proofs.DraftLemmas.{inner-read}
 use Rattle.ad_tree.specs.Table.{frame_of}
 use Rattle.ad_tree.proofs.draft.Draft.frame_at.Goals as goal
 

@@ -1,10 +1,9 @@
-use Rattle.std.proofs.Common.{arith, ◌≡◌, ◌≤◌, ◌<◌, ◌^◌, ℕ, suc, List, length, ap, sym, ◌∙◌, subst, inl, inr, ◌⊎◌, OnOk, OnErr, IsTrue}
+use Rattle.std.proofs.Common.{arith, length, ap, sym, ◌∙◌, subst, inl, inr}
 use Rattle.pool_text.specs.Folding.{folded}
-use Rattle.indexmap.specs.IndexMap.{insert_entry}
 use Rattle.ad_tree.specs.declared.frame.Attribute.{Attribute}
 use Rattle.ad_tree.specs.Tree.{tree}
 use Rattle.ad_tree.specs.Names.{are_apart}
-use Rattle.ad_tree.specs.Frames.{names_of, defined_in}
+use Rattle.ad_tree.specs.Frames.{names_of}
 use Rattle.ad_tree.specs.Entries.{attributes_of, keys_fold_names}
 use Rattle.ad_tree.proofs.AttributeLemmas.{apart-put_attribute}
 use Rattle.ad_tree.proofs.EntryLemmas.{stepped, attributes-insert, keys-insert, length-insert}

@@ -1,8 +1,6 @@
-use Rattle.ad_tree.proofs.TreeLemmas.{height_of-at}  -- scratch
 use Rattle.std.proofs.Common.{◌<◌, length, refl}
 use Rattle.std.proofs.lemmas.List.{length-map}
 use Rattle.std.proofs.lemmas.Option.{slice_get_read, slice_get-map}
-use Rattle.ad_tree.specs.Tree.{tree, trees}
 use Rattle.ad_tree.proofs.TreeLemmas.{trees-items}
 use Rattle.ad_tree.proofs.tree.Exprs.at.Goals as goal
 

@@ -1,0 +1,56 @@
+// What a line is, inside a block or outside one.
+ghost use Rattle.std.specs.Prelude.{◌≡◌};
+ghost use Rattle.pool_text.specs.Lines.{without_return};
+ghost use Rattle.pool_script.specs.Commands.{is_dot, is_silent, takes_block, text_of};
+
+use crate::keyword::keyword_of;
+use crate::words::{past_blanks, word_of};
+
+/// The most bytes of a line outside a block, and of a block.
+pub(crate) const LONGEST: usize = 65_536;
+
+/// A line without the one carriage return that may end it.
+pub(crate) fn without_return(line: &[u8]) -> &[u8]
+    ensures { result.now ≡ without_return line.now }
+{
+    match line {
+        [front @ .., last] if *last == b'\r' => front,
+        _ => line,
+    }
+}
+
+/// Whether a line closes a block: it is exactly a dot.
+pub(crate) fn is_dot(line: &[u8]) -> bool
+    ensures { result ≡ is_dot line.now }
+{
+    without_return(line) == b".".as_slice()
+}
+
+/// A line from its first word on.
+pub(crate) fn text_of(line: &[u8]) -> &[u8]
+    ensures { result.now ≡ text_of line.now }
+{
+    past_blanks(without_return(line))
+}
+
+/// Whether a line is no command and has no reply: it holds no words, or a comment.
+pub(crate) fn is_silent(line: &[u8]) -> bool
+    ensures { result ≡ is_silent line.now }
+{
+    let text = text_of(line);
+    text.len() == 0 || text[0] == b'#'
+}
+
+/// Whether a line outside a block begins one: it isn't too long, and its keyword takes a block.
+#[tactic(auto, unfolding(crate::specs::Commands::takes_block))]
+pub(crate) fn takes_block(line: &[u8]) -> bool
+    ensures { result ≡ takes_block line.now }
+{
+    if line.len() > LONGEST {
+        return false;
+    }
+    match keyword_of(word_of(text_of(line))) {
+        Some(keyword) => keyword.opens_block(),
+        None => false,
+    }
+}

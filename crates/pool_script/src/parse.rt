@@ -1,0 +1,222 @@
+// The command that a line gives, by its keyword and the words behind it.
+ghost use Rattle.std.specs.Prelude.{◌≡◌, IfOk};
+ghost use Rattle.pool_script.specs.Commands.{line_command};
+ghost use Rattle.pool_script.specs.Rows as rows;
+
+use crate::Command;
+use crate::command::{BLOCK_NOT_ENDED, BLOCK_TOO_LONG, UNKNOWN_COMMAND, WRONG_WORDS};
+use crate::keyword::{Keyword, keyword_of};
+use crate::line::{LONGEST, text_of};
+use crate::words::{is_name, sole_number, word_of, words_behind};
+use pool_text::{OutOfMemory, Text};
+use std::alloc::Global;
+
+/// What the line commands. `block` is the text of its block, or none where the input ended within the block; it
+/// matters only where the keyword takes one.
+#[tactic(auto, unfolding(crate::specs::Commands::line_command))]
+pub(crate) fn line_command(
+    alloc: Global,
+    line: &[u8],
+    block: Option<Text>,
+) -> Result<Command, OutOfMemory>
+    ensures { IfOk result (λ command. command ≡ line_command line.now block) }
+{
+    let text = text_of(line);
+    match keyword_of(word_of(text)) {
+        Some(keyword) => keyword_command(alloc, keyword, words_behind(text), block),
+        None => Ok(Command::Bad(UNKNOWN_COMMAND)),
+    }
+}
+
+#[tactic(auto, unfolding(crate::specs::Rows::keyword_command))]
+fn keyword_command(
+    alloc: Global,
+    keyword: Keyword,
+    words: &[u8],
+    block: Option<Text>,
+) -> Result<Command, OutOfMemory>
+    ensures { IfOk result (λ command. command ≡ rows.keyword_command keyword words.now block) }
+{
+    match keyword {
+        Keyword::Clock => Ok(clock(words)),
+        Keyword::Advertise => advertise(alloc, words, block),
+        Keyword::Withdraw => Ok(sole_name(alloc, words)?.map_or(
+            Command::Bad(WRONG_WORDS),
+            Command::Withdraw,
+        )),
+        Keyword::Show => Ok(sole_name(alloc, words)?.map_or(
+            Command::Bad(WRONG_WORDS),
+            Command::Show,
+        )),
+        Keyword::List => Ok(without_words(words, Command::List)),
+        Keyword::Eval => eval(alloc, words),
+        Keyword::EvalIn => eval_in(alloc, words),
+        Keyword::Query => Ok(query(words, block)),
+        Keyword::Submit => submit(alloc, words, block),
+        Keyword::Remove => Ok(sole_name(alloc, words)?.map_or(
+            Command::Bad(WRONG_WORDS),
+            Command::Remove,
+        )),
+        Keyword::Priority => priority(alloc, words),
+        Keyword::Gang => Ok(gang(words, block)),
+        Keyword::Negotiate => Ok(without_words(words, Command::Negotiate)),
+        Keyword::Claim => Ok(sole_name(alloc, words)?.map_or(
+            Command::Bad(WRONG_WORDS),
+            Command::Claim,
+        )),
+        Keyword::Release => Ok(sole_name(alloc, words)?.map_or(
+            Command::Bad(WRONG_WORDS),
+            Command::Release,
+        )),
+        Keyword::Unlisten => Ok(sole_name(alloc, words)?.map_or(
+            Command::Bad(WRONG_WORDS),
+            Command::Unlisten,
+        )),
+    }
+}
+
+/// The name that is the only word; none where the words are others.
+#[tactic(auto, unfolding(crate::specs::Rows::sole_name))]
+fn sole_name(alloc: Global, words: &[u8]) -> Result<Option<Text>, OutOfMemory>
+    ensures { IfOk result (λ name. name ≡ rows.sole_name words.now) }
+{
+    let name = word_of(words);
+    if is_name(name) && words_behind(words).is_empty() {
+        Ok(Some(Text::from_bytes(alloc, name)?))
+    } else {
+        Ok(None)
+    }
+}
+
+/// The command, where there are no words.
+#[tactic(auto, unfolding(crate::specs::Rows::without_words))]
+fn without_words(words: &[u8], command: Command) -> Command
+    ensures { result ≡ rows.without_words words.now command }
+{
+    if words.is_empty() {
+        command
+    } else {
+        Command::Bad(WRONG_WORDS)
+    }
+}
+
+/// The text of a block that ended and isn't too long; else its refusal.
+#[tactic(auto, unfolding(crate::specs::Rows::block_text))]
+fn block_text(block: Option<Text>) -> Result<Text, u8>
+    ensures { result ≡ rows.block_text block }
+{
+    match block {
+        None => Err(BLOCK_NOT_ENDED),
+        Some(text) if text.bytes().len() > LONGEST => Err(BLOCK_TOO_LONG),
+        Some(text) => Ok(text),
+    }
+}
+
+#[tactic(auto, unfolding(crate::specs::Rows::clock))]
+fn clock(words: &[u8]) -> Command
+    ensures { result ≡ rows.clock words.now }
+{
+    sole_number(words, 0, 1_000_000_000_000).map_or(Command::Bad(WRONG_WORDS), Command::Clock)
+}
+
+#[tactic(auto, unfolding(crate::specs::Rows::advertise))]
+fn advertise(alloc: Global, words: &[u8], block: Option<Text>) -> Result<Command, OutOfMemory>
+    ensures { IfOk result (λ command. command ≡ rows.advertise words.now block) }
+{
+    let name = word_of(words);
+    let lifetime = sole_number(words_behind(words), 1, 1_000_000_000);
+    match lifetime {
+        Some(lifetime) if is_name(name) => match block_text(block) {
+            Ok(block) => Ok(Command::Advertise {
+                name: Text::from_bytes(alloc, name)?,
+                lifetime,
+                block,
+            }),
+            Err(refusal) => Ok(Command::Bad(refusal)),
+        },
+        _ => Ok(Command::Bad(WRONG_WORDS)),
+    }
+}
+
+#[tactic(auto, unfolding(crate::specs::Rows::eval))]
+fn eval(alloc: Global, words: &[u8]) -> Result<Command, OutOfMemory>
+    ensures { IfOk result (λ command. command ≡ rows.eval words.now) }
+{
+    if words.is_empty() {
+        return Ok(Command::Bad(WRONG_WORDS));
+    }
+    Ok(Command::Eval(Text::from_bytes(alloc, words)?))
+}
+
+#[tactic(auto, unfolding(crate::specs::Rows::eval_in))]
+fn eval_in(alloc: Global, words: &[u8]) -> Result<Command, OutOfMemory>
+    ensures { IfOk result (λ command. command ≡ rows.eval_in words.now) }
+{
+    let name = word_of(words);
+    let expr = words_behind(words);
+    if !is_name(name) || expr.is_empty() {
+        return Ok(Command::Bad(WRONG_WORDS));
+    }
+    Ok(Command::EvalIn {
+        name: Text::from_bytes(alloc, name)?,
+        expr: Text::from_bytes(alloc, expr)?,
+    })
+}
+
+#[tactic(auto, unfolding(crate::specs::Rows::query))]
+fn query(words: &[u8], block: Option<Text>) -> Command
+    ensures { result ≡ rows.query words.now block }
+{
+    if !words.is_empty() {
+        return Command::Bad(WRONG_WORDS);
+    }
+    match block_text(block) {
+        Ok(block) => Command::Query(block),
+        Err(refusal) => Command::Bad(refusal),
+    }
+}
+
+#[tactic(auto, unfolding(crate::specs::Rows::submit))]
+fn submit(alloc: Global, words: &[u8], block: Option<Text>) -> Result<Command, OutOfMemory>
+    ensures { IfOk result (λ command. command ≡ rows.submit words.now block) }
+{
+    let job = word_of(words);
+    match sole_name(alloc, words_behind(words))? {
+        Some(user) if is_name(job) => match block_text(block) {
+            Ok(block) => Ok(Command::Submit {
+                job: Text::from_bytes(alloc, job)?,
+                user,
+                block,
+            }),
+            Err(refusal) => Ok(Command::Bad(refusal)),
+        },
+        _ => Ok(Command::Bad(WRONG_WORDS)),
+    }
+}
+
+#[tactic(auto, unfolding(crate::specs::Rows::priority))]
+fn priority(alloc: Global, words: &[u8]) -> Result<Command, OutOfMemory>
+    ensures { IfOk result (λ command. command ≡ rows.priority words.now) }
+{
+    let user = word_of(words);
+    match sole_number(words_behind(words), 1, 1_000_000) {
+        Some(n) if is_name(user) => Ok(Command::Priority {
+            user: Text::from_bytes(alloc, user)?,
+            n,
+        }),
+        _ => Ok(Command::Bad(WRONG_WORDS)),
+    }
+}
+
+#[tactic(auto, unfolding(crate::specs::Rows::gang))]
+fn gang(words: &[u8], block: Option<Text>) -> Command
+    ensures { result ≡ rows.gang words.now block }
+{
+    if !words.is_empty() {
+        return Command::Bad(WRONG_WORDS);
+    }
+    match block_text(block) {
+        Ok(block) => Command::Gang(block),
+        Err(refusal) => Command::Bad(refusal),
+    }
+}

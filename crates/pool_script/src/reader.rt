@@ -1,0 +1,210 @@
+// The commands of lines, read one line at a time.
+ghost use Rattle.std.specs.Prelude.{◌≡◌, ◌++◌, ◌∷◌, [], true, None, Some, MatchOption, OnOk, OnErr};
+ghost use Rattle.pool_text.specs.Lines.{ended};
+ghost use Rattle.pool_script.specs.Cuts.{CutsAtFeed};
+ghost use Rattle.pool_script.specs.Commands.{cut_off, given};
+
+use crate::Command;
+use crate::command::LINE_TOO_LONG;
+use crate::line::{LONGEST, is_dot, is_silent, takes_block, without_return};
+use crate::parse::line_command;
+use memchr::memchr;
+use pool_text::{OutOfMemory, Text};
+use std::alloc::Global;
+use std::collections::VecDeque;
+
+/// A block that has begun: the line that took it, and its text so far.
+#[derive(Debug, Drop)]
+pub(crate) struct Block {
+    pub(crate) line: Text,
+    pub(crate) text: Text,
+}
+
+/// The commands that wait, the block that has begun, and the line that has begun.
+#[derive(Debug, Drop)]
+pub(crate) struct Reader {
+    alloc: Global,
+    pub(crate) waiting: VecDeque<Command>,
+    pub(crate) block: Option<Block>,
+    pub(crate) line: Vec<u8>,
+}
+
+/// The bytes before the first line feed, and those behind it; none where there is no line feed.
+fn split_line(bytes: &[u8]) -> Option<(&[u8], &[u8])>
+    ensures { MatchOption result (ended bytes.now ≡ [])
+        (λ parts. CutsAtFeed bytes.now parts.0.now parts.1.now) }
+{
+    match memchr(b'\n', bytes) {
+        Some(place) => Some((&bytes[..place], &bytes[place + 1..])),
+        None => None,
+    }
+}
+
+impl Reader {
+    ghost use Rattle.pool_script.specs.Reading.{commands_from, kept_next, HasRead, IsSound};
+
+    /// A reader of no bytes, which takes no memory yet.
+    pub(crate) fn new(alloc: Global) -> Reader
+        ensures waiting { result.waiting.items ≡ [] }
+        ensures block { result.block ≡ None }
+        ensures line { result.line.items ≡ [] }
+    {
+        Reader {
+            alloc,
+            waiting: VecDeque::new(alloc),
+            block: None,
+            line: Vec::new(alloc),
+        }
+    }
+
+    /// Reads a piece, of any size.
+    pub(crate) fn feed(&mut self, piece: &[u8]) -> Result<(), OutOfMemory>
+        requires { IsSound self.old }
+        ensures sound { IsSound self.new }
+        ensures ok { OnOk result (HasRead self.old piece.now self.new) }
+    {
+        let mut left = piece;
+        while let Some((line, behind)) = split_line(left) {
+            self.extend_line(line)?;
+            self.end_line()?;
+            left = behind;
+        }
+        self.extend_line(left)
+    }
+
+    /// Reads the end of the input: the last line where it has no line feed, and a block that isn't closed.
+    pub(crate) fn end(&mut self) -> Result<(), OutOfMemory>
+        requires { IsSound self.old }
+        ensures sound { IsSound self.new }
+        ensures ok { OnOk result (self.new.waiting.items ≡ commands_from true self.old []) }
+        ensures block { OnOk result (self.new.block ≡ None) }
+        ensures line { OnOk result (self.new.line.items ≡ []) }
+    {
+        self.end_last_line()?;
+        self.end_block()
+    }
+
+    /// Reads the line as the last one, which has no line feed; none where it has no bytes.
+    fn end_last_line(&mut self) -> Result<(), OutOfMemory>
+        requires { IsSound self.old }
+        ensures sound { IsSound self.new }
+        ensures ok { OnOk result
+            (self.new.waiting.items ++ cut_off self.new.block ≡ commands_from true self.old []) }
+        ensures line { OnOk result (self.new.line.items ≡ []) }
+    {
+        if self.line.is_empty() {
+            return Ok(());
+        }
+        self.end_line()?;
+        Ok(())
+    }
+
+    /// Refuses the block that the input ends within, if there is one.
+    #[tactic(auto, unfolding(crate::specs::Commands::cut_off))]
+    fn end_block(&mut self) -> Result<(), OutOfMemory>
+        requires { IsSound self.old }
+        ensures sound { IsSound self.new }
+        ensures line { self.new.line.items ≡ self.old.line.items }
+        ensures block { self.new.block ≡ None }
+        ensures ok { OnOk result
+            (self.new.waiting.items ≡ self.old.waiting.items ++ cut_off self.old.block) }
+        ensures err { OnErr result (self.new.waiting.items ≡ self.old.waiting.items) }
+    {
+        let Some(block) = self.block.take() else {
+            return Ok(());
+        };
+        let command = line_command(self.alloc, block.line.bytes(), None)?;
+        self.waiting.push_back(command)?;
+        Ok(())
+    }
+
+    /// Adds bytes to the line; of a line that is too long only the first bytes matter.
+    fn extend_line(&mut self, bytes: &[u8]) -> Result<(), OutOfMemory>
+        requires sound { IsSound self.old }
+        requires one_line { ended bytes.now ≡ [] }
+        ensures sound { IsSound self.new }
+        ensures ok { OnOk result (HasRead self.old bytes.now self.new) }
+    {
+        let room = LONGEST + 1 - self.line.len();
+        let fits = room.min(bytes.len());
+        self.line.extend_from_slice(&bytes[..fits])?;
+        Ok(())
+    }
+
+    /// Reads the line as one that has ended, and begins the next.
+    fn end_line(&mut self) -> Result<(), OutOfMemory>
+        requires { IsSound self.old }
+        ensures sound { IsSound self.new }
+        ensures ok { OnOk result (HasRead self.old (10 ∷ []) self.new) }
+        ensures line { OnOk result (self.new.line.items ≡ []) }
+    {
+        self.read_line()?;
+        self.line.clear();
+        Ok(())
+    }
+
+    /// Reads the line, in a block or outside one.
+    fn read_line(&mut self) -> Result<(), OutOfMemory>
+        ensures line { self.new.line.items ≡ self.old.line.items }
+        ensures ok_waiting { OnOk result
+            (self.new.waiting.items ≡ self.old.waiting.items ++ given self.old.block self.old.line.items) }
+        ensures ok_block { OnOk result (self.new.block ≡ kept_next self.old.block self.old.line.items) }
+        ensures err_waiting { OnErr result (self.new.waiting.items ≡ self.old.waiting.items) }
+        ensures err_block { OnErr result (self.new.block ≡ None) }
+    {
+        match self.block.take() {
+            Some(block) => self.read_in_block(block),
+            None => self.read_outside(),
+        }
+    }
+
+    /// Reads the line as one of the block, of which no more is kept once its text is too long.
+    #[tactic(auto, unfolding(crate::specs::Commands::given, crate::specs::Commands::next, crate::specs::Reading::kept_next))]
+    fn read_in_block(&mut self, block: Block) -> Result<(), OutOfMemory>
+        requires { self.old.block ≡ None }
+        ensures line { self.new.line.items ≡ self.old.line.items }
+        ensures ok_waiting { OnOk result
+            (self.new.waiting.items ≡ self.old.waiting.items ++ given (Some block) self.old.line.items) }
+        ensures ok_block { OnOk result (self.new.block ≡ kept_next (Some block) self.old.line.items) }
+        ensures err_waiting { OnErr result (self.new.waiting.items ≡ self.old.waiting.items) }
+        ensures err_block { OnErr result (self.new.block ≡ None) }
+    {
+        let Block { line, mut text } = block;
+        if is_dot(&self.line) {
+            let command = line_command(self.alloc, line.bytes(), Some(text))?;
+            self.waiting.push_back(command)?;
+            return Ok(());
+        }
+        if text.bytes().len() <= LONGEST {
+            text.append(without_return(&self.line))?;
+            text.append(b"\n")?;
+        }
+        self.block = Some(Block { line, text });
+        Ok(())
+    }
+
+    /// Reads the line as one outside a block.
+    #[tactic(auto, unfolding(crate::specs::Commands::given, crate::specs::Commands::next, crate::specs::Reading::kept_next))]
+    fn read_outside(&mut self) -> Result<(), OutOfMemory>
+        requires { self.old.block ≡ None }
+        ensures line { self.new.line.items ≡ self.old.line.items }
+        ensures ok_waiting { OnOk result
+            (self.new.waiting.items ≡ self.old.waiting.items ++ given None self.old.line.items) }
+        ensures ok_block { OnOk result (self.new.block ≡ kept_next None self.old.line.items) }
+        ensures err_waiting { OnErr result (self.new.waiting.items ≡ self.old.waiting.items) }
+        ensures err_block { OnErr result (self.new.block ≡ None) }
+    {
+        if self.line.len() > LONGEST {
+            self.waiting.push_back(Command::Bad(LINE_TOO_LONG))?;
+        } else if takes_block(&self.line) {
+            self.block = Some(Block {
+                line: Text::from_bytes(self.alloc, &self.line)?,
+                text: Text::new(self.alloc),
+            });
+        } else if !is_silent(&self.line) {
+            let command = line_command(self.alloc, &self.line, None)?;
+            self.waiting.push_back(command)?;
+        }
+        Ok(())
+    }
+}

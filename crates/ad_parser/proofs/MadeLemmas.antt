@@ -1,5 +1,5 @@
 -- The grammar makes trees that keep what their words keep.
-use Rattle.std.proofs.Common.{◌≡◌, ℕ, zero, suc, ◌<◌, ◌≤◌, true, ltb, nat_lt, slice_index, List, [], ◌∷◌, ◌++◌, refl, ◌∙◌, ap, subst, arith}
+use Rattle.std.proofs.Common.{◌≡◌, ℕ, zero, suc, ◌<◌, ◌≤◌, true, ltb, not, ◌==◌, slice_index, List, [], ◌∷◌, ◌++◌, refl, ◌∙◌, ap, subst, arith}
 use Rattle.std.proofs.lemmas.Bool.Decides.{nat_tests}
 use Rattle.std.proofs.lemmas.Bool.{and_parts, ltb-true}
 use Rattle.std.proofs.lemmas.Str.{IsUtf8-from_ascii}
@@ -29,7 +29,7 @@ back-made [] b m = m
 back-made (w ∷ ws) b m = back-made ws b m.1
 
 -- a word's letters are ASCII
-pub ascii_at : (bytes : List ℕ) → list_all (λ c. ltb c 128) bytes ≡ true → (i : ℕ) → slice_index bytes i < 128
+ascii_at : (bytes : List ℕ) → list_all (λ c. ltb c 128) bytes ≡ true → (i : ℕ) → slice_index bytes i < 128
 ascii_at [] is i = IsAscii-nil i
 ascii_at (byte ∷ bytes) is zero = ltb-true byte 128 (and_parts (ltb byte 128) _ is).0
 ascii_at (byte ∷ bytes) is (suc i) = ascii_at bytes (and_parts (ltb byte 128) _ is).1 i
@@ -37,7 +37,7 @@ ascii_at (byte ∷ bytes) is (suc i) = ascii_at bytes (and_parts (ltb byte 128) 
 word_byte-ascii : (byte : ℕ) → is_word_byte byte ≡ true → ltb byte 128 ≡ true
 word_byte-ascii byte is = grind (arith, nat_tests)
 
-word_byte-some : (byte : ℕ) → is_word_byte byte ≡ true → nat_lt 0 byte ≡ true
+word_byte-some : (byte : ℕ) → is_word_byte byte ≡ true → not (byte == 0) ≡ true
 word_byte-some byte is = grind (arith, nat_tests)
 
 pub plain_text : (text : List ℕ) → Spells kinds.Plain text → IsNameText text
@@ -45,7 +45,7 @@ plain_text text is =
     let bytes = word_bytes text is.0 in (
       (
         IsUtf8-from_ascii text (ascii_at text (all_weaker is_word_byte (λ c. ltb c 128) word_byte-ascii text bytes)),
-        all_weaker is_word_byte (nat_lt 0) word_byte-some text bytes,
+        all_weaker is_word_byte (λ byte. not (byte == 0)) word_byte-some text bytes,
       ),
       word_nonempty text is.0,
     )

@@ -1,23 +1,19 @@
 -- What every parsed tree keeps.
-use Rattle.std.specs.Prelude.{◌≡◌, ℕ, suc, ◌<◌, ◌≤◌, ◌^◌, pos, negsuc, Bool, true, false, nat_lt, List, [], ◌∷◌, length, IsUtf8}
-use Rattle.std.specs.List.{list_all}
+use Rattle.std.specs.Prelude.{◌≡◌, ℕ, suc, ◌<◌, ◌≤◌, ◌^◌, pos, negsuc, Bool, true, false, List, [], ◌∷◌, length}
 use Rattle.pool_text.specs.declared.language.Lit.{Lit}
 use Rattle.pool_text.specs.declared.language.Lit.TheVariants.{Integer, Str}
 use Rattle.ad_lexer.specs.Spelling.{Spells}
+use Rattle.ad_lexer.specs.Texts.{IsText}
 use Rattle.ad_lexer.specs.declared.token.TokenKind.TheVariants as kinds
 use Rattle.ad_tree.specs.Inline.{Inline, shape, inner, Inlines, end, next, Defs, no_defs, def}
 use Rattle.ad_tree.specs.Tree.{Label, literal, name, unary, binary, all, any, choice, select, subscript, call, list}
 use Rattle.ad_parser.specs.Words.{Word, plain, quoted, constant, mark}
 
--- UTF-8 without byte 0
-abbrev pub IsText : List ℕ → Type 0
-IsText bytes = IsUtf8 bytes × (list_all (nat_lt 0) bytes ≡ true)
-
--- a name: such a text, not empty
+-- a name: UTF-8 without byte 0, and not empty
 abbrev pub IsNameText : List ℕ → Type 0
 IsNameText bytes = IsText bytes × (0 < length bytes)
 
--- a literal that a text can hold: no integer is negative, and a string is such a text
+-- a literal that a text can hold: no integer is negative, and a string is UTF-8 without byte 0
 abbrev pub IsWritten : Lit → Type 0
 IsWritten (Integer (pos n)) = n < 2 ^ 63
 IsWritten (Integer (negsuc n)) = ⊥

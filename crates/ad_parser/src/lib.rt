@@ -20,6 +20,8 @@ mod quoted;
 mod reader;
 mod stop;
 mod symbol;
+#[cfg(test)]
+mod tests;
 mod word;
 
 pub use fault::ParseFault;

@@ -12,6 +12,8 @@ mod literal;
 mod mark;
 mod nesting;
 mod node;
+#[cfg(test)]
+mod notation;
 mod number;
 mod operators;
 mod parse;

@@ -1,7 +1,7 @@
 // Examples of texts and of what a parse answers.
+use crate::notation::{write_frame, write_tree};
 use crate::{ParseFault, parse_ad, parse_expr};
-use ad_tree::Expr;
-use pool_text::{BinOp, OutOfMemory, Text};
+use pool_text::{OutOfMemory, Text};
 use std::alloc::Global;
 use std::process::Abort;
 use std::test::Fail;
@@ -165,12 +165,69 @@ fn limits(rt: HostRuntime) -> Result<(), Fail> {
     Ok(())
 }
 
+/// Expressions with their trees, each node in brackets with its operator in front.
+const TREES: [(&[u8], &[u8]); 30] = [
+    (b"1 - 2 - 3", b"(- (- 1 2) 3)"),
+    (b"1 - (2 - 3)", b"(- 1 (- 2 3))"),
+    (b"a * b % c / d", b"(/ (% (* a b) c) d)"),
+    (
+        b"a | b ^ c & d == e < f << g + h * i",
+        b"(| a (^ b (& c (== d (< e (<< f (+ g (* h i))))))))",
+    ),
+    (
+        b"a * b - c >>> d >= e != f & g ^ h | i",
+        b"(| (^ (& (!= (>= (>>> (- (* a b) c) d) e) f) g) h) i)",
+    ),
+    (b"a is b isnt c", b"(isnt (is a b) c)"),
+    (b"a =?= b =!= c", b"(isnt (is a b) c)"),
+    (b"a || b && c | d", b"(|| a (&& b (| c d)))"),
+    (b"a && b && c", b"(&& a b c)"),
+    (b"(a && b) && c", b"(&& a b c)"),
+    (b"((a && b)) && (c || d || e)", b"(&& a b (|| c d e))"),
+    (b"a && (b && c)", b"(&& a (&& b c))"),
+    (b"(a || b) || c", b"(|| a b c)"),
+    (b"a || (b || c)", b"(|| a (|| b c))"),
+    (b"a || b ? c : d", b"(? (|| a b) c d)"),
+    (b"a ? b : c ? d : e", b"(? a b (? c d e))"),
+    (b"a ? b ? c : d : e", b"(? a (? b c d) e)"),
+    (b"- ~ ! + a", b"(- (~ (! (+ a))))"),
+    (b"!a.b[c] - -1", b"(- (! (at (. a)b c)) (- 1))"),
+    (
+        b"MY.x + Self.y < TARGET . z + other.'w v'",
+        b"(< (+ my.x my.y) (+ target.z target.w v))",
+    ),
+    (b"my + .x", b"(+ my my.x)"),
+    (b"'MY'.x", b"(. MY)x"),
+    (b"(target).x", b"(. target)x"),
+    (b"target.x.y", b"(. target.x)y"),
+    (b"size ({ }) + my(1, f())", b"(+ size( {}) my( 1 f()))"),
+    (b"TRUE == Undefined", b"(== true undefined)"),
+    (b"{ 0x1F, 010, \"a\\102\" }", b"{ 31 8 \"aB\"}"),
+    (b"[ a = [ b = 1 ]; c = [ ]; A = 2 ]", b"[1 A=2 c=[2]]"),
+    (
+        b"{ [ a = { [ b = a ] } ], [ ] }",
+        b"{ [1 a={ [2 b=a]}] [3]}",
+    ),
+    (b"[ a = b ].a", b"(. [1 a=b])a"),
+];
+
 #[test]
-fn subtraction_groups_to_the_left(rt: HostRuntime) -> Result<(), Fail> {
-    let phrase = parse_expr(rt.alloc(), b"1 - 2 - 3")?;
-    let Expr::Binary(BinOp::Sub, left, _) = &phrase.expr else {
-        return Err(Fail::from("not a subtraction"));
-    };
-    assert!(rt; matches!(**left, Expr::Binary(BinOp::Sub, _, _)));
+fn trees(rt: HostRuntime) -> Result<(), Fail> {
+    for (text, wanted) in TREES.iter() {
+        let phrase = parse_expr(rt.alloc(), text)?;
+        let mut tree = Text::new(rt.alloc());
+        write_tree(&mut tree, &phrase.ad, &phrase.expr, 64)?;
+        assert_eq!(rt; tree.bytes(), *wanted);
+    }
+    Ok(())
+}
+
+#[test]
+fn tree_of_an_ad(rt: HostRuntime) -> Result<(), Fail> {
+    let text = b"[ a = [ x = { [ ] } ]; B = 1; A = { [ y = 2; Y = c ], \"s\" }; b = [ ] ]";
+    let ad = parse_ad(rt.alloc(), text)?;
+    let mut tree = Text::new(rt.alloc());
+    write_frame(&mut tree, &ad, 0, 64)?;
+    assert_eq!(rt; tree.bytes(), b"[0 A={ [1 Y=c] \"s\"} b=[2]]".as_slice());
     Ok(())
 }

@@ -31,52 +31,54 @@ fn run(
     Ok((end, written))
 }
 
+/// Scripts with how many commands are refused, and the replies.
+const SCRIPTS: [(&[u8], u64, &[u8]); 12] = [
+    (b"", 0, b""),
+    (
+        b"eval false && error\neval error && false\neval true && undefined\n",
+        0,
+        b"false\nerror\nundefined\n",
+    ),
+    (
+        b"eval undefined || true\neval undefined && 3\neval undefined && false\neval 3 && true\n",
+        0,
+        b"true\nerror\nfalse\nerror\n",
+    ),
+    (b"\n \t \n# eval 1\n  #x\n\r\n", 0, b""),
+    (b"eval 7\r\neval 8\r", 0, b"7\n8\n"),
+    (b"eval 7\r\r\n", 0, b"7\n"),
+    (b"\teval\tUNDEFINED\t", 0, b"undefined\n"),
+    (
+        b"eval\neval \nfly\nEVAL 1\n",
+        4,
+        b"refused 3 wrong words\nrefused 3 wrong words\nrefused 14 not built\nrefused 14 not built\n",
+    ),
+    (
+        b"eval 0x1F\neval 010\neval 09\neval 1 && 1.5\neval 9223372036854775808",
+        3,
+        b"31\n8\nrefused 6 lexical 4 at 0\nrefused 6 lexical 5 at 5\nrefused 6 lexical 4 at 0\n",
+    ),
+    (
+        b"eval \"abc\neval 1 /* x\neval 1 &&\neval \"abc\"\neval a\neval 1 + 1\neval { }",
+        7,
+        b"refused 6 lexical 2 at 0\nrefused 6 lexical 6 at 2\nrefused 6 grammar\nrefused 14 not built\nrefused 14 not built\nrefused 14 not built\nrefused 14 not built\n",
+    ),
+    (
+        b"eval (true || error) && (false || undefined)\neval true && (true && 1)\neval false || (undefined || true)",
+        0,
+        b"undefined\nerror\ntrue\n",
+    ),
+    (
+        b"eval false && \"x\"\neval true || [ ]",
+        2,
+        b"refused 14 not built\nrefused 14 not built\n",
+    ),
+];
+
 #[test]
 fn lines_are_answered(rt: HostRuntime) -> Result<(), Fail> {
     let alloc = rt.alloc();
-    let cases: [(&[u8], u64, &[u8]); 12] = [
-        (b"", 0, b""),
-        (
-            b"eval false && error\neval error && false\neval true && undefined\n",
-            0,
-            b"false\nerror\nundefined\n",
-        ),
-        (
-            b"eval undefined || true\neval undefined && 3\neval undefined && false\neval 3 && true\n",
-            0,
-            b"true\nerror\nfalse\nerror\n",
-        ),
-        (b"\n \t \n# eval 1\n  #x\n\r\n", 0, b""),
-        (b"eval 7\r\neval 8\r", 0, b"7\n8\n"),
-        (b"eval 7\r\r\n", 0, b"7\n"),
-        (b"\teval\tUNDEFINED\t", 0, b"undefined\n"),
-        (
-            b"eval\neval \nfly\nEVAL 1\n",
-            4,
-            b"refused 3 wrong words\nrefused 3 wrong words\nrefused 14 not built\nrefused 14 not built\n",
-        ),
-        (
-            b"eval 0x1F\neval 010\neval 09\neval 1 && 1.5\neval 9223372036854775808",
-            3,
-            b"31\n8\nrefused 6 lexical 4 at 0\nrefused 6 lexical 5 at 5\nrefused 6 lexical 4 at 0\n",
-        ),
-        (
-            b"eval \"abc\neval 1 /* x\neval 1 &&\neval \"abc\"\neval a\neval 1 + 1\neval { }",
-            7,
-            b"refused 6 lexical 2 at 0\nrefused 6 lexical 6 at 2\nrefused 6 grammar\nrefused 14 not built\nrefused 14 not built\nrefused 14 not built\nrefused 14 not built\n",
-        ),
-        (
-            b"eval (true || error) && (false || undefined)\neval true && (true && 1)\neval false || (undefined || true)",
-            0,
-            b"undefined\nerror\ntrue\n",
-        ),
-        (
-            b"eval false && \"x\"\neval true || [ ]",
-            2,
-            b"refused 14 not built\nrefused 14 not built\n",
-        ),
-    ];
-    for (script, refused, replies) in cases {
+    for (script, refused, replies) in SCRIPTS {
         let whole = run(alloc, script, (4096, 4096), 0, 0)?;
         assert!(rt; whole.0 == RunEnd::Done { refused });
         assert_eq!(rt; whole.1.bytes(), replies);

@@ -7,6 +7,7 @@ pub mod CutLemmas
 mod Follows
 pub mod GrammarLaws
 pub mod KeptLemmas
+mod LevelLemmas
 mod ListLemmas
 pub mod MadeLemmas
 pub mod MadeWordLemmas

@@ -187,16 +187,7 @@ module _ (e : Rule) (w : Reading (Option Inline)) (ps : List (Option Inline × O
       ∙ choices-push ps c a (conditionals height_limit e (n - 1) after)
       ∙ ap (λ is. choices is (conditionals height_limit e (n - 1) after)) (sym pushed)
 
--- ---- levels ----
-
-pub level-step : (e : Rule) (k : ℕ) (ws rest : List Word) (x : Option Inline) → (k ≡ 0 → ⊥) → level_at height_limit e (k - 1) ws ≡ Some (x, rest)
-    → level_at height_limit e k ws ≡ operations height_limit (level_at height_limit e (k - 1)) k (length rest) x rest
-level-step e zero ws rest x some read = absurd (some refl)
-level-step e (suc k) ws rest x some read =
-    let same : suc k - 1 ≡ k = omega arith in
-    let lower : level_at height_limit e k ws ≡ Some (x, rest) = ap (λ j. level_at height_limit e j ws) (sym same) ∙ read in
-    ap (λ r. and_then r (λ y more. operations height_limit (level_at height_limit e k) (suc k) (length more) y more)) lower
-    ∙ ap (λ j. operations height_limit (level_at height_limit e j) (suc k) (length rest) x rest) (sym same)
+-- ---- operations ----
 
 module _ (tight : Rule) (w : Reading (Option Inline)) (k n : ℕ) (x : Option Inline) (ws rest : List Word) (op : Infix) (inv : w ≡ operations height_limit tight k n x ws) (some : 0 < n) (found : infix_at k ws ≡ Some (op, rest)) where
   turn : operations height_limit tight k n x ws ≡ and_then (tight rest) (λ y. operations height_limit tight k (n - 1) (cut_two height_limit (joined op) x y))

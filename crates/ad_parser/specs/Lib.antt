@@ -5,6 +5,7 @@ pub mod Counts
 pub mod Faults
 pub mod Grammar
 pub mod Heights
+pub mod Levels
 pub mod Limits
 pub mod Made
 pub mod Meaning

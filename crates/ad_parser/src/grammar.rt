@@ -3,6 +3,7 @@
 // and one more is enough. Chains are read by loops, so that only brackets take stack.
 ghost use Rattle.std.specs.Prelude.{◌≡◌, ◌-◌, ◌≤◌, ◌∷◌, suc, length, Some};
 ghost use Rattle.ad_tree.specs.Inline.{end, no_defs};
+ghost use Rattle.ad_parser.specs.Levels.{climb};
 ghost use Rattle.ad_parser.specs.Limits.{height_limit};
 ghost use Rattle.ad_parser.specs.Parts.{part, parts, definition_parts, cut_before, cut_defined_before};
 ghost use Rattle.ad_parser.specs.Rules as rules;
@@ -68,15 +69,33 @@ fn level(
     fuel: usize,
     looseness: usize,
 ) -> Result<Part, Stop>
-    requires { looseness ≤ 10 }
     ensures { Gives part (rules.level_at height_limit (rules.expression height_limit fuel) looseness (left reader.old))
         result (left reader.new) }
 {
-    if looseness == 0 {
-        return prefixes(alloc, reader, fuel);
+    let first = prefixes(alloc, reader, fuel)?;
+    climb(alloc, reader, fuel, looseness, first)
+}
+
+/// Operators that bind at most this loosely behind an operand, level by level from the tightest. Levels whose operators
+/// don't stand next are passed over at once.
+#[cycle(grammar)]
+fn climb(
+    alloc: Global,
+    reader: &mut Reader<'_, '_>,
+    fuel: usize,
+    looseness: usize,
+    first: Part,
+) -> Result<Part, Stop>
+    ensures { Gives part (climb height_limit (rules.expression height_limit fuel) 0 looseness (part first) (left reader.old))
+        result (left reader.new) }
+{
+    let mut operand = first;
+    let mut reached = 0;
+    while let Some(next) = reader.looseness(reached, looseness) {
+        operand = operations(alloc, reader, fuel, next, operand)?;
+        reached = next;
     }
-    let first = level(alloc, reader, fuel, looseness - 1)?;
-    operations(alloc, reader, fuel, looseness, first)
+    Ok(operand)
 }
 
 /// Operators of one looseness behind an operand, each with its right operand.
@@ -88,8 +107,7 @@ fn operations(
     looseness: usize,
     first: Part,
 ) -> Result<Part, Stop>
-    requires some { 1 ≤ looseness }
-    requires most { looseness ≤ 10 }
+    requires { 1 ≤ looseness }
     ensures { Gives part (rules.operations height_limit
         (rules.level_at height_limit (rules.expression height_limit fuel) (looseness - 1)) looseness
         (length (left reader.old)) (part first) (left reader.old)) result (left reader.new) }

@@ -18,8 +18,9 @@ pub struct Reader<'a, 'b> {
 }
 
 impl<'a, 'b> Reader<'a, 'b> {
-    ghost use Rattle.std.specs.Prelude.{◌≡◌, ◌∷◌, ℕ, List, drop, length, map, option_map, Some, None, Ok, Err};
+    ghost use Rattle.std.specs.Prelude.{◌≡◌, ◌<◌, ◌≤◌, ◌∷◌, ℕ, List, drop, length, map, option_map, Some, None, Ok, Err};
     ghost use Rattle.std.specs.Bool.{Decides};
+    ghost use Rattle.ad_parser.specs.Levels.{looseness_at};
     ghost use Rattle.ad_parser.specs.Meaning.{meaning};
     ghost use Rattle.ad_parser.specs.Parts.{as_infix};
     ghost use Rattle.ad_parser.specs.Rules.{name_at, infix_at};
@@ -111,6 +112,20 @@ impl<'a, 'b> Reader<'a, 'b> {
                 Ok(text.copy()?)
             }
             _ => Err(Stop::Grammar),
+        }
+    }
+
+    /// How loosely the operator between operands binds that stands next, where it binds more loosely than `tighter` and at
+    /// most as loosely as `loosest`.
+    pub fn looseness(&self, tighter: usize, loosest: usize) -> Option<usize>
+        ensures some { (n : ℕ) → result ≡ Some n → (looseness_at (left self.now) ≡ Some n) × (tighter < n) × (n ≤ loosest) }
+        ensures none { result ≡ None → (n : ℕ) → looseness_at (left self.now) ≡ Some n → tighter < n → n ≤ loosest → ⊥ }
+    {
+        let (found, _) = joint_of(self.mark()?)?;
+        if tighter < found && found <= loosest {
+            Some(found)
+        } else {
+            None
         }
     }
 

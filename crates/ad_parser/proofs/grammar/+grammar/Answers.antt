@@ -2,13 +2,15 @@ use Rattle.std.proofs.Common.{refl, arith, ◌≡◌, ◌-◌, suc, true, false,
 use Rattle.ad_tree.specs.Inline.{Inline, Inlines, Defs, end, no_defs}
 use Rattle.ad_parser.specs.declared.mark.Mark.TheVariants.{OpenParen}
 use Rattle.ad_parser.specs.Chains.{held}
+use Rattle.ad_parser.specs.Levels.{climb}
 use Rattle.ad_parser.specs.Limits.{height_limit}
 use Rattle.ad_parser.specs.Parts.{part, parts, definition_parts, as_infix, cut_before, cut_defined_before}
 use Rattle.ad_parser.specs.Rules as rules
 use Rattle.ad_parser.specs.Rules.{Reading}
 use Rattle.ad_parser.specs.Steps.{left, ContinuesOk}
 use Rattle.ad_parser.specs.Words.{mark as mark_word}
-use Rattle.ad_parser.proofs.RuleLemmas.{gives-ok, regives, stops-here, stops-by, arguments-broken, elements-broken, group-broken, conditionals-init, conditionals-end, conditionals-broken, conditionals-unclosed, conditionals-more, level-step, operations-broken, operations-more, several-end, several-more, definitions-broken, definitions-end, definitions-more, suffixes-end, suffixes-selection, suffixes-broken, suffixes-subscript}
+use Rattle.ad_parser.proofs.RuleLemmas.{gives-ok, regives, stops-here, stops-by, arguments-broken, elements-broken, group-broken, conditionals-init, conditionals-end, conditionals-broken, conditionals-unclosed, conditionals-more, operations-broken, operations-more, several-end, several-more, definitions-broken, definitions-end, definitions-more, suffixes-end, suffixes-selection, suffixes-broken, suffixes-subscript}
+use Rattle.ad_parser.proofs.LevelLemmas.{level-climbed, level-none, climb-end, climb-broken, climb-more}
 use Rattle.ad_parser.proofs.grammar.+grammar.Goals as goal
 
 pub arguments-returns-in_err-expect : goal.arguments-returns-in_err-expect
@@ -83,10 +85,43 @@ level-returns t c =
     let e = rules.expression height_limit c.args.fuel in
     let ws = left c.args.reader.now in
     let k = c.args.looseness in
-    regives part (rules.level_at height_limit e k ws)
-    (rules.operations height_limit (rules.level_at height_limit e (k - 1)) k (length (left c.level.new.reader)) (part c.in_ok-first.first) (left c.level.new.reader))
-    c.operations.result (left c.operations.new.reader)
-    (level-step e k ws (left c.level.new.reader) (part c.in_ok-first.first) c.if-looseness-eq0.false (c.in_ok-first.ensures.ok c.in_ok-first.first refl)) c.operations.ensures
+    regives part (rules.level_at height_limit e k ws) (climb height_limit e 0 k (part c.in_ok-first.first) (left c.prefixes.new.reader)) c.climb.result (left c.climb.new.reader)
+    (level-climbed e k ws (left c.prefixes.new.reader) (part c.in_ok-first.first) (c.in_ok-first.ensures.ok c.in_ok-first.first refl)) c.climb.ensures
+
+pub level-returns-in_err-first : goal.level-returns-in_err-first
+level-returns-in_err-first t c =
+    let e = rules.expression height_limit c.args.fuel in
+    let ws = left c.args.reader.now in
+    let k = c.args.looseness in
+    stops-by part (rules.level_at height_limit e k ws) c.from_residual.result (left c.prefixes.new.reader) c.in_err-first.field-0.0 c.from_residual.ensures.0 c.from_residual.ensures.1
+    (λ stop. level-none e k ws (c.in_err-first.ensures.none (ap Err stop)))
+
+pub climb-returns : goal.climb-returns
+climb-returns t c =
+    let e = rules.expression height_limit c.args.fuel in
+    let w = climb height_limit e 0 c.args.looseness (part c.args.first) (left c.args.reader.now) in
+    gives-ok part c.loop-next.operand w (left c.loop-next.reader)
+    (climb-end e w c.loop-next.reached c.args.looseness (part c.loop-next.operand) (left c.loop-next.reader) c.loop-next.invariant.0 c.loop-next.invariant.1
+    (c.in_default.ensures.none refl))
+
+pub climb-returns-in_err-operand : goal.climb-returns-in_err-operand
+climb-returns-in_err-operand t c =
+    let e = rules.expression height_limit c.args.fuel in
+    let w = climb height_limit e 0 c.args.looseness (part c.args.first) (left c.args.reader.now) in
+    let next = c.in-Some.ensures.some c.in-Some.next refl in
+    stops-by part w c.from_residual.result (left c.operations.new.reader) c.in_err-operand.field-0.0 c.from_residual.ensures.0 c.from_residual.ensures.1
+    (λ stop. climb-broken e w c.loop-next.reached c.args.looseness (part c.loop-next.operand) (left c.loop-next.reader) c.loop-next.invariant.0
+    c.in-Some.next next.1 next.2 next.0 (c.in_err-operand.ensures.none (ap Err stop)))
+
+pub climb-loop-next-preserved : goal.climb-loop-next-preserved
+climb-loop-next-preserved t c =
+    let e = rules.expression height_limit c.args.fuel in
+    let w = climb height_limit e 0 c.args.looseness (part c.args.first) (left c.args.reader.now) in
+    let next = c.in-Some.ensures.some c.in-Some.next refl in (
+      climb-more e w c.loop-next.reached c.args.looseness (part c.loop-next.operand) (left c.loop-next.reader) c.loop-next.invariant.0
+      c.in-Some.next next.1 next.2 next.0 (part c.in_ok-operand.operand) (left c.operations.new.reader) (c.in_ok-operand.ensures.ok c.in_ok-operand.operand refl),
+      next.2,
+    )
 
 pub operations-returns-in_err-right : goal.operations-returns-in_err-right
 operations-returns-in_err-right t c =

@@ -1,5 +1,6 @@
-use Rattle.std.proofs.Common.{◌≡◌, ℕ, ◌+◌, ◌*◌, ◌-◌, suc, length, map}
+use Rattle.std.proofs.Common.{◌≡◌, ◌≤◌, ℕ, ◌+◌, ◌*◌, ◌-◌, suc, length, map}
 use Rattle.ad_parser.specs.Chains.{held}
+use Rattle.ad_parser.specs.Levels.{climb}
 use Rattle.ad_parser.specs.Limits.{height_limit}
 use Rattle.ad_parser.specs.Parts.{part, parts, definition_parts}
 use Rattle.ad_parser.specs.Rules as rules
@@ -7,49 +8,52 @@ use Rattle.ad_parser.specs.Steps.{left, choices, collected, collected_definition
 use Rattle.ad_parser.proofs.grammar.+grammar.Given as goal
 
 abbrev pub decreases-expression : goal.decreases-expression
-decreases-expression l = 40 * l.fuel
+decreases-expression l = 60 * l.fuel
 
 abbrev pub decreases-conditionals : goal.decreases-conditionals
-decreases-conditionals l = 40 * l.fuel + 36
+decreases-conditionals l = 60 * l.fuel + 50
 
 abbrev pub decreases-level : goal.decreases-level
-decreases-level l = 40 * l.fuel + 12 + 2 * l.looseness
+decreases-level l = 60 * l.fuel + 13 + 3 * l.looseness
+
+abbrev pub decreases-climb : goal.decreases-climb
+decreases-climb l = 60 * l.fuel + 12 + 3 * l.looseness
 
 abbrev pub decreases-operations : goal.decreases-operations
-decreases-operations l = 40 * l.fuel + 11 + 2 * l.looseness
+decreases-operations l = 60 * l.fuel + 11 + 3 * l.looseness
 
 abbrev pub decreases-prefixes : goal.decreases-prefixes
-decreases-prefixes l = 40 * l.fuel + 10
+decreases-prefixes l = 60 * l.fuel + 10
 
 abbrev pub decreases-postfix : goal.decreases-postfix
-decreases-postfix l = 40 * l.fuel + 9
+decreases-postfix l = 60 * l.fuel + 9
 
 abbrev pub decreases-suffixes : goal.decreases-suffixes
-decreases-suffixes l = 40 * l.fuel + 1
+decreases-suffixes l = 60 * l.fuel + 1
 
 abbrev pub decreases-primary : goal.decreases-primary
-decreases-primary l = 40 * l.fuel + 8
+decreases-primary l = 60 * l.fuel + 8
 
 abbrev pub decreases-marked : goal.decreases-marked
-decreases-marked l = 40 * l.fuel + 7
+decreases-marked l = 60 * l.fuel + 7
 
 abbrev pub decreases-plain : goal.decreases-plain
-decreases-plain l = 40 * l.fuel + 7
+decreases-plain l = 60 * l.fuel + 7
 
 abbrev pub decreases-arguments : goal.decreases-arguments
-decreases-arguments l = 40 * l.fuel + 6
+decreases-arguments l = 60 * l.fuel + 6
 
 abbrev pub decreases-elements : goal.decreases-elements
-decreases-elements l = 40 * l.fuel + 6
+decreases-elements l = 60 * l.fuel + 6
 
 abbrev pub decreases-several : goal.decreases-several
-decreases-several l = 40 * l.fuel + 5
+decreases-several l = 60 * l.fuel + 5
 
 abbrev pub decreases-definitions : goal.decreases-definitions
-decreases-definitions l = 40 * l.fuel + 6
+decreases-definitions l = 60 * l.fuel + 6
 
 abbrev pub decreases-some_definitions : goal.decreases-some_definitions
-decreases-some_definitions l = 40 * l.fuel + 5
+decreases-some_definitions l = 60 * l.fuel + 5
 
 abbrev pub invariant-conditionals-loop-turns : goal.invariant-conditionals-loop-turns
 invariant-conditionals-loop-turns l =
@@ -58,6 +62,15 @@ invariant-conditionals-loop-turns l =
 
 abbrev pub decreases-conditionals-loop-turns : goal.decreases-conditionals-loop-turns
 decreases-conditionals-loop-turns l = l.turns
+
+abbrev pub invariant-climb-loop-next : goal.invariant-climb-loop-next
+invariant-climb-loop-next l =
+    (climb height_limit (rules.expression height_limit l.fuel) 0 l.looseness (part l.initial.operand) (left l.initial.reader)
+    ≡ climb height_limit (rules.expression height_limit l.fuel) l.reached (l.looseness - l.reached) (part l.operand) (left l.reader))
+    × (l.reached ≤ l.looseness)
+
+abbrev pub decreases-climb-loop-next : goal.decreases-climb-loop-next
+decreases-climb-loop-next l = l.looseness - l.reached
 
 abbrev pub invariant-operations-loop-turns : goal.invariant-operations-loop-turns
 invariant-operations-loop-turns l =

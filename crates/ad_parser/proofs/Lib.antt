@@ -14,7 +14,6 @@ pub mod MadeWordLemmas
 mod NodeLemmas
 mod ParseLemmas
 mod QuoteLemmas
-mod ReaderLemmas
 mod Readings
 mod RuleLemmas
 pub mod SettledLemmas

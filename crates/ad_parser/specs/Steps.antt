@@ -1,5 +1,5 @@
 -- What contracts see of the parser's place in its words, and what its rules answer.
-use Rattle.std.specs.Prelude.{◌≡◌, ℕ, Bool, true, false, List, [], ◌∷◌, ◌++◌, drop, map, Option, None, Some, option_map, Result, Ok, Err}
+use Rattle.std.specs.Prelude.{◌≡◌, ℕ, Bool, true, false, List, [], ◌∷◌, ◌++◌, reverse, map, Option, None, Some, option_map, Result, Ok, Err}
 use Rattle.std.specs.Option.{option_and_then}
 use Rattle.pool_text.specs.declared.language.UnOp.{UnOp}
 use Rattle.ad_tree.specs.Inline.{Inline, Inlines, Defs, no_defs}
@@ -19,7 +19,7 @@ use Rattle.ad_parser.specs.Words.{Word, mark, scope_of}
 
 -- the words that are left
 abbrev pub left : Reader → List Word
-left r = map meaning (drop r.at r.words.now)
+left r = map meaning (reverse r.words.items)
 
 -- the first word, and the mark that it is
 abbrev pub front : List Word → Option Word

@@ -28,7 +28,7 @@ pub fn hold(choices: &mut Vec<Choice>, condition: Part, first: Part) -> Result<(
 }
 
 /// The operators before an operand.
-pub fn read_operators(alloc: Global, reader: &mut Reader<'_, '_>) -> Result<Vec<UnOp>, OutOfMemory>
+pub fn read_operators(alloc: Global, reader: &mut Reader<'_>) -> Result<Vec<UnOp>, OutOfMemory>
     ensures { IfOk result (λ operators. (e : Rule) → prefixes height_limit e (left reader.old)
         ≡ wrapped operators.items (postfix height_limit e (left reader.new))) }
 {

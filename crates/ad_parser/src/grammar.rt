@@ -15,7 +15,6 @@ use crate::joining::{
     ad, add_definition, add_part, call, join, leaf, list, no_definitions, no_parts, selection,
     subscript,
 };
-use crate::literal::copy_literal;
 use crate::mark::Mark;
 use crate::node::Node;
 use crate::part::{DefinitionParts, Part, Parts};
@@ -31,7 +30,7 @@ const LOOSEST: usize = 10;
 
 /// An expression.
 #[cycle(grammar)]
-pub fn expression(alloc: Global, reader: &mut Reader<'_, '_>, fuel: usize) -> Result<Part, Stop>
+pub fn expression(alloc: Global, reader: &mut Reader<'_>, fuel: usize) -> Result<Part, Stop>
     ensures { Gives part (rules.expression height_limit fuel (left reader.old)) result (left reader.new) }
 {
     if fuel == 0 {
@@ -42,7 +41,7 @@ pub fn expression(alloc: Global, reader: &mut Reader<'_, '_>, fuel: usize) -> Re
 
 /// A conditional, or what binds tighter.
 #[cycle(grammar)]
-fn conditionals(alloc: Global, reader: &mut Reader<'_, '_>, fuel: usize) -> Result<Part, Stop>
+fn conditionals(alloc: Global, reader: &mut Reader<'_>, fuel: usize) -> Result<Part, Stop>
     ensures { Gives part (rules.conditionals height_limit (rules.expression height_limit fuel)
         (suc (length (left reader.old))) (left reader.old)) result (left reader.new) }
 {
@@ -65,7 +64,7 @@ fn conditionals(alloc: Global, reader: &mut Reader<'_, '_>, fuel: usize) -> Resu
 #[cycle(grammar)]
 fn level(
     alloc: Global,
-    reader: &mut Reader<'_, '_>,
+    reader: &mut Reader<'_>,
     fuel: usize,
     looseness: usize,
 ) -> Result<Part, Stop>
@@ -81,7 +80,7 @@ fn level(
 #[cycle(grammar)]
 fn climb(
     alloc: Global,
-    reader: &mut Reader<'_, '_>,
+    reader: &mut Reader<'_>,
     fuel: usize,
     looseness: usize,
     first: Part,
@@ -102,7 +101,7 @@ fn climb(
 #[cycle(grammar)]
 fn operations(
     alloc: Global,
-    reader: &mut Reader<'_, '_>,
+    reader: &mut Reader<'_>,
     fuel: usize,
     looseness: usize,
     first: Part,
@@ -127,7 +126,7 @@ fn operations(
 
 /// Operators before an operand.
 #[cycle(grammar)]
-fn prefixes(alloc: Global, reader: &mut Reader<'_, '_>, fuel: usize) -> Result<Part, Stop>
+fn prefixes(alloc: Global, reader: &mut Reader<'_>, fuel: usize) -> Result<Part, Stop>
     ensures { Gives part (rules.prefixes height_limit (rules.expression height_limit fuel) (left reader.old))
         result (left reader.new) }
 {
@@ -138,7 +137,7 @@ fn prefixes(alloc: Global, reader: &mut Reader<'_, '_>, fuel: usize) -> Result<P
 
 /// A primary with selections and subscripts behind it.
 #[cycle(grammar)]
-fn postfix(alloc: Global, reader: &mut Reader<'_, '_>, fuel: usize) -> Result<Part, Stop>
+fn postfix(alloc: Global, reader: &mut Reader<'_>, fuel: usize) -> Result<Part, Stop>
     ensures { Gives part (rules.postfix height_limit (rules.expression height_limit fuel) (left reader.old))
         result (left reader.new) }
 {
@@ -148,12 +147,7 @@ fn postfix(alloc: Global, reader: &mut Reader<'_, '_>, fuel: usize) -> Result<Pa
 
 /// Selections and subscripts behind an operand.
 #[cycle(grammar)]
-fn suffixes(
-    alloc: Global,
-    reader: &mut Reader<'_, '_>,
-    fuel: usize,
-    base: Part,
-) -> Result<Part, Stop>
+fn suffixes(alloc: Global, reader: &mut Reader<'_>, fuel: usize, base: Part) -> Result<Part, Stop>
     ensures { Gives part (rules.suffixes height_limit (rules.expression height_limit fuel)
         (length (left reader.old)) (part base) (left reader.old)) result (left reader.new) }
 {
@@ -177,34 +171,22 @@ fn suffixes(
 
 /// What needs no operator.
 #[cycle(grammar)]
-fn primary(alloc: Global, reader: &mut Reader<'_, '_>, fuel: usize) -> Result<Part, Stop>
+fn primary(alloc: Global, reader: &mut Reader<'_>, fuel: usize) -> Result<Part, Stop>
     ensures { Gives part (rules.primary height_limit (rules.expression height_limit fuel) (left reader.old))
         result (left reader.new) }
 {
-    match reader.peek() {
-        Some(Word::Constant(literal)) => {
-            reader.skip();
-            Ok(leaf(Node::Literal(copy_literal(literal)?)))
-        }
-        Some(Word::Plain(text)) => {
-            reader.skip();
-            plain(alloc, reader, fuel, text)
-        }
-        Some(Word::Quoted(text)) => {
-            reader.skip();
-            Ok(leaf(Node::Name(Scope::Bare, text.copy()?)))
-        }
-        Some(Word::Mark(mark)) => {
-            reader.skip();
-            marked(alloc, reader, fuel, *mark)
-        }
+    match reader.take() {
+        Some(Word::Constant(literal)) => Ok(leaf(Node::Literal(literal))),
+        Some(Word::Plain(text)) => plain(alloc, reader, fuel, text),
+        Some(Word::Quoted(text)) => Ok(leaf(Node::Name(Scope::Bare, text))),
+        Some(Word::Mark(mark)) => marked(alloc, reader, fuel, mark),
         None => Err(Stop::Grammar),
     }
 }
 
 /// A primary that begins with a mark, behind it.
 #[cycle(grammar)]
-fn marked(alloc: Global, reader: &mut Reader<'_, '_>, fuel: usize, mark: Mark) -> Result<Part, Stop>
+fn marked(alloc: Global, reader: &mut Reader<'_>, fuel: usize, mark: Mark) -> Result<Part, Stop>
     ensures { Gives part (rules.primary height_limit (rules.expression height_limit fuel) (mark_word mark ∷ left reader.old))
         result (left reader.new) }
 {
@@ -223,7 +205,7 @@ fn marked(alloc: Global, reader: &mut Reader<'_, '_>, fuel: usize, mark: Mark) -
 
 /// A plain name, a call, or a name in a scope.
 #[cycle(grammar)]
-fn plain(alloc: Global, reader: &mut Reader<'_, '_>, fuel: usize, text: &[u8]) -> Result<Part, Stop>
+fn plain(alloc: Global, reader: &mut Reader<'_>, fuel: usize, text: &[u8]) -> Result<Part, Stop>
     ensures { Gives part (rules.plain_at height_limit (rules.expression height_limit fuel) text.now (left reader.old))
         result (left reader.new) }
 {
@@ -236,7 +218,7 @@ fn plain(alloc: Global, reader: &mut Reader<'_, '_>, fuel: usize, text: &[u8]) -
 
 /// The arguments of a call behind its opening mark.
 #[cycle(grammar)]
-fn arguments(alloc: Global, reader: &mut Reader<'_, '_>, fuel: usize) -> Result<Parts, Stop>
+fn arguments(alloc: Global, reader: &mut Reader<'_>, fuel: usize) -> Result<Parts, Stop>
     ensures { Gives (λ p. cut_before (parts p) (Some end)) (rules.arguments (rules.expression height_limit fuel) (left reader.old))
         result (left reader.new) }
 {
@@ -250,7 +232,7 @@ fn arguments(alloc: Global, reader: &mut Reader<'_, '_>, fuel: usize) -> Result<
 
 /// The elements of a list behind its opening mark.
 #[cycle(grammar)]
-fn elements(alloc: Global, reader: &mut Reader<'_, '_>, fuel: usize) -> Result<Parts, Stop>
+fn elements(alloc: Global, reader: &mut Reader<'_>, fuel: usize) -> Result<Parts, Stop>
     ensures { Gives (λ p. cut_before (parts p) (Some end)) (rules.elements (rules.expression height_limit fuel) (left reader.old))
         result (left reader.new) }
 {
@@ -264,7 +246,7 @@ fn elements(alloc: Global, reader: &mut Reader<'_, '_>, fuel: usize) -> Result<P
 
 /// One expression or more, divided by commas.
 #[cycle(grammar)]
-fn several(alloc: Global, reader: &mut Reader<'_, '_>, fuel: usize) -> Result<Parts, Stop>
+fn several(alloc: Global, reader: &mut Reader<'_>, fuel: usize) -> Result<Parts, Stop>
     ensures { Gives (λ p. cut_before (parts p) (Some end))
         (rules.several (rules.expression height_limit fuel) (length (left reader.old)) (left reader.old))
         result (left reader.new) }
@@ -286,7 +268,7 @@ fn several(alloc: Global, reader: &mut Reader<'_, '_>, fuel: usize) -> Result<Pa
 #[cycle(grammar)]
 pub fn definitions(
     alloc: Global,
-    reader: &mut Reader<'_, '_>,
+    reader: &mut Reader<'_>,
     fuel: usize,
 ) -> Result<DefinitionParts, Stop>
     ensures { Gives (λ p. cut_defined_before (definition_parts p) (Some no_defs))
@@ -301,7 +283,7 @@ pub fn definitions(
 #[cycle(grammar)]
 fn some_definitions(
     alloc: Global,
-    reader: &mut Reader<'_, '_>,
+    reader: &mut Reader<'_>,
     fuel: usize,
 ) -> Result<DefinitionParts, Stop>
     ensures { Gives (λ p. cut_defined_before (definition_parts p) (Some no_defs))
@@ -324,7 +306,7 @@ fn some_definitions(
 }
 
 /// A plain name, where no call begins, or a name in a scope.
-fn named(alloc: Global, reader: &mut Reader<'_, '_>, text: &[u8]) -> Result<Part, Stop>
+fn named(alloc: Global, reader: &mut Reader<'_>, text: &[u8]) -> Result<Part, Stop>
     ensures { Gives part (reference text.now (left reader.old)) result (left reader.new) }
 {
     let Some(scope) = scope_of(text) else {

@@ -35,7 +35,7 @@ pub fn parse_ad(alloc: Global, text: &[u8]) -> Result<Ad, ParseFault>
     ensures { AnswersAd text.now result }
 {
     let words = shallow_words(alloc, text)?;
-    let Some(list) = read_ad(alloc, &words)? else {
+    let Some(list) = read_ad(alloc, words)? else {
         return Err(ParseFault::Depth);
     };
     check_counts(tally_definitions(&list))?;
@@ -48,7 +48,7 @@ pub fn parse_expr(alloc: Global, text: &[u8]) -> Result<Phrase, ParseFault>
     ensures { AnswersExpr text.now result }
 {
     let words = shallow_words(alloc, text)?;
-    let Part { node, .. } = read_expression(alloc, &words)?;
+    let Part { node, .. } = read_expression(alloc, words)?;
     let Some(node) = node else {
         return Err(ParseFault::Depth);
     };
@@ -71,8 +71,8 @@ fn shallow_words<'a>(alloc: Global, text: &'a [u8]) -> Result<Vec<Word<'a>>, Par
 }
 
 /// The tree of words that are an expression.
-fn read_expression(alloc: Global, words: &[Word<'_>]) -> Result<Part, Stop>
-    ensures { IsRead part (parsed_expr height_limit (map meaning words.now)) result }
+fn read_expression(alloc: Global, words: Vec<Word<'_>>) -> Result<Part, Stop>
+    ensures { IsRead part (parsed_expr height_limit (map meaning words.entry.items)) result }
 {
     let mut reader = Reader::new(words);
     let fuel = reader.count() + 1;
@@ -84,8 +84,8 @@ fn read_expression(alloc: Global, words: &[Word<'_>]) -> Result<Part, Stop>
 }
 
 /// The definitions of words that are an ad, nothing where its tree is too high.
-fn read_ad(alloc: Global, words: &[Word<'_>]) -> Result<Option<Definitions>, Stop>
-    ensures { IsRead literal_of (parsed_ad height_limit (map meaning words.now)) result }
+fn read_ad(alloc: Global, words: Vec<Word<'_>>) -> Result<Option<Definitions>, Stop>
+    ensures { IsRead literal_of (parsed_ad height_limit (map meaning words.entry.items)) result }
 {
     let mut reader = Reader::new(words);
     reader.expect(Mark::OpenBracket)?;

@@ -1,6 +1,4 @@
 // The parser's place in its words.
-ghost use Rattle.std.specs.Prelude.{◌≤◌, length};
-
 use crate::joining::Joint;
 use crate::mark::Mark;
 use crate::operators::{joint_of, prefix_of};
@@ -11,13 +9,12 @@ use std::alloc::Global;
 
 /// The words of a text from a place on.
 #[derive(Debug, Drop)]
-pub struct Reader<'a, 'b> {
-    words: &'a [Word<'b>],
-    at: usize,
-    ghost within: { at ≤ length words.now },
+pub struct Reader<'a> {
+    // The next word stands last, so that it is taken without a copy.
+    words: Vec<Word<'a>>,
 }
 
-impl<'a, 'b> Reader<'a, 'b> {
+impl<'a> Reader<'a> {
     ghost use Rattle.std.specs.Prelude.{◌≡◌, ◌<◌, ◌≤◌, ◌∷◌, ℕ, List, drop, length, map, option_map, Some, None, Ok, Err};
     ghost use Rattle.std.specs.Bool.{Decides};
     ghost use Rattle.ad_parser.specs.Levels.{looseness_at};
@@ -29,31 +26,33 @@ impl<'a, 'b> Reader<'a, 'b> {
     ghost use Rattle.ad_parser.specs.declared.stop.Stop.{Stop};
 
     /// The place in front of the first word.
-    pub fn new(words: &'a [Word<'b>]) -> Reader<'a, 'b>
-        ensures { left result ≡ map meaning words.now }
+    pub fn new(words: Vec<Word<'a>>) -> Reader<'a>
+        ensures { left result ≡ map meaning words.entry.items }
     {
-        Reader { words, at: 0 }
+        let mut words = words;
+        words.reverse();
+        Reader { words }
     }
 
     /// How many words are left.
     pub fn count(&self) -> usize
         ensures { result ≡ length (left self.now) }
     {
-        self.words.len() - self.at
+        self.words.len()
     }
 
-    pub fn peek(&self) -> Option<&'a Word<'b>>
+    fn peek(&self) -> Option<&Word<'a>>
         ensures { option_map (λ w. meaning w.now) result ≡ front (left self.now) }
     {
-        self.words.get(self.at)
+        self.words.last()
     }
 
-    pub fn skip(&mut self)
-        ensures { left self.new ≡ drop 1 (left self.old) }
+    /// Takes the next word.
+    pub fn take(&mut self) -> Option<Word<'a>>
+        ensures word { option_map meaning result ≡ front (left self.old) }
+        ensures left { left self.new ≡ drop 1 (left self.old) }
     {
-        if self.at < self.words.len() {
-            self.at += 1;
-        }
+        self.words.pop()
     }
 
     /// The next word, where it is a mark.
@@ -86,6 +85,12 @@ impl<'a, 'b> Reader<'a, 'b> {
         true
     }
 
+    fn skip(&mut self)
+        ensures { left self.new ≡ drop 1 (left self.old) }
+    {
+        let _word = self.take();
+    }
+
     /// Takes the mark, which is to stand next.
     pub fn expect(&mut self, mark: Mark) -> Result<(), Stop>
         ensures ok { (done : Unit {0}) → result ≡ Ok done → left self.old ≡ mark_word mark ∷ left self.new }
@@ -102,15 +107,9 @@ impl<'a, 'b> Reader<'a, 'b> {
     pub fn name(&mut self, alloc: Global) -> Result<Text, Stop>
         ensures { Gives (λ (t : List ℕ). t) (name_at (left self.old)) result (left self.new) }
     {
-        match self.peek() {
-            Some(Word::Plain(text)) => {
-                self.skip();
-                Ok(Text::from_bytes(alloc, text)?)
-            }
-            Some(Word::Quoted(text)) => {
-                self.skip();
-                Ok(text.copy()?)
-            }
+        match self.take() {
+            Some(Word::Plain(text)) => Ok(Text::from_bytes(alloc, text)?),
+            Some(Word::Quoted(text)) => Ok(text),
             _ => Err(Stop::Grammar),
         }
     }

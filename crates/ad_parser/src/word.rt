@@ -28,7 +28,7 @@ pub fn read_words<'a>(alloc: Global, tokens: &Tokens<'a>) -> Result<Vec<Word<'a>
     requires { AreSpelled tokens.now }
     ensures { IfOk result (λ list. map meaning list.items ≡ words tokens.now) }
 {
-    let mut list = Vec::new(alloc);
+    let mut list = Vec::with_capacity(alloc, tokens.len())?;
     for i in 0..tokens.len() {
         list.push(read_word(alloc, tokens.at(i))?)?;
     }

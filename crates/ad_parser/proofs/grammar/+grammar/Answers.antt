@@ -119,7 +119,7 @@ climb-loop-next-preserved t c =
     let w = climb height_limit e 0 c.args.looseness (part c.args.first) (left c.args.reader.now) in
     let next = c.in-Some.ensures.some c.in-Some.next refl in (
       climb-more e w c.loop-next.reached c.args.looseness (part c.loop-next.operand) (left c.loop-next.reader) c.loop-next.invariant.0
-      c.in-Some.next next.1 next.2 next.0 (part c.in_ok-operand.operand) (left c.operations.new.reader) (c.in_ok-operand.ensures.ok c.in_ok-operand.operand refl),
+          c.in-Some.next next.1 next.2 next.0 (part c.in_ok-operand.operand) (left c.operations.new.reader) (c.in_ok-operand.ensures.ok c.in_ok-operand.operand refl),
       next.2,
     )
 

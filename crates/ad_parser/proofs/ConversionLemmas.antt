@@ -1,5 +1,6 @@
 -- The steps of the conversion of trees into a draft.
-use Rattle.std.proofs.Common.{refl, arith, ◌≡◌, ◌≤◌, ◌<◌, ℕ, zero, suc, ◌+◌, List, [], ◌∷◌, ◌++◌, length, map, take, ap, sym, ◌∙◌, subst, Some, slice_get, Result, Ok, Err, IfOk}
+use Rattle.std.proofs.Common.{refl, arith, ◌≡◌, ◌<◌, ℕ, List, [], ◌∷◌, ◌++◌, length, map, ap, sym, ◌∙◌, subst, Result, Ok, Err, IfOk}
+use Rattle.std.proofs.lemmas.List.{map-append}
 use Rattle.ad_tree.specs.Tree.{Tree, Trees, frame, pack as pack_trees}
 use Rattle.ad_tree.specs.Frames.{Frame, empty_frame, defined, settled_frame}
 use Rattle.ad_tree.specs.Inline.{Inline, Inlines, inner, Defs, no_defs, frames, spelled, spelled_tree, number, ad_of, phrase_of, phrase_tree}
@@ -8,18 +9,20 @@ use Rattle.ad_tree.proofs.InlineLemmas.{next_last, def_last, pack-push}
 use Rattle.ad_tree.proofs.PlacedLemmas.{length-placed, length-all_placed, last-placed, new-defined, next-defined, defined-placed}
 use Rattle.ad_tree.proofs.SpellingLemmas.{ad_of-finished, phrase_of-finished}
 use Rattle.ad_parser.specs.Converted.{Completes}
-use Rattle.ad_parser.specs.Nodes.{pack, pack_definitions}
-use Rattle.ad_parser.proofs.ListLemmas.{take-next, pack-last, pack_definitions-last}
+use Rattle.ad_parser.specs.declared.node.Node.{Node}
+use Rattle.ad_parser.specs.declared.node.Definition.{Definition}
+use Rattle.ad_parser.specs.Nodes.{inline, pack, pack_definitions}
+use Rattle.ad_parser.proofs.ListLemmas.{named, pack-last, pack_definitions-last}
 
 -- one tree of a list more is placed
-pub list-converted : {p : ℕ} (is : List Inline) (j : ℕ) (i : Inline) (us vs : List Tree) (t : Tree) {before between after : List Frame}
-    → slice_get is j ≡ Some i → vs ≡ us ++ t ∷ []
-    → AreAllPlaced p (pack (take j is)) (pack_trees us) before between → IsPlaced p i t between after
-    → AreAllPlaced p (pack (take (j + 1) is)) (pack_trees vs) before after
-list-converted {p} is j i us vs t {before} {between} {after} at push h one =
+pub list-converted : {p : ℕ} (ns : List Node) (n : Node) (us vs : List Tree) (t : Tree) {before between after : List Frame}
+    → vs ≡ us ++ t ∷ []
+    → AreAllPlaced p (pack (map inline ns)) (pack_trees us) before between → IsPlaced p (inline n) t between after
+    → AreAllPlaced p (pack (map inline (ns ++ n ∷ []))) (pack_trees vs) before after
+list-converted {p} ns n us vs t {before} {between} {after} push h one =
     subst (λ xs. AreAllPlaced p xs (pack_trees vs) before after)
-    (sym (ap pack (take-next is j i at) ∙ pack-last (take j is) i))
-    (subst (λ cs. AreAllPlaced p (next_last (pack (take j is)) i) cs before after)
+    (sym (ap pack (map-append inline ns (n ∷ [])) ∙ pack-last (map inline ns) (inline n)))
+    (subst (λ cs. AreAllPlaced p (next_last (pack (map inline ns)) (inline n)) cs before after)
     (sym (ap pack_trees push ∙ pack-push us t))
     (last-placed h one))
 
@@ -40,14 +43,14 @@ next-completed {f} {ds} name {i} {t} {before} {between} {placed} {after} h k e s
   there = omega (arith, h.there, length-placed k, same);
 }
 
-pub definition-converted : {f : ℕ} (ds : List (List ℕ × Inline)) (j : ℕ) (name : List ℕ) (i : Inline) (t : Tree) {before between placed after : List Frame}
-    → slice_get ds j ≡ Some (name, i)
-    → Completes f (pack_definitions (take j ds)) before between → IsPlaced f i t between placed → after ≡ defined placed f name t → length after ≡ length placed
-    → Completes f (pack_definitions (take (j + 1) ds)) before after
-definition-converted {f} ds j name i t {before} {between} {placed} {after} at h k e same =
+pub definition-converted : {f : ℕ} (ds : List Definition) (d : Definition) (t : Tree) {before between placed after : List Frame}
+    → Completes f (pack_definitions (map named ds)) before between → IsPlaced f (inline d.node) t between placed
+    → after ≡ defined placed f d.name t → length after ≡ length placed
+    → Completes f (pack_definitions (map named (ds ++ d ∷ []))) before after
+definition-converted {f} ds d t {before} {between} {placed} {after} h k e same =
     subst (λ es. Completes f es before after)
-    (sym (ap pack_definitions (take-next ds j (name, i) at) ∙ pack_definitions-last (take j ds) name i))
-    (next-completed name h k e same)
+    (sym (ap pack_definitions (map-append named ds (d ∷ [])) ∙ pack_definitions-last (map named ds) d.name (inline d.node)))
+    (next-completed d.name h k e same)
 
 -- an ad literal with all its definitions is placed
 pub frame-converted : (parent n : ℕ) {ds : Defs} {before pushed after : List Frame}

@@ -1,6 +1,6 @@
 -- The parser's lists of trees, item by item.
-use Rattle.std.proofs.Common.{refl, arith, ◌≡◌, ◌≤◌, ℕ, zero, suc, ◌+◌, max, List, [], ◌∷◌, ◌++◌, map, take, ap, sym, ◌∙◌, Some, slice_get, add-one}
-use Rattle.ad_tree.specs.Inline.{Inline, Inlines, Defs, next, def, height, highest, highest_def}
+use Rattle.std.proofs.Common.{refl, arith, ◌≡◌, ◌≤◌, ◌<◌, ℕ, zero, suc, ◌+◌, List, [], ◌∷◌, ◌++◌, map, take, length, get_or, ap, sym, subst, ◌∙◌, Some, slice_get, add-one}
+use Rattle.ad_tree.specs.Inline.{Inline, next, def, height, highest, highest_def}
 use Rattle.ad_tree.proofs.InlineLemmas.{next_last, def_last}
 use Rattle.ad_parser.specs.declared.node.Node.{Node}
 use Rattle.ad_parser.specs.declared.node.Nodes.{Nodes, fold_out-Nodes}
@@ -17,10 +17,14 @@ map-same f g h (x ∷ xs) = ap (λ y. y ∷ map f xs) (h x) ∙ ap (λ ys. g x �
 pub inlines-items : (l : Nodes) → inlines l ≡ map inline l.items.items
 inlines-items l = fold_out-Nodes Inline (List ℕ × Inline) (List (List ℕ × Inline)) (List Inline) layer (λ d. (d.name, d.node)) (λ l. l.items.items) (λ l. l.items.items) l
 
-pub definitions-items : (l : Definitions) → definitions l ≡ map (λ d. (d.name, inline d.node)) (out-Definitions l).items.items
+-- a definition as contracts see it
+abbrev pub named : Definition → List ℕ × Inline
+named d = (d.name, inline d.node)
+
+pub definitions-items : (l : Definitions) → definitions l ≡ map named (out-Definitions l).items.items
 definitions-items l =
     fold_out-Definitions Inline (List ℕ × Inline) (List (List ℕ × Inline)) (List Inline) layer (λ d. (d.name, d.node)) (λ l. l.items.items) (λ l. l.items.items) l
-    ∙ map-same _ (λ d. (d.name, inline d.node)) (λ d. fold_out-Definition Inline (List ℕ × Inline) (List (List ℕ × Inline)) (List Inline) layer (λ d. (d.name, d.node)) (λ l. l.items.items) (λ l. l.items.items) d) (out-Definitions l).items.items
+    ∙ map-same _ named (λ d. fold_out-Definition Inline (List ℕ × Inline) (List (List ℕ × Inline)) (List Inline) layer (λ d. (d.name, d.node)) (λ l. l.items.items) (λ l. l.items.items) d) (out-Definitions l).items.items
 
 -- one item more from the front
 pub take-next : {A : Type 0} (xs : List A) (j : ℕ) (x : A) → slice_get xs j ≡ Some x → take (j + 1) xs ≡ take j xs ++ x ∷ []
@@ -50,3 +54,21 @@ pub height-defined_at : (ds : List (List ℕ × Inline)) (j : ℕ) (d : List ℕ
 height-defined_at [] j d e = absurd (cc)
 height-defined_at (h ∷ hs) zero d e = let same : h ≡ d = cc in omega (arith, ap (λ x. height x.1) same)
 height-defined_at (h ∷ hs) (suc j) d e = omega (arith, height-defined_at hs j d e)
+
+-- and so is an item that is taken out of it
+height-item : (ns : List Node) (j : ℕ) (n : Node) → j < length ns → n ≡ get_or ns j n → height (inline n) ≤ highest (pack (map inline ns))
+height-item [] j n within e = absurd (omega arith)
+height-item (m ∷ ms) zero n within e = omega (arith, ap (λ x. height (inline x)) e)
+height-item (m ∷ ms) (suc j) n within e = omega (arith, height-item ms j n (omega arith) e)
+
+pub height-taken : (l : Nodes) (j : ℕ) (n : Node) → j < length l.items.items → n ≡ get_or l.items.items j n → height (inline n) ≤ highest (pack (inlines l))
+height-taken l j n within e = subst (λ is. height (inline n) ≤ highest (pack is)) (sym (inlines-items l)) (height-item l.items.items j n within e)
+
+height-defined : (ds : List Definition) (j : ℕ) (d : Definition) → j < length ds → d ≡ get_or ds j d → height (inline d.node) ≤ highest_def (pack_definitions (map named ds))
+height-defined [] j d within e = absurd (omega arith)
+height-defined (c ∷ cs) zero d within e = omega (arith, ap (λ x. height (inline x.node)) e)
+height-defined (c ∷ cs) (suc j) d within e = omega (arith, height-defined cs j d (omega arith) e)
+
+pub height-defined_taken : (l : Definitions) (j : ℕ) (d : Definition) → j < length (out-Definitions l).items.items → d ≡ get_or (out-Definitions l).items.items j d
+    → height (inline d.node) ≤ highest_def (pack_definitions (definitions l))
+height-defined_taken l j d within e = subst (λ ds. height (inline d.node) ≤ highest_def (pack_definitions ds)) (sym (definitions-items l)) (height-defined (out-Definitions l).items.items j d within e)

@@ -1,5 +1,5 @@
 // A tree with its ad literals in place becomes an ad: each ad literal opens a frame of a draft, and its definitions are
-// made there one after another.
+// made there one after another. The tree is used up, so that its names and strings move into the ad.
 ghost use Rattle.std.specs.Prelude.{◌≡◌, ◌<◌, length, IfOk, OnOk};
 ghost use Rattle.ad_tree.specs.Ad.{ad_frames};
 ghost use Rattle.ad_tree.specs.Draft.{draft_frames};
@@ -9,15 +9,14 @@ ghost use Rattle.ad_tree.specs.Tree.{tree, trees, frame as frame_numbered, pack 
 ghost use Rattle.ad_parser.specs.Converted.{Completes};
 ghost use Rattle.ad_parser.specs.Nodes.{inline, inlines, definitions as definitions_of, pack, pack_definitions};
 
-use crate::literal::copy_literal;
-use crate::node::{Definitions, Node, Nodes};
+use crate::node::{Definition, Definitions, Node, Nodes};
 use ad_tree::{Ad, Draft, Expr, Exprs, Phrase};
 use pool_text::OutOfMemory;
 use std::alloc::Global;
 
 /// The ad of these definitions.
-pub fn convert_ad(alloc: Global, definitions: &Definitions) -> Result<Ad, OutOfMemory>
-    ensures { IfOk result (λ ad. ad_frames ad ≡ ad_of (inner (pack_definitions (definitions_of definitions.now)))) }
+pub fn convert_ad(alloc: Global, definitions: Definitions) -> Result<Ad, OutOfMemory>
+    ensures { IfOk result (λ ad. ad_frames ad ≡ ad_of (inner (pack_definitions (definitions_of definitions)))) }
 {
     let mut draft = Draft::new(alloc);
     define_all(alloc, &mut draft, 0, definitions)?;
@@ -25,9 +24,9 @@ pub fn convert_ad(alloc: Global, definitions: &Definitions) -> Result<Ad, OutOfM
 }
 
 /// The tree as an expression that stands alone, with the ad of its ad literals.
-pub fn convert_phrase(alloc: Global, node: &Node) -> Result<Phrase, OutOfMemory>
+pub fn convert_phrase(alloc: Global, node: Node) -> Result<Phrase, OutOfMemory>
     ensures { IfOk result (λ phrase.
-        (ad_frames phrase.ad ≡ phrase_of (inline node.now)) × (tree phrase.expr ≡ phrase_tree (inline node.now))) }
+        (ad_frames phrase.ad ≡ phrase_of (inline node)) × (tree phrase.expr ≡ phrase_tree (inline node))) }
 {
     let mut draft = Draft::new(alloc);
     let expr = convert(alloc, &mut draft, 0, node)?;
@@ -36,17 +35,17 @@ pub fn convert_phrase(alloc: Global, node: &Node) -> Result<Phrase, OutOfMemory>
 
 /// The expression of a tree that stands in the frame `parent`. Its ad literals are added to the draft.
 #[cycle(converting)]
-fn convert(alloc: Global, draft: &mut Draft, parent: u32, node: &Node) -> Result<Expr, OutOfMemory>
+fn convert(alloc: Global, draft: &mut Draft, parent: u32, node: Node) -> Result<Expr, OutOfMemory>
     requires { parent < length (draft_frames draft.old) }
-    ensures { IfOk result (λ expr. IsPlaced parent (inline node.now) (tree expr) (draft_frames draft.old) (draft_frames draft.new)) }
+    ensures { IfOk result (λ expr. IsPlaced parent (inline node) (tree expr) (draft_frames draft.old) (draft_frames draft.new)) }
 {
     match node {
-        Node::Literal(literal) => Ok(Expr::Literal(copy_literal(literal)?)),
-        Node::Name(scope, name) => Ok(Expr::Name(*scope, name.copy()?)),
-        Node::Unary(op, a) => Ok(Expr::Unary(*op, convert_boxed(alloc, draft, parent, a)?)),
+        Node::Literal(literal) => Ok(Expr::Literal(literal)),
+        Node::Name(scope, name) => Ok(Expr::Name(scope, name)),
+        Node::Unary(op, a) => Ok(Expr::Unary(op, convert_boxed(alloc, draft, parent, a)?)),
         Node::Binary(op, a, b) => {
             let (a, b) = convert_two(alloc, draft, parent, a, b)?;
-            Ok(Expr::Binary(*op, a, b))
+            Ok(Expr::Binary(op, a, b))
         }
         Node::And(nodes) => Ok(Expr::And(convert_all(alloc, draft, parent, nodes)?)),
         Node::Or(nodes) => Ok(Expr::Or(convert_all(alloc, draft, parent, nodes)?)),
@@ -56,7 +55,7 @@ fn convert(alloc: Global, draft: &mut Draft, parent: u32, node: &Node) -> Result
         }
         Node::Select(a, name) => {
             let a = convert_boxed(alloc, draft, parent, a)?;
-            Ok(Expr::Select(a, name.copy()?))
+            Ok(Expr::Select(a, name))
         }
         Node::Subscript(a, b) => {
             let (a, b) = convert_two(alloc, draft, parent, a, b)?;
@@ -64,7 +63,7 @@ fn convert(alloc: Global, draft: &mut Draft, parent: u32, node: &Node) -> Result
         }
         Node::Call(name, nodes) => {
             let list = convert_all(alloc, draft, parent, nodes)?;
-            Ok(Expr::Call(name.copy()?, list))
+            Ok(Expr::Call(name, list))
         }
         Node::List(nodes) => Ok(Expr::List(convert_all(alloc, draft, parent, nodes)?)),
         Node::Ad(definitions) => Ok(Expr::Frame(open(alloc, draft, parent, definitions)?)),
@@ -76,12 +75,12 @@ fn convert_boxed(
     alloc: Global,
     draft: &mut Draft,
     parent: u32,
-    node: &Node,
+    node: Box<Node>,
 ) -> Result<Box<Expr>, OutOfMemory>
     requires { parent < length (draft_frames draft.old) }
-    ensures { IfOk result (λ expr. IsPlaced parent (inline node.now) (tree expr.value) (draft_frames draft.old) (draft_frames draft.new)) }
+    ensures { IfOk result (λ expr. IsPlaced parent (inline node.value) (tree expr.value) (draft_frames draft.old) (draft_frames draft.new)) }
 {
-    let expr = convert(alloc, draft, parent, node)?;
+    let expr = convert(alloc, draft, parent, Box::into_inner(node))?;
     Ok(Box::new(alloc, expr)?)
 }
 
@@ -90,11 +89,11 @@ fn convert_two(
     alloc: Global,
     draft: &mut Draft,
     parent: u32,
-    a: &Node,
-    b: &Node,
+    a: Box<Node>,
+    b: Box<Node>,
 ) -> Result<(Box<Expr>, Box<Expr>), OutOfMemory>
     requires { parent < length (draft_frames draft.old) }
-    ensures { IfOk result (λ exprs. AreAllPlaced parent (next (inline a.now) (next (inline b.now) end))
+    ensures { IfOk result (λ exprs. AreAllPlaced parent (next (inline a.value) (next (inline b.value) end))
         (more (tree exprs.0.value) (more (tree exprs.1.value) none)) (draft_frames draft.old) (draft_frames draft.new)) }
 {
     let a = convert_boxed(alloc, draft, parent, a)?;
@@ -107,11 +106,11 @@ fn convert_three(
     alloc: Global,
     draft: &mut Draft,
     parent: u32,
-    nodes: (&Node, &Node, &Node),
+    nodes: (Box<Node>, Box<Node>, Box<Node>),
 ) -> Result<(Box<Expr>, Box<Expr>, Box<Expr>), OutOfMemory>
     requires { parent < length (draft_frames draft.old) }
     ensures { IfOk result (λ exprs. AreAllPlaced parent
-        (next (inline nodes.entry.0.now) (next (inline nodes.entry.1.now) (next (inline nodes.entry.2.now) end)))
+        (next (inline nodes.0.value) (next (inline nodes.1.value) (next (inline nodes.2.value) end)))
         (more (tree exprs.0.value) (more (tree exprs.1.value) (more (tree exprs.2.value) none)))
         (draft_frames draft.old) (draft_frames draft.new)) }
 {
@@ -126,15 +125,15 @@ fn convert_all(
     alloc: Global,
     draft: &mut Draft,
     parent: u32,
-    nodes: &Nodes,
+    nodes: Nodes,
 ) -> Result<Exprs, OutOfMemory>
     requires { parent < length (draft_frames draft.old) }
-    ensures { IfOk result (λ exprs. AreAllPlaced parent (pack (inlines nodes.now)) (pack_trees (trees exprs))
+    ensures { IfOk result (λ exprs. AreAllPlaced parent (pack (inlines nodes)) (pack_trees (trees exprs))
         (draft_frames draft.old) (draft_frames draft.new)) }
 {
     let mut exprs = Exprs::new(alloc);
-    for i in 0..nodes.len() {
-        let expr = convert(alloc, draft, parent, nodes.at(i))?;
+    for node in nodes.items {
+        let expr = convert(alloc, draft, parent, node)?;
         exprs.push(expr)?;
     }
     Ok(exprs)
@@ -146,10 +145,10 @@ fn open(
     alloc: Global,
     draft: &mut Draft,
     parent: u32,
-    list: &Definitions,
+    list: Definitions,
 ) -> Result<u32, OutOfMemory>
     requires { parent < length (draft_frames draft.old) }
-    ensures { IfOk result (λ number. IsPlaced parent (inner (pack_definitions (definitions_of list.now))) (frame_numbered number)
+    ensures { IfOk result (λ number. IsPlaced parent (inner (pack_definitions (definitions_of list))) (frame_numbered number)
         (draft_frames draft.old) (draft_frames draft.new)) }
 {
     let frame = draft.frame(parent)?;
@@ -163,16 +162,16 @@ fn define_all(
     alloc: Global,
     draft: &mut Draft,
     frame: u32,
-    list: &Definitions,
+    list: Definitions,
 ) -> Result<(), OutOfMemory>
     requires { frame < length (draft_frames draft.old) }
-    ensures { OnOk result (Completes frame (pack_definitions (definitions_of list.now))
+    ensures { OnOk result (Completes frame (pack_definitions (definitions_of list))
         (draft_frames draft.old) (draft_frames draft.new)) }
 {
-    for i in 0..list.len() {
-        let definition = list.at(i);
-        let expr = convert(alloc, draft, frame, &definition.node)?;
-        draft.define(frame, definition.name.copy()?, expr)?;
+    for definition in list.items {
+        let Definition { name, node } = definition;
+        let expr = convert(alloc, draft, frame, node)?;
+        draft.define(frame, name, expr)?;
     }
     Ok(())
 }

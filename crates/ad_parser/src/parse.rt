@@ -39,7 +39,7 @@ pub fn parse_ad(alloc: Global, text: &[u8]) -> Result<Ad, ParseFault>
         return Err(ParseFault::Depth);
     };
     check_counts(tally_definitions(&list))?;
-    Ok(convert_ad(alloc, &list)?)
+    Ok(convert_ad(alloc, list)?)
 }
 
 /// The expression that a text spells, with the ad of its ad literals.
@@ -53,7 +53,7 @@ pub fn parse_expr(alloc: Global, text: &[u8]) -> Result<Phrase, ParseFault>
         return Err(ParseFault::Depth);
     };
     check_counts(tally(&node))?;
-    Ok(convert_phrase(alloc, &node)?)
+    Ok(convert_phrase(alloc, node)?)
 }
 
 /// The words of a text, where no more constructs are open at once than may be.

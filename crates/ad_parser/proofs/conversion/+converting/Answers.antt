@@ -1,11 +1,15 @@
-use Rattle.std.proofs.Common.{arith, ◌∙◌, ap}
+use Rattle.std.proofs.Common.{arith, rules, map, map-id, ap, sym, subst, ◌∙◌}
+use Rattle.std.proofs.lemmas.Iterator.Adapters.{YieldsList-from_vec}
+use Rattle.std.proofs.lemmas.Iterator.Consumers.{YieldsList-turn, YieldsList-end}
 use Rattle.ad_tree.specs.Draft.{draft_frames}
-use Rattle.ad_tree.specs.Frames.{defined}
-use Rattle.ad_tree.specs.Tree.{tree, trees}
+use Rattle.ad_tree.specs.Placed.{AreAllPlaced}
+use Rattle.ad_tree.specs.Tree.{tree, trees, pack as pack_trees}
 use Rattle.ad_tree.proofs.PlacedLemmas.{next-placed, one-placed}
-use Rattle.ad_parser.specs.Nodes.{inline, inlines, definitions as definitions_of}
+use Rattle.ad_parser.specs.Converted.{Completes}
+use Rattle.ad_parser.specs.Nodes.{inline, pack, pack_definitions}
+use Rattle.ad_parser.specs.declared.node.Definitions.{out-Definitions}
 use Rattle.ad_parser.proofs.ConversionLemmas.{list-converted, definition-converted, frame-converted, stays-there}
-use Rattle.ad_parser.proofs.ListLemmas.{height-at, height-defined_at}
+use Rattle.ad_parser.proofs.ListLemmas.{named, inlines-items, definitions-items, height-taken, height-defined_taken}
 use Rattle.ad_parser.proofs.conversion.+converting.Goals as goal
 
 pub convert_two-returns : goal.convert_two-returns
@@ -15,28 +19,46 @@ pub convert_three-returns : goal.convert_three-returns
 convert_three-returns t c = next-placed c.in_ok-a.ensures c.in_ok-b.ensures
 
 pub convert_all-convert-requires : goal.convert_all-convert-requires
-convert_all-convert-requires t c = (
-  omega (arith, c.decreases, height-at (inlines c.args.nodes.now) c.loop-i.i (inline c.at.result.now) c.at.ensures),
-  stays-there c.requires c.loop-i.invariant,
-)
+convert_all-convert-requires t c =
+    let turn = YieldsList-turn (YieldsList-from_vec {s = c.into_iter-node-iterator.result} c.args.nodes.items.items (search rules) (search rules))
+    c.loop-node.yielded c.loop-node.node-iterator c.loop-node.yielded_by c.next.result c.next.new.self c.in-Some.node c.in-Some.is c.next.ensures.steps in (
+      omega (arith, c.decreases, height-taken c.args.nodes _ c.in-Some.node turn.0 turn.1),
+      stays-there c.requires c.loop-node.invariant,
+    )
 
-pub convert_all-loop-i-preserved : goal.convert_all-loop-i-preserved
-convert_all-loop-i-preserved t c =
-    list-converted (inlines c.args.nodes.now) c.loop-i.i (inline c.at.result.now) (trees c.loop-i.exprs) (trees c.push.new.self) (tree c.in_ok-expr.expr)
-    c.at.ensures c.in_ok-push.ensures.ok c.loop-i.invariant c.in_ok-expr.ensures
+pub convert_all-loop-node-preserved : goal.convert_all-loop-node-preserved
+convert_all-loop-node-preserved t c =
+    list-converted c.loop-node.yielded c.in-Some.node (trees c.loop-node.exprs) (trees c.push.new.self) (tree c.in_ok-expr.expr)
+    c.in_ok-push.ensures.ok c.loop-node.invariant c.in_ok-expr.ensures
+
+pub convert_all-returns : goal.convert_all-returns
+convert_all-returns t c =
+    let end = YieldsList-end (YieldsList-from_vec {s = c.into_iter-node-iterator.result} c.args.nodes.items.items (search rules) (search rules))
+    c.loop-node.yielded c.loop-node.node-iterator c.loop-node.yielded_by c.next.result c.next.new.self c.in-None.is c.next.ensures.steps in
+    subst (λ is. AreAllPlaced c.args.parent (pack is) (pack_trees (trees c.loop-node.exprs)) (draft_frames c.args.draft.now) (draft_frames c.loop-node.draft))
+    (ap (map inline) (sym (map-id c.loop-node.yielded) ∙ end.0) ∙ sym (inlines-items c.args.nodes))
+    c.loop-node.invariant
 
 pub open-returns : goal.open-returns
 open-returns t c = frame-converted c.args.parent c.in_ok-frame.frame c.in_ok-frame.ensures.number c.in_ok-frame.ensures.ok c.in_ok-define_all.ensures
 
 pub define_all-convert-requires : goal.define_all-convert-requires
-define_all-convert-requires t c = (
-  omega (arith, c.decreases, height-defined_at (definitions_of c.args.list.now) c.loop-i.i _ c.at-definition.ensures),
-  c.loop-i.invariant.there,
-)
+define_all-convert-requires t c =
+    let turn = YieldsList-turn (YieldsList-from_vec {s = c.into_iter-definition-iterator.result} (out-Definitions c.args.list).items.items (search rules) (search rules))
+    c.loop-definition.yielded c.loop-definition.definition-iterator c.loop-definition.yielded_by c.next.result c.next.new.self c.in-Some.definition c.in-Some.is c.next.ensures.steps in (
+      omega (arith, c.decreases, height-defined_taken c.args.list _ c.in-Some.definition turn.0 turn.1),
+      c.loop-definition.invariant.there,
+    )
 
-pub define_all-loop-i-preserved : goal.define_all-loop-i-preserved
-define_all-loop-i-preserved t c =
-    definition-converted (definitions_of c.args.list.now) c.loop-i.i c.at-definition.result.now.name (inline c.at-definition.result.now.node) (tree c.in_ok-expr.expr)
-    c.at-definition.ensures c.loop-i.invariant c.in_ok-expr.ensures
-    (c.in_ok-define.ensures.ok ∙ ap (λ name. defined (draft_frames c.convert.new.draft) c.args.frame name (tree c.in_ok-expr.expr)) c.in_ok-copy.ensures)
-    c.in_ok-define.ensures.len
+pub define_all-loop-definition-preserved : goal.define_all-loop-definition-preserved
+define_all-loop-definition-preserved t c =
+    definition-converted c.loop-definition.yielded c.in-Some.definition (tree c.in_ok-expr.expr)
+    c.loop-definition.invariant c.in_ok-expr.ensures c.in_ok-define.ensures.ok c.in_ok-define.ensures.len
+
+pub define_all-returns : goal.define_all-returns
+define_all-returns t c =
+    let end = YieldsList-end (YieldsList-from_vec {s = c.into_iter-definition-iterator.result} (out-Definitions c.args.list).items.items (search rules) (search rules))
+    c.loop-definition.yielded c.loop-definition.definition-iterator c.loop-definition.yielded_by c.next.result c.next.new.self c.in-None.is c.next.ensures.steps in
+    subst (λ ds. Completes c.args.frame (pack_definitions ds) (draft_frames c.args.draft.now) (draft_frames c.loop-definition.draft))
+    (ap (map named) (sym (map-id c.loop-definition.yielded) ∙ end.0) ∙ sym (definitions-items c.args.list))
+    c.loop-definition.invariant

@@ -1,37 +1,38 @@
-use Rattle.std.proofs.Common.{◌+◌, ◌*◌, max, take}
+use Rattle.std.proofs.Common.{◌+◌, ◌*◌, max, map}
 use Rattle.ad_tree.specs.Draft.{draft_frames}
 use Rattle.ad_tree.specs.Inline.{height, highest, highest_def}
 use Rattle.ad_tree.specs.Placed.{AreAllPlaced}
 use Rattle.ad_tree.specs.Tree.{trees, pack as pack_trees}
 use Rattle.ad_parser.specs.Converted.{Completes}
 use Rattle.ad_parser.specs.Nodes.{inline, inlines, definitions, pack, pack_definitions}
+use Rattle.ad_parser.proofs.ListLemmas.{named}
 use Rattle.ad_parser.proofs.conversion.+converting.Given as goal
 
 abbrev pub decreases-convert : goal.decreases-convert
-decreases-convert l = 4 * height (inline l.node.now)
+decreases-convert l = 4 * height (inline l.node)
 
 abbrev pub decreases-convert_boxed : goal.decreases-convert_boxed
-decreases-convert_boxed l = 4 * height (inline l.node.now) + 1
+decreases-convert_boxed l = 4 * height (inline l.node.value) + 1
 
 abbrev pub decreases-convert_two : goal.decreases-convert_two
-decreases-convert_two l = 4 * max (height (inline l.a.now)) (height (inline l.b.now)) + 2
+decreases-convert_two l = 4 * max (height (inline l.a.value)) (height (inline l.b.value)) + 2
 
 abbrev pub decreases-convert_three : goal.decreases-convert_three
-decreases-convert_three l = 4 * max (height (inline l.nodes.0.now)) (max (height (inline l.nodes.1.now)) (height (inline l.nodes.2.now))) + 3
+decreases-convert_three l = 4 * max (height (inline l.nodes.0.value)) (max (height (inline l.nodes.1.value)) (height (inline l.nodes.2.value))) + 3
 
 abbrev pub decreases-convert_all : goal.decreases-convert_all
-decreases-convert_all l = 4 * highest (pack (inlines l.nodes.now)) + 1
+decreases-convert_all l = 4 * highest (pack (inlines l.nodes)) + 1
 
 abbrev pub decreases-open : goal.decreases-open
-decreases-open l = 4 * highest_def (pack_definitions (definitions l.list.now)) + 2
+decreases-open l = 4 * highest_def (pack_definitions (definitions l.list)) + 2
 
 abbrev pub decreases-define_all : goal.decreases-define_all
-decreases-define_all l = 4 * highest_def (pack_definitions (definitions l.list.now)) + 1
+decreases-define_all l = 4 * highest_def (pack_definitions (definitions l.list)) + 1
 
-abbrev pub invariant-convert_all-loop-i : goal.invariant-convert_all-loop-i
-invariant-convert_all-loop-i l =
-    AreAllPlaced l.parent (pack (take l.i (inlines l.nodes))) (pack_trees (trees l.exprs)) (draft_frames l.initial.draft) (draft_frames l.draft)
+abbrev pub invariant-convert_all-loop-node : goal.invariant-convert_all-loop-node
+invariant-convert_all-loop-node l =
+    AreAllPlaced l.parent (pack (map inline l.yielded)) (pack_trees (trees l.exprs)) (draft_frames l.initial.draft) (draft_frames l.draft)
 
-abbrev pub invariant-define_all-loop-i : goal.invariant-define_all-loop-i
-invariant-define_all-loop-i l =
-    Completes l.frame (pack_definitions (take l.i (definitions l.list))) (draft_frames l.initial.draft) (draft_frames l.draft)
+abbrev pub invariant-define_all-loop-definition : goal.invariant-define_all-loop-definition
+invariant-define_all-loop-definition l =
+    Completes l.frame (pack_definitions (map named l.yielded)) (draft_frames l.initial.draft) (draft_frames l.draft)

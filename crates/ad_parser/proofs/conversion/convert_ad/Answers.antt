@@ -5,5 +5,5 @@ use Rattle.ad_parser.proofs.conversion.convert_ad.Goals as goal
 pub returns : goal.returns
 returns c =
     if_ok c.finish.result
-    (λ ad frames. ad-converted (pack_definitions (definitions c.args.definitions.now)) c.new-draft.ensures c.in_ok-define_all.ensures frames)
+    (λ ad frames. ad-converted (pack_definitions (definitions c.args.definitions)) c.new-draft.ensures c.in_ok-define_all.ensures frames)
     c.finish.ensures

@@ -7,7 +7,7 @@ pub returns : goal.returns
 returns c =
     if_ok_both c.finish_phrase.result
     (λ phrase frames expr. (
-      phrase-converted (inline c.args.node.now) (tree c.in_ok-expr.expr) c.new-draft.ensures c.in_ok-expr.ensures frames,
-      phrase_tree-converted (inline c.args.node.now) (tree c.in_ok-expr.expr) c.new-draft.ensures c.in_ok-expr.ensures expr,
+      phrase-converted (inline c.args.node) (tree c.in_ok-expr.expr) c.new-draft.ensures c.in_ok-expr.ensures frames,
+      phrase_tree-converted (inline c.args.node) (tree c.in_ok-expr.expr) c.new-draft.ensures c.in_ok-expr.ensures expr,
     ))
     c.finish_phrase.ensures.frames c.finish_phrase.ensures.expr

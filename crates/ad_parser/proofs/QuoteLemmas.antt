@@ -1,5 +1,8 @@
 -- Steps of the loop that reads the letters between quotes.
-use Rattle.std.proofs.Common.{refl, arith, ◌≡◌, ◌⊎◌, inl, inr, ℕ, zero, suc, ◌+◌, ◌<◌, true, false, eqb, List, [], ◌∷◌, ◌++◌, length, map, drop, slice_index, Some, ap, subst, sym, ◌∙◌, length-append, append_assoc}
+use Rattle.std.proofs.Common.{refl, arith, ◌≡◌, ◌⊎◌, inl, inr, ℕ, zero, suc, ◌+◌, ◌<◌, true, false, eqb, List, [], ◌∷◌, ◌++◌, length, map, take, drop, slice_index, Bool, ◌||◌, ◌==◌, ◌-◌, ◌≤◌, Some, ap, subst, sym, ◌∙◌, length-append, append_assoc}
+use Rattle.std.specs.List.{list_any}
+use Rattle.std.proofs.Math.Seq.{take-append_seam}
+use Rattle.std.proofs.lemmas.List.Folds.{list_any-append}
 use Rattle.std.proofs.lemmas.Bool.{and_parts, or_parts, not-true, eq-eqb}
 use Rattle.std.proofs.lemmas.Bool.Decides.{nat_tests}
 use Rattle.std.proofs.lemmas.List.{drop_at, append-nil}
@@ -92,3 +95,24 @@ small_by quote rest (letter ∷ letters) spelled are other at =
 -- an escape means a byte
 pub unread-small : (quote : ℕ) (bytes text rest : List ℕ) → Unread quote bytes text rest → (slice_index rest 0 ≡ quote → ⊥) → slice_index rest 0 ≡ 92 → meaning_at rest < 256
 unread-small quote bytes text rest u other at = small_by quote rest u.letters u.spelled u.are other at
+
+-- ---- letters that mean themselves ----
+
+-- without a backslash each letter means itself
+plain-spellings : (letters : List Letter) → list_any (λ byte. byte == 92) (spellings letters) ≡ false → spellings letters ≡ map meaning letters
+plain-spellings [] none = refl
+plain-spellings (plain byte ∷ letters) none = ap (λ bytes. byte ∷ bytes) (plain-spellings letters (or_parts (byte == 92) _ none).1)
+plain-spellings (escape byte meant ∷ letters) none = absurd (cc)
+plain-spellings (octal digits ∷ letters) none = absurd (cc)
+
+verbatim_by : (quote : ℕ) (bytes text : List ℕ) → is_quote quote ≡ true → IsQuoted quote bytes text → list_any (λ byte. byte == 92) bytes ≡ false → take (length bytes - 1 - 1) (drop 1 bytes) ≡ content bytes
+verbatim_by quote bytes text is q none =
+    let letters : List Letter = q.0 in
+    let inside : drop 1 bytes ≡ spellings letters ++ quote ∷ [] = ap (λ (b : List ℕ). drop 1 b) q.1 in
+    let many : length bytes - 1 - 1 ≡ length (spellings letters) = omega (arith, ap length q.1, length-append (spellings letters) (quote ∷ [])) in
+    let plainly : list_any (λ byte. byte == 92) (spellings letters ++ quote ∷ []) ≡ false = (or_parts (quote == 92) _ (ap (list_any (λ byte. byte == 92)) (sym q.1) ∙ none)).1 in
+    ap (take (length bytes - 1 - 1)) inside ∙ ap (λ n. take n (spellings letters ++ quote ∷ [])) many ∙ take-append_seam (spellings letters) (quote ∷ [])
+    ∙ plain-spellings letters (or_parts (list_any (λ byte. byte == 92) (spellings letters)) _ (sym (list_any-append (λ byte. byte == 92) (spellings letters) (quote ∷ [])) ∙ plainly)).0 ∙ sym q.3 ∙ sym (quoted_content quote bytes text is q)
+
+pub verbatim-content : (bytes : List ℕ) → IsQuotation bytes → list_any (λ byte. byte == 92) bytes ≡ false → take (length bytes - 1 - 1) (drop 1 bytes) ≡ content bytes
+verbatim-content bytes q none = elim q [ inl string ↦ verbatim_by 34 bytes string.0 refl string.1 none | inr named ↦ verbatim_by 39 bytes named.0 refl named.1 none ]

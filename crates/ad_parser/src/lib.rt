@@ -8,7 +8,6 @@ mod fault;
 mod grammar;
 mod joining;
 mod laws;
-mod literal;
 mod mark;
 mod nesting;
 mod node;

@@ -1,5 +1,5 @@
 // What strings and quoted names mean.
-ghost use Rattle.std.specs.Prelude.{◌≡◌, ◌<◌, drop, slice_index, IfOk};
+ghost use Rattle.std.specs.Prelude.{◌≡◌, ◌<◌, drop, slice_index, IfOk, IfSome};
 ghost use Rattle.ad_lexer.specs.Content.{content, meaning_at, letter_len, octal_value, octal_len};
 ghost use Rattle.ad_lexer.specs.Quoted.{escaped, is_octal_digit};
 ghost use Rattle.ad_parser.specs.Quotes.{IsQuotation};
@@ -9,6 +9,27 @@ use std::alloc::Global;
 
 /// What the letters between the quotes mean.
 pub fn content(alloc: Global, bytes: &[u8]) -> Result<Text, OutOfMemory>
+    requires { IsQuotation bytes.now }
+    ensures { IfOk result (λ text. text ≡ content bytes.now) }
+{
+    match verbatim(bytes) {
+        Some(letters) => Text::from_bytes(alloc, letters),
+        None => unescaped(alloc, bytes),
+    }
+}
+
+/// What stands between the quotes, where it has no backslash and so means itself.
+fn verbatim(bytes: &[u8]) -> Option<&[u8]>
+    requires { IsQuotation bytes.now }
+    ensures { IfSome result (λ letters. letters.now ≡ content bytes.now) }
+{
+    if bytes.contains(&b'\\') {
+        return None;
+    }
+    Some(&bytes[1..bytes.len() - 1])
+}
+
+fn unescaped(alloc: Global, bytes: &[u8]) -> Result<Text, OutOfMemory>
     requires { IsQuotation bytes.now }
     ensures { IfOk result (λ text. text ≡ content bytes.now) }
 {

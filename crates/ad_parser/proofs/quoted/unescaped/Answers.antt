@@ -2,7 +2,7 @@ use Rattle.std.proofs.Common.{arith, ◌≡◌, List, ℕ, ◌∷◌, [], ◌++�
 use Rattle.ad_lexer.specs.Content.{meaning_at, letter_len}
 use Rattle.ad_lexer.proofs.ContentLemmas.{letter_some}
 use Rattle.ad_parser.proofs.QuoteLemmas.{Unread, unread-first, unread-turn, unread-small, unread-some, unread-end}
-use Rattle.ad_parser.proofs.quoted.content.Goals as goal
+use Rattle.ad_parser.proofs.quoted.unescaped.Goals as goal
 
 pub loop-rest-init : goal.loop-rest-init
 loop-rest-init c =

@@ -76,8 +76,8 @@ inline-Name scope text = ap inline (sym (nodes.rolls-Name scope text)) ∙ fold-
 pub inline-Unary : (op : UnOp) (a : Box Node Global) → inline (nodes.Unary op a) ≡ over_one (unary op) (inline a.value)
 inline-Unary op a = ap inline (sym (nodes.rolls-Unary op a)) ∙ fold-roll-Node Inline (List ℕ × Inline) (List (List ℕ × Inline)) (List Inline) layer (λ d. (d.name, d.node)) (λ l. l.items.items) (λ l. l.items.items) _
 
-pub inline-Binary : (op : BinOp) (a b : Box Node Global) → inline (nodes.Binary op a b) ≡ over_two (binary op) (inline a.value) (inline b.value)
-inline-Binary op a b = ap inline (sym (nodes.rolls-Binary op a b)) ∙ fold-roll-Node Inline (List ℕ × Inline) (List (List ℕ × Inline)) (List Inline) layer (λ d. (d.name, d.node)) (λ l. l.items.items) (λ l. l.items.items) _
+pub inline-Binary : (op : BinOp) (operands : Box (Node × Node) Global) → inline (nodes.Binary op operands) ≡ over_two (binary op) (inline operands.value.0) (inline operands.value.1)
+inline-Binary op operands = ap inline (sym (nodes.rolls-Binary op operands)) ∙ fold-roll-Node Inline (List ℕ × Inline) (List (List ℕ × Inline)) (List Inline) layer (λ d. (d.name, d.node)) (λ l. l.items.items) (λ l. l.items.items) _
 
 pub inline-And : (items : Nodes) → inline (nodes.And items) ≡ shape all (pack (inlines items))
 inline-And items = ap inline (sym (nodes.rolls-And items)) ∙ fold-roll-Node Inline (List ℕ × Inline) (List (List ℕ × Inline)) (List Inline) layer (λ d. (d.name, d.node)) (λ l. l.items.items) (λ l. l.items.items) _
@@ -85,14 +85,14 @@ inline-And items = ap inline (sym (nodes.rolls-And items)) ∙ fold-roll-Node In
 pub inline-Or : (items : Nodes) → inline (nodes.Or items) ≡ shape any (pack (inlines items))
 inline-Or items = ap inline (sym (nodes.rolls-Or items)) ∙ fold-roll-Node Inline (List ℕ × Inline) (List (List ℕ × Inline)) (List Inline) layer (λ d. (d.name, d.node)) (λ l. l.items.items) (λ l. l.items.items) _
 
-pub inline-Choice : (a b c : Box Node Global) → inline (nodes.Choice a b c) ≡ over_three choice (inline a.value) (inline b.value) (inline c.value)
-inline-Choice a b c = ap inline (sym (nodes.rolls-Choice a b c)) ∙ fold-roll-Node Inline (List ℕ × Inline) (List (List ℕ × Inline)) (List Inline) layer (λ d. (d.name, d.node)) (λ l. l.items.items) (λ l. l.items.items) _
+pub inline-Choice : (operands : Box (Node × Node × Node) Global) → inline (nodes.Choice operands) ≡ over_three choice (inline operands.value.0) (inline operands.value.1) (inline operands.value.2)
+inline-Choice operands = ap inline (sym (nodes.rolls-Choice operands)) ∙ fold-roll-Node Inline (List ℕ × Inline) (List (List ℕ × Inline)) (List Inline) layer (λ d. (d.name, d.node)) (λ l. l.items.items) (λ l. l.items.items) _
 
 pub inline-Select : (a : Box Node Global) (text : List ℕ) → inline (nodes.Select a text) ≡ over_one (select text) (inline a.value)
 inline-Select a text = ap inline (sym (nodes.rolls-Select a text)) ∙ fold-roll-Node Inline (List ℕ × Inline) (List (List ℕ × Inline)) (List Inline) layer (λ d. (d.name, d.node)) (λ l. l.items.items) (λ l. l.items.items) _
 
-pub inline-Subscript : (a b : Box Node Global) → inline (nodes.Subscript a b) ≡ over_two subscript (inline a.value) (inline b.value)
-inline-Subscript a b = ap inline (sym (nodes.rolls-Subscript a b)) ∙ fold-roll-Node Inline (List ℕ × Inline) (List (List ℕ × Inline)) (List Inline) layer (λ d. (d.name, d.node)) (λ l. l.items.items) (λ l. l.items.items) _
+pub inline-Subscript : (operands : Box (Node × Node) Global) → inline (nodes.Subscript operands) ≡ over_two subscript (inline operands.value.0) (inline operands.value.1)
+inline-Subscript operands = ap inline (sym (nodes.rolls-Subscript operands)) ∙ fold-roll-Node Inline (List ℕ × Inline) (List (List ℕ × Inline)) (List Inline) layer (λ d. (d.name, d.node)) (λ l. l.items.items) (λ l. l.items.items) _
 
 pub inline-Call : (text : List ℕ) (items : Nodes) → inline (nodes.Call text items) ≡ shape (call text) (pack (inlines items))
 inline-Call text items = ap inline (sym (nodes.rolls-Call text items)) ∙ fold-roll-Node Inline (List ℕ × Inline) (List (List ℕ × Inline)) (List Inline) layer (λ d. (d.name, d.node)) (λ l. l.items.items) (λ l. l.items.items) _

@@ -32,12 +32,12 @@ abbrev pub layer : Node-F Inline (List ℕ × Inline) (List (List ℕ × Inline)
 layer (Node-F.Literal lit) = leaf (literal lit)
 layer (Node-F.Name scope text) = leaf (name scope text)
 layer (Node-F.Unary op a) = over_one (unary op) a.value
-layer (Node-F.Binary op a b) = over_two (binary op) a.value b.value
+layer (Node-F.Binary op operands) = over_two (binary op) operands.value.0 operands.value.1
 layer (Node-F.And is) = shape all (pack is)
 layer (Node-F.Or is) = shape any (pack is)
-layer (Node-F.Choice a b c) = over_three choice a.value b.value c.value
+layer (Node-F.Choice operands) = over_three choice operands.value.0 operands.value.1 operands.value.2
 layer (Node-F.Select a text) = over_one (select text) a.value
-layer (Node-F.Subscript a b) = over_two subscript a.value b.value
+layer (Node-F.Subscript operands) = over_two subscript operands.value.0 operands.value.1
 layer (Node-F.Call text is) = shape (call text) (pack is)
 layer (Node-F.List is) = shape list (pack is)
 layer (Node-F.Ad ds) = inner (pack_definitions ds)

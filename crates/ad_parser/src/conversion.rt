@@ -42,23 +42,26 @@ fn convert(alloc: Global, draft: &mut Draft, parent: u32, node: Node) -> Result<
     match node {
         Node::Literal(literal) => Ok(Expr::Literal(literal)),
         Node::Name(scope, name) => Ok(Expr::Name(scope, name)),
-        Node::Unary(op, a) => Ok(Expr::Unary(op, convert_boxed(alloc, draft, parent, a)?)),
-        Node::Binary(op, a, b) => {
-            let (a, b) = convert_two(alloc, draft, parent, a, b)?;
+        Node::Unary(op, a) => {
+            let a = convert_boxed(alloc, draft, parent, Box::into_inner(a))?;
+            Ok(Expr::Unary(op, a))
+        }
+        Node::Binary(op, operands) => {
+            let (a, b) = convert_two(alloc, draft, parent, Box::into_inner(operands))?;
             Ok(Expr::Binary(op, a, b))
         }
         Node::And(nodes) => Ok(Expr::And(convert_all(alloc, draft, parent, nodes)?)),
         Node::Or(nodes) => Ok(Expr::Or(convert_all(alloc, draft, parent, nodes)?)),
-        Node::Choice(a, b, c) => {
-            let (a, b, c) = convert_three(alloc, draft, parent, (a, b, c))?;
+        Node::Choice(operands) => {
+            let (a, b, c) = convert_three(alloc, draft, parent, Box::into_inner(operands))?;
             Ok(Expr::Cond(a, b, c))
         }
         Node::Select(a, name) => {
-            let a = convert_boxed(alloc, draft, parent, a)?;
+            let a = convert_boxed(alloc, draft, parent, Box::into_inner(a))?;
             Ok(Expr::Select(a, name))
         }
-        Node::Subscript(a, b) => {
-            let (a, b) = convert_two(alloc, draft, parent, a, b)?;
+        Node::Subscript(operands) => {
+            let (a, b) = convert_two(alloc, draft, parent, Box::into_inner(operands))?;
             Ok(Expr::Subscript(a, b))
         }
         Node::Call(name, nodes) => {
@@ -75,12 +78,12 @@ fn convert_boxed(
     alloc: Global,
     draft: &mut Draft,
     parent: u32,
-    node: Box<Node>,
+    node: Node,
 ) -> Result<Box<Expr>, OutOfMemory>
     requires { parent < length (draft_frames draft.old) }
-    ensures { IfOk result (λ expr. IsPlaced parent (inline node.value) (tree expr.value) (draft_frames draft.old) (draft_frames draft.new)) }
+    ensures { IfOk result (λ expr. IsPlaced parent (inline node) (tree expr.value) (draft_frames draft.old) (draft_frames draft.new)) }
 {
-    let expr = convert(alloc, draft, parent, Box::into_inner(node))?;
+    let expr = convert(alloc, draft, parent, node)?;
     Ok(Box::new(alloc, expr)?)
 }
 
@@ -89,13 +92,13 @@ fn convert_two(
     alloc: Global,
     draft: &mut Draft,
     parent: u32,
-    a: Box<Node>,
-    b: Box<Node>,
+    nodes: (Node, Node),
 ) -> Result<(Box<Expr>, Box<Expr>), OutOfMemory>
     requires { parent < length (draft_frames draft.old) }
-    ensures { IfOk result (λ exprs. AreAllPlaced parent (next (inline a.value) (next (inline b.value) end))
+    ensures { IfOk result (λ exprs. AreAllPlaced parent (next (inline nodes.0) (next (inline nodes.1) end))
         (more (tree exprs.0.value) (more (tree exprs.1.value) none)) (draft_frames draft.old) (draft_frames draft.new)) }
 {
+    let (a, b) = nodes;
     let a = convert_boxed(alloc, draft, parent, a)?;
     let b = convert_boxed(alloc, draft, parent, b)?;
     Ok((a, b))
@@ -106,17 +109,17 @@ fn convert_three(
     alloc: Global,
     draft: &mut Draft,
     parent: u32,
-    nodes: (Box<Node>, Box<Node>, Box<Node>),
+    nodes: (Node, Node, Node),
 ) -> Result<(Box<Expr>, Box<Expr>, Box<Expr>), OutOfMemory>
     requires { parent < length (draft_frames draft.old) }
     ensures { IfOk result (λ exprs. AreAllPlaced parent
-        (next (inline nodes.0.value) (next (inline nodes.1.value) (next (inline nodes.2.value) end)))
+        (next (inline nodes.0) (next (inline nodes.1) (next (inline nodes.2) end)))
         (more (tree exprs.0.value) (more (tree exprs.1.value) (more (tree exprs.2.value) none)))
         (draft_frames draft.old) (draft_frames draft.new)) }
 {
     let (a, b, c) = nodes;
     let a = convert_boxed(alloc, draft, parent, a)?;
-    let (b, c) = convert_two(alloc, draft, parent, b, c)?;
+    let (b, c) = convert_two(alloc, draft, parent, (b, c))?;
     Ok((a, b, c))
 }
 

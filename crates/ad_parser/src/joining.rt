@@ -85,7 +85,7 @@ pub fn subscript(alloc: Global, base: Part, place: Part) -> Result<Part, OutOfMe
     let height = base.height.max(place.height) + 1;
     match (base.node, place.node) {
         (Some(a), Some(b)) => {
-            let node = Node::Subscript(Box::new(alloc, a)?, Box::new(alloc, b)?);
+            let node = Node::Subscript(Box::new(alloc, (a, b))?);
             Ok(cut(node, height))
         }
         _ => Ok(nothing()),
@@ -105,11 +105,7 @@ pub fn choice(
     let height = condition.height.max(first.height.max(second.height)) + 1;
     match (condition.node, first.node, second.node) {
         (Some(a), Some(b), Some(c)) => {
-            let node = Node::Choice(
-                Box::new(alloc, a)?,
-                Box::new(alloc, b)?,
-                Box::new(alloc, c)?,
-            );
+            let node = Node::Choice(Box::new(alloc, (a, b, c))?);
             Ok(cut(node, height))
         }
         _ => Ok(nothing()),
@@ -158,11 +154,7 @@ fn join_nodes(alloc: Global, joint: Joint, left: Node, right: Node) -> Result<No
     match joint {
         Joint::Conjunction => conjunction(alloc, left, right),
         Joint::Disjunction => disjunction(alloc, left, right),
-        Joint::Operator(op) => Ok(Node::Binary(
-            op,
-            Box::new(alloc, left)?,
-            Box::new(alloc, right)?,
-        )),
+        Joint::Operator(op) => Ok(Node::Binary(op, Box::new(alloc, (left, right))?)),
     }
 }
 

@@ -3,19 +3,19 @@ use ad_tree::Scope;
 use pool_text::{BinOp, Lit, OutOfMemory, Text, UnOp};
 use std::alloc::Global;
 
-/// An expression as it is spelled.
+/// An expression as it is spelled. The operands of a node share one box.
 #[cycle(node)]
 #[derive(Debug, Drop)]
 pub enum Node {
     Literal(Lit),
     Name(Scope, Text),
     Unary(UnOp, Box<Node>),
-    Binary(BinOp, Box<Node>, Box<Node>),
+    Binary(BinOp, Box<(Node, Node)>),
     And(Nodes),
     Or(Nodes),
-    Choice(Box<Node>, Box<Node>, Box<Node>),
+    Choice(Box<(Node, Node, Node)>),
     Select(Box<Node>, Text),
-    Subscript(Box<Node>, Box<Node>),
+    Subscript(Box<(Node, Node)>),
     Call(Text, Nodes),
     List(Nodes),
     Ad(Definitions),

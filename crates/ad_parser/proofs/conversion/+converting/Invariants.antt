@@ -12,13 +12,13 @@ abbrev pub decreases-convert : goal.decreases-convert
 decreases-convert l = 4 * height (inline l.node)
 
 abbrev pub decreases-convert_boxed : goal.decreases-convert_boxed
-decreases-convert_boxed l = 4 * height (inline l.node.value) + 1
+decreases-convert_boxed l = 4 * height (inline l.node) + 1
 
 abbrev pub decreases-convert_two : goal.decreases-convert_two
-decreases-convert_two l = 4 * max (height (inline l.a.value)) (height (inline l.b.value)) + 2
+decreases-convert_two l = 4 * max (height (inline l.nodes.0)) (height (inline l.nodes.1)) + 2
 
 abbrev pub decreases-convert_three : goal.decreases-convert_three
-decreases-convert_three l = 4 * max (height (inline l.nodes.0.value)) (max (height (inline l.nodes.1.value)) (height (inline l.nodes.2.value))) + 3
+decreases-convert_three l = 4 * max (height (inline l.nodes.0)) (max (height (inline l.nodes.1)) (height (inline l.nodes.2))) + 3
 
 abbrev pub decreases-convert_all : goal.decreases-convert_all
 decreases-convert_all l = 4 * highest (pack (inlines l.nodes)) + 1

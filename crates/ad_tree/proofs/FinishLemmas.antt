@@ -24,26 +24,29 @@ module _ (fs : List Frame) (apart : (f : ℕ) → IsTrue (are_apart (names_in fs
       ∙ ap (λ m. map settled_frame (frames 0 0 (opened fs m 0))) all
       ∙ settled_frame-frames 0 0 (spelled fs) (inside-apart fs apart (length fs) 0)
 
-  pub finished_is_ad : {t : Tree} {before after : List Frame} → before ≡ [] → IsPlaced 0 (opened fs n 0) t before after → IsAd after
-  finished_is_ad new placed = subst IsAd (sym (finished new placed)) (IsAd-frames (inside fs (length fs) 0) (inside-apart fs apart (length fs) 0))
-
-  pub finished_phrase : (t : Tree) {copy : Tree} {before after : List Frame} → before ≡ empty_frame 0 ∷ [] → IsPlaced 0 (inlined (inside fs n) t) copy before after
-      → after ≡ empty_frame 0 ∷ frames 0 1 (spelled_tree fs t)
-  finished_phrase t {copy} {before} {after} new placed =
+  -- behind whatever root
+  pub finished_phrase : (t : Tree) {copy : Tree} {root : Frame} {before after : List Frame} → before ≡ root ∷ [] → IsPlaced 0 (inlined (inside fs n) t) copy before after
+      → after ≡ root ∷ frames 0 1 (spelled_tree fs t)
+  finished_phrase t {copy} {root} {before} {after} new placed =
       placed.opened
       ∙ ap (λ gs. gs ++ map settled_frame (frames 0 (length gs) (inlined (inside fs n) t))) new
-      ∙ ap (λ m. empty_frame 0 ∷ map settled_frame (frames 0 1 (inlined (inside fs m) t))) all
-      ∙ ap (λ gs. empty_frame 0 ∷ gs) (settled_frame-frames 0 1 (spelled_tree fs t) (spelled_tree-apart fs apart t))
+      ∙ ap (λ m. root ∷ map settled_frame (frames 0 1 (inlined (inside fs m) t))) all
+      ∙ ap (λ gs. root ∷ gs) (settled_frame-frames 0 1 (spelled_tree fs t) (spelled_tree-apart fs apart t))
 
-  pub phrase_is_ad : (t : Tree) {copy : Tree} {before after : List Frame} → before ≡ empty_frame 0 ∷ [] → IsPlaced 0 (inlined (inside fs n) t) copy before after → IsAd after
-  phrase_is_ad t new placed = subst IsAd (sym (finished_phrase t new placed)) (IsAd-phrase (spelled_tree fs t) (spelled_tree-apart fs apart t))
-
-  pub phrase_tree : (t : Tree) {copy : Tree} {before after : List Frame} → before ≡ empty_frame 0 ∷ [] → IsPlaced 0 (inlined (inside fs n) t) copy before after
+  pub phrase_tree : (t : Tree) {copy : Tree} {root : Frame} {before after : List Frame} → before ≡ root ∷ [] → IsPlaced 0 (inlined (inside fs n) t) copy before after
       → copy ≡ number 1 (spelled_tree fs t)
   phrase_tree t new placed =
       placed.copied
       ∙ ap (λ gs. number (length gs) (inlined (inside fs n) t)) new
       ∙ ap (λ m. number 1 (inlined (inside fs m) t)) all
+
+-- those frames are an ad
+module _ (fs : List Frame) (apart : (f : ℕ) → IsTrue (are_apart (names_in fs f))) where
+  pub finished_is_ad : {after : List Frame} → after ≡ frames 0 0 (spelled fs) → IsAd after
+  finished_is_ad e = subst IsAd (sym e) (IsAd-frames (inside fs (length fs) 0) (inside-apart fs apart (length fs) 0))
+
+  pub phrase_is_ad : (t : Tree) {after : List Frame} → after ≡ empty_frame 0 ∷ frames 0 1 (spelled_tree fs t) → IsAd after
+  phrase_is_ad t e = subst IsAd (sym e) (IsAd-phrase (spelled_tree fs t) (spelled_tree-apart fs apart t))
 
 -- what an Ok tells, told on
 pub if_ok : {A E : Type 0} (r : Result A E) {P Q : A → Type 0} → ((a : A) → P a → Q a) → IfOk r P → IfOk r Q

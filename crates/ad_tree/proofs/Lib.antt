@@ -6,6 +6,7 @@ mod FinishLemmas
 pub mod InlineLemmas
 mod Measures
 mod NameLemmas
+mod OrderLemmas
 pub mod PlacedLemmas
 pub mod SpellingLemmas
 pub mod TreeLemmas

@@ -117,6 +117,20 @@ frame-placed parent {ds} {f} {before} {after} h = record {
     longer : length (before ++ empty_frame parent ∷ []) ≡ suc (length before)
     longer = omega (arith, length-append before (empty_frame parent ∷ []))
 
+-- a frame that stands there with its definitions, which are placed behind it
+pub own-placed : {ds : Defs} {f : Frame} {before after : List Frame}
+    → AreDefinitionsPlaced f.parent (length before) ds f (before ++ f ∷ []) after → IsPlaced f.parent (inner ds) (frame (length before)) before after
+own-placed {ds} {f} {before} {after} h = record {
+  copied = refl;
+  opened = h.opened
+      ∙ append_assoc before (f ∷ []) (map settled_frame (frames_in (length before) (length (before ++ f ∷ [])) ds))
+      ∙ ap (λ g. before ++ g ∷ map settled_frame (frames_in (length before) (length (before ++ f ∷ [])) ds)) h.copied
+      ∙ ap (λ n. before ++ settled_frame (record { parent = f.parent; attributes = attributes_from n ds }) ∷ map settled_frame (frames_in (length before) n ds)) longer;
+}
+  where
+    longer : length (before ++ f ∷ []) ≡ suc (length before)
+    longer = omega (arith, length-append before (f ∷ []))
+
 -- ---- a draft whose frames are defined one after another ----
 
 -- a definition in the frame behind those that were there

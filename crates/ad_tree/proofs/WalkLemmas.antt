@@ -41,7 +41,7 @@ defs-placed {parent} {p} k attributes j name t f g copy {before} {between} {afte
     (def-placed name h one))
 
 -- what stands in a frame that is opened with turns left
-inside-turn : (fs : List Frame) (turns f : ℕ) (source : Frame) → (turns ≡ 0 → ⊥) → Some source ≡ slice_get fs f → inside fs turns f ≡ defs_of (inside fs (turns - 1)) source.attributes
+pub inside-turn : (fs : List Frame) (turns f : ℕ) (source : Frame) → (turns ≡ 0 → ⊥) → Some source ≡ slice_get fs f → inside fs turns f ≡ defs_of (inside fs (turns - 1)) source.attributes
 inside-turn fs zero f source n h = absurd (n refl)
 inside-turn fs (suc turns) f source n h =
     ap (λ o. defs_of (inside fs turns) (attributes_in o)) (sym h)

@@ -6,6 +6,7 @@ ghost use Rattle.ad_tree.specs.Inline.{frames, number, spelled, spelled_tree};
 ghost use Rattle.ad_tree.specs.Table.{frame_of};
 
 use crate::frame::AdFrame;
+use crate::order::{is_in_order, is_phrase_in_order};
 use crate::placing::{open, place};
 use crate::{Ad, Expr, Phrase};
 use pool_text::{OutOfMemory, Text};
@@ -71,6 +72,11 @@ impl Draft {
     pub fn finish(self) -> Result<Ad, OutOfMemory>
         ensures { IfOk result (λ ad. ad_frames ad ≡ frames 0 0 (spelled (draft_frames self))) }
     {
+        if is_in_order(&self) {
+            let Draft { alloc, root, inner } = self;
+            let frames = behind_root(alloc, root, inner)?;
+            return Ad::from_frames(frames);
+        }
         let mut frames = Vec::new(self.alloc);
         open(self.alloc, &self, self.count(), 0, 0, &mut frames)?;
         Ad::from_frames(frames)
@@ -83,6 +89,14 @@ impl Draft {
             ad_frames phrase.ad ≡ empty_frame 0 ∷ frames 0 1 (spelled_tree (draft_frames self) (tree expr))) }
         ensures expr { IfOk result (λ phrase. tree phrase.expr ≡ number 1 (spelled_tree (draft_frames self) (tree expr))) }
     {
+        if is_phrase_in_order(&self, &expr) {
+            let root = AdFrame::new(self.alloc, 0);
+            let frames = behind_root(self.alloc, root, self.inner)?;
+            return Ok(Phrase {
+                ad: Ad::from_frames(frames)?,
+                expr,
+            });
+        }
         let mut frames = Vec::new(self.alloc);
         frames.push(AdFrame::new(self.alloc, 0))?;
         let expr = place(self.alloc, &self, self.count(), 0, &expr, &mut frames)?;
@@ -108,4 +122,18 @@ impl Draft {
         }
         Some(&self.inner[place])
     }
+}
+
+// The root with the other frames behind it.
+fn behind_root(
+    alloc: Global,
+    root: AdFrame,
+    mut inner: Vec<AdFrame>,
+) -> Result<Vec<AdFrame>, OutOfMemory>
+    ensures { IfOk result (λ frames. frames.items ≡ root ∷ inner.items) }
+{
+    let mut frames = Vec::with_capacity(alloc, inner.len() + 1)?;
+    frames.push(root)?;
+    frames.append(&mut inner)?;
+    Ok(frames)
 }

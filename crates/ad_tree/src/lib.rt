@@ -5,6 +5,7 @@ mod ad;
 mod draft;
 mod frame;
 mod laws;
+mod order;
 mod placing;
 mod request;
 #[cfg(test)]

@@ -149,6 +149,18 @@ fn phrases_have_an_empty_root(rt: HostRuntime) -> Result<(), Fail> {
     Ok(())
 }
 
+// The same where the frames are numbered already.
+#[test]
+fn phrases_in_order_have_an_empty_root(rt: HostRuntime) -> Result<(), Fail> {
+    let definitions = [row(0, 0, b"r", Integer(2)), row(1, 0, b"s", Frame(2))];
+    let draft = draft_of(&rt, rt.alloc(), &[0, 1], &definitions)?;
+    let phrase = draft.finish_phrase(Expr::Frame(1))?;
+    let frames = [(None, 0), (Some(0), 1), (Some(1), 0)];
+    assert_ad(&rt, &phrase.ad, &frames, &[row(1, 0, b"s", Frame(2))]);
+    assert!(rt; matches!(phrase.expr, Expr::Frame(1)));
+    Ok(())
+}
+
 #[test]
 fn high_trees_are_walked_and_dropped(rt: HostRuntime) -> Result<(), Fail> {
     let mut draft = Draft::new(rt.alloc());

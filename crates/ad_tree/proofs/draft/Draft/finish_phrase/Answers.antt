@@ -9,10 +9,18 @@ use Rattle.ad_tree.proofs.draft.Draft.finish_phrase.Goals as goal
 
 pub from_frames-requires : goal.from_frames-requires
 from_frames-requires c =
-    phrase_is_ad (draft_frames c.args.self) (apart-draft c.args.self.root c.args.self.inner.items) c.count.result c.count.ensures (tree c.args.expr)
+    phrase_is_ad (draft_frames c.args.self) (apart-draft c.args.self.root c.args.self.inner.items) (tree c.args.expr)
+    (ap frames_of c.in_ok-frames.ensures
+    ∙ ap (λ root. root ∷ frames_of c.args.self.inner.items) c.new-root.ensures
+    ∙ ap (λ fs. empty_frame 0 ∷ fs) (c.is_phrase_in_order.ensures.frames c.if-is_phrase_in_order.true))
+
+pub from_frames-requires-2 : goal.from_frames-requires-2
+from_frames-requires-2 c =
+    phrase_is_ad (draft_frames c.args.self) (apart-draft c.args.self.root c.args.self.inner.items) (tree c.args.expr)
+    (finished_phrase (draft_frames c.args.self) (apart-draft c.args.self.root c.args.self.inner.items) c.count.result c.count.ensures (tree c.args.expr)
     (frames_of-push c.new-frames.result.items c.push.new.self.items c.new.result (empty_frame 0) c.in_ok-push.ensures.items c.new.ensures
     ∙ ap (λ fs. frames_of fs ++ empty_frame 0 ∷ []) c.new-frames.ensures.items)
-    c.in_ok-expr.ensures
+    c.in_ok-expr.ensures)
 
 pub returns-clause-frames : goal.returns-clause-frames
 returns-clause-frames c =

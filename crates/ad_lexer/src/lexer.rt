@@ -10,6 +10,9 @@ use crate::next::{Step, next};
 use crate::token::{Token, Tokens};
 use std::alloc::Global;
 
+/// How many bytes an ordinary token takes with the blanks around it.
+const BYTES_A_TOKEN: usize = 4;
+
 /// The tokens of a text, in order, or its first fault from the left.
 ///
 /// White space (space, tab, line feed, carriage return, form feed) and comments divide tokens. A comment is `//` up to
@@ -33,7 +36,7 @@ fn divide(alloc: Global, text: &[u8]) -> Result<Tokens<'_>, LexFault>
     requires room { length text.now < 2 ^ 32 }
     ensures { spec.Answers text.now result }
 {
-    let mut tokens = Tokens::new(alloc);
+    let mut tokens = Tokens::with_room(alloc, text.len() / BYTES_A_TOKEN)?;
     let mut at = 0;
     let mut rest = text;
     loop {

@@ -41,7 +41,7 @@ impl<'a> Model for Tokens<'a> {
 }
 
 impl<'a> Tokens<'a> {
-    ghost use Rattle.std.specs.Prelude.{◌≡◌, ◌++◌, ◌∷◌, ◌<◌, [], length, slice_get, Some, OnOk, OnErr};
+    ghost use Rattle.std.specs.Prelude.{◌≡◌, ◌++◌, ◌∷◌, ◌<◌, [], length, slice_get, Some, IfOk, OnOk, OnErr};
     ghost use Rattle.ad_lexer.specs.Lexeme.{lexeme};
 
     /// The empty list, which takes no memory yet.
@@ -51,6 +51,15 @@ impl<'a> Tokens<'a> {
         Tokens {
             items: Vec::new(alloc),
         }
+    }
+
+    // The empty list, with memory for so many tokens.
+    pub(crate) fn with_room(alloc: Global, room: usize) -> Result<Tokens<'a>, OutOfMemory>
+        ensures { IfOk result (λ tokens. tokens ≡ []) }
+    {
+        Ok(Tokens {
+            items: Vec::with_capacity(alloc, room)?,
+        })
     }
 
     /// Adds a token at the end.

@@ -126,9 +126,7 @@ fn fold_in_place(bytes: &mut [u8])
 fn folded_key(alloc: Global, name: &[u8]) -> Result<Vec<u8>, OutOfMemory>
     ensures { IfOk result (λ key. key.items ≡ folded name.now) }
 {
-    let key: Result<Vec<u8>, _> = name
-        .iter()
-        .map(|byte| byte.to_ascii_lowercase())
-        .collect(alloc);
-    Ok(key?)
+    let mut key = Vec::from_slice(alloc, name)?;
+    fold_in_place(&mut key);
+    Ok(key)
 }

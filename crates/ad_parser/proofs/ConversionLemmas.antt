@@ -1,7 +1,7 @@
 -- The steps of the conversion of trees into a draft.
-use Rattle.std.proofs.Common.{refl, arith, ◌≡◌, ◌<◌, ℕ, List, [], ◌∷◌, ◌++◌, length, map, ap, sym, ◌∙◌, subst, Result, Ok, Err, IfOk}
-use Rattle.std.proofs.lemmas.List.{map-append}
-use Rattle.ad_tree.specs.Tree.{Tree, Trees, frame, pack as pack_trees}
+use Rattle.std.proofs.Common.{refl, arith, ◌≡◌, ◌<◌, ℕ, List, [], ◌∷◌, ◌++◌, length, map, ap, sym, ◌∙◌, subst, append_assoc, Result, Ok, Err, IfOk}
+use Rattle.std.proofs.lemmas.List.{append-nil, map-append}
+use Rattle.ad_tree.specs.Tree.{Tree, Trees, frame, tree, trees, pack as pack_trees}
 use Rattle.ad_tree.specs.Frames.{Frame, empty_frame, defined, settled_frame}
 use Rattle.ad_tree.specs.Inline.{Inline, Inlines, inner, Defs, no_defs, frames, spelled, spelled_tree, number, ad_of, phrase_of, phrase_tree}
 use Rattle.ad_tree.specs.Placed.{IsPlaced, AreAllPlaced, HasDefined}
@@ -10,19 +10,34 @@ use Rattle.ad_tree.proofs.PlacedLemmas.{length-placed, length-all_placed, last-p
 use Rattle.ad_tree.proofs.SpellingLemmas.{ad_of-finished, phrase_of-finished}
 use Rattle.ad_parser.specs.Converted.{Completes}
 use Rattle.ad_parser.specs.declared.node.Node.{Node}
+use Rattle.ad_parser.specs.declared.node.Node.TheVariants as nodes
 use Rattle.ad_parser.specs.declared.node.Definition.{Definition}
+use Rattle.ad_parser.specs.declared.whole.Whole.{Whole}
+use Rattle.ad_parser.specs.declared.whole.Wholes.{Wholes}
 use Rattle.ad_parser.specs.Nodes.{inline, pack, pack_definitions}
+use Rattle.ad_parser.specs.Wholes.{wholes}
 use Rattle.ad_parser.proofs.ListLemmas.{named, pack-last, pack_definitions-last}
+use Rattle.ad_parser.proofs.NodeLemmas.{inline-Whole}
+use Rattle.ad_parser.proofs.WholeLemmas.{whole-placed, wholes-placed}
 
--- one tree of a list more is placed
-pub list-converted : {p : ℕ} (ns : List Node) (n : Node) (us vs : List Tree) (t : Tree) {before between after : List Frame}
+-- an expression without ad literals is placed as it is
+pub whole-converted : (p : ℕ) (n : Node) (w : Whole) (fs : List Frame) → n ≡ nodes.Whole w → IsPlaced p (inline n) (tree w.expr) fs fs
+whole-converted p n w fs e = subst (λ i. IsPlaced p i (tree w.expr) fs fs) (sym (ap inline e ∙ inline-Whole w)) (whole-placed p (tree w.expr) fs w.cites_none)
+
+-- and so are those at the front of a list
+pub front-converted : (p : ℕ) (w : Wholes) (fs : List Frame) → AreAllPlaced p (pack (wholes w ++ [])) (pack_trees (trees w.list)) fs fs
+front-converted p w fs = subst (λ is. AreAllPlaced p (pack is) (pack_trees (trees w.list)) fs fs) (sym (append-nil (wholes w))) (wholes-placed p (trees w.list) fs w.cite_none)
+
+-- one tree of a list more is placed, behind those of the front
+pub list-converted : {p : ℕ} (is : List Inline) (ns : List Node) (n : Node) (us vs : List Tree) (t : Tree) {before between after : List Frame}
     → vs ≡ us ++ t ∷ []
-    → AreAllPlaced p (pack (map inline ns)) (pack_trees us) before between → IsPlaced p (inline n) t between after
-    → AreAllPlaced p (pack (map inline (ns ++ n ∷ []))) (pack_trees vs) before after
-list-converted {p} ns n us vs t {before} {between} {after} push h one =
+    → AreAllPlaced p (pack (is ++ map inline ns)) (pack_trees us) before between → IsPlaced p (inline n) t between after
+    → AreAllPlaced p (pack (is ++ map inline (ns ++ n ∷ []))) (pack_trees vs) before after
+list-converted {p} is ns n us vs t {before} {between} {after} push h one =
     subst (λ xs. AreAllPlaced p xs (pack_trees vs) before after)
-    (sym (ap pack (map-append inline ns (n ∷ [])) ∙ pack-last (map inline ns) (inline n)))
-    (subst (λ cs. AreAllPlaced p (next_last (pack (map inline ns)) (inline n)) cs before after)
+    (sym (ap (λ js. pack (is ++ js)) (map-append inline ns (n ∷ [])) ∙ ap pack (sym (append_assoc is (map inline ns) (inline n ∷ [])))
+    ∙ pack-last (is ++ map inline ns) (inline n)))
+    (subst (λ cs. AreAllPlaced p (next_last (pack (is ++ map inline ns)) (inline n)) cs before after)
     (sym (ap pack_trees push ∙ pack-push us t))
     (last-placed h one))
 

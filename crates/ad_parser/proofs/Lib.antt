@@ -19,4 +19,5 @@ mod RuleLemmas
 pub mod SettledLemmas
 mod SoundLemmas
 pub mod UniqueLemmas
+mod WholeLemmas
 mod WordLemmas

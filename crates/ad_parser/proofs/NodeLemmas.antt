@@ -1,23 +1,23 @@
 -- Laws of the parser's own trees.
-use Rattle.std.proofs.Common.{refl, arith, ◌≡◌, ℕ, suc, max, Bool, true, false, List, [], ◌∷◌, ◌++◌, Option, None, Some, ap, sym, ◌∙◌}
+use Rattle.std.proofs.Common.{refl, arith, ◌≡◌, ℕ, suc, max, List, [], ◌∷◌, ◌++◌, Option, None, Some, ap, sym, ◌∙◌}
 use Rattle.std.specs.declared.boxed.Box.{Box}
 use Rattle.std.specs.declared.alloc.Global.{Global}
-use Rattle.pool_text.specs.declared.language.Lit.{Lit}
 use Rattle.pool_text.specs.declared.language.UnOp.{UnOp}
 use Rattle.pool_text.specs.declared.language.BinOp.{BinOp}
-use Rattle.ad_tree.specs.declared.tree.Scope.{Scope}
-use Rattle.ad_tree.specs.Tree.{literal, name, unary, binary, all, any, choice, select, subscript, call, list}
+use Rattle.ad_tree.specs.Tree.{unary, binary, all, any, choice, select, subscript, call, list}
 use Rattle.ad_tree.specs.Tree as labels
-use Rattle.ad_tree.specs.Inline.{Inline, Inlines, Defs, shape, inner, end, next, no_defs, def, height, highest, highest_def}
+use Rattle.ad_tree.specs.Inline.{Inline, Inlines, Defs, shape, inner, end, next, def, height, highest, highest_def}
 use Rattle.ad_parser.specs.declared.node.Node.{Node, fold-roll-Node}
 use Rattle.ad_parser.specs.declared.node.Node.TheVariants as nodes
 use Rattle.ad_parser.specs.declared.node.Nodes.{Nodes}
 use Rattle.ad_parser.specs.declared.node.Definitions.{Definitions}
+use Rattle.ad_parser.specs.declared.whole.Whole.{Whole}
 use Rattle.ad_parser.specs.Nodes.{inline, inlines, definitions, layer, before, pack, defined_before, pack_definitions}
 use Rattle.ad_parser.specs.Limits.{height_limit}
 use Rattle.ad_parser.specs.Parts.{extends, joined_height}
 use Rattle.ad_parser.specs.Rules.{cut_one, cut_two, cut_three}
-use Rattle.ad_parser.specs.Shapes.{leaf, over_one, over_two, over_three, followed_by, Infix, conjunction, disjunction, operator, joined}
+use Rattle.ad_parser.specs.Shapes.{over_one, over_two, over_three, followed_by, Infix, conjunction, disjunction, operator, joined}
+use Rattle.ad_parser.specs.Wholes.{whole, wholes}
 
 -- trees before others, one more
 pub before-push : (is : List Inline) (i : Inline) (js : Inlines) → before (is ++ i ∷ []) js ≡ before is (next i js)
@@ -29,9 +29,13 @@ defined_before-push [] d es = refl
 defined_before-push (e ∷ ds) d es = ap (def e.0 e.1) (defined_before-push ds d es)
 
 -- the last tree of a list follows the others
-pub pack-followed : (is : List Inline) (i : Inline) → pack (is ++ i ∷ []) ≡ followed_by (pack is) i
+pack-followed : (is : List Inline) (i : Inline) → pack (is ++ i ∷ []) ≡ followed_by (pack is) i
 pack-followed [] i = refl
 pack-followed (h ∷ hs) i = ap (next h) (pack-followed hs i)
+
+-- a chain with its last operand
+pub chained : (label : labels.Label) (is operands : List Inline) (y z : Inline) → is ≡ operands ++ y ∷ [] → shape label (followed_by (pack operands) y) ≡ z → shape label (pack is) ≡ z
+chained label is operands y z e h = ap (λ js. shape label (pack js)) e ∙ ap (shape label) (pack-followed operands y) ∙ h
 
 -- the greatest height of one tree more
 pub highest-push : (is : List Inline) (i : Inline) → highest (pack (is ++ i ∷ [])) ≡ max (highest (pack is)) (height i)
@@ -67,41 +71,38 @@ height-joined (operator op) x y = omega arith
 
 -- ---- the spelled tree of each kind of node ----
 
-pub inline-Literal : (lit : Lit) → inline (nodes.Literal lit) ≡ leaf (literal lit)
-inline-Literal lit = ap inline (sym (nodes.rolls-Literal lit)) ∙ fold-roll-Node Inline (List ℕ × Inline) (List (List ℕ × Inline)) (List Inline) layer (λ d. (d.name, d.node)) (λ l. l.items.items) (λ l. l.items.items) _
-
-pub inline-Name : (scope : Scope) (text : List ℕ) → inline (nodes.Name scope text) ≡ leaf (name scope text)
-inline-Name scope text = ap inline (sym (nodes.rolls-Name scope text)) ∙ fold-roll-Node Inline (List ℕ × Inline) (List (List ℕ × Inline)) (List Inline) layer (λ d. (d.name, d.node)) (λ l. l.items.items) (λ l. l.items.items) _
+pub inline-Whole : (w : Whole) → inline (nodes.Whole w) ≡ whole w
+inline-Whole w = ap inline (sym (nodes.rolls-Whole w)) ∙ fold-roll-Node Inline (List ℕ × Inline) (List (List ℕ × Inline)) (List Inline) layer (λ d. (d.name, d.node)) (λ l. l.items.items) (λ l. wholes l.front ++ l.rest.items) _
 
 pub inline-Unary : (op : UnOp) (a : Box Node Global) → inline (nodes.Unary op a) ≡ over_one (unary op) (inline a.value)
-inline-Unary op a = ap inline (sym (nodes.rolls-Unary op a)) ∙ fold-roll-Node Inline (List ℕ × Inline) (List (List ℕ × Inline)) (List Inline) layer (λ d. (d.name, d.node)) (λ l. l.items.items) (λ l. l.items.items) _
+inline-Unary op a = ap inline (sym (nodes.rolls-Unary op a)) ∙ fold-roll-Node Inline (List ℕ × Inline) (List (List ℕ × Inline)) (List Inline) layer (λ d. (d.name, d.node)) (λ l. l.items.items) (λ l. wholes l.front ++ l.rest.items) _
 
 pub inline-Binary : (op : BinOp) (operands : Box (Node × Node) Global) → inline (nodes.Binary op operands) ≡ over_two (binary op) (inline operands.value.0) (inline operands.value.1)
-inline-Binary op operands = ap inline (sym (nodes.rolls-Binary op operands)) ∙ fold-roll-Node Inline (List ℕ × Inline) (List (List ℕ × Inline)) (List Inline) layer (λ d. (d.name, d.node)) (λ l. l.items.items) (λ l. l.items.items) _
+inline-Binary op operands = ap inline (sym (nodes.rolls-Binary op operands)) ∙ fold-roll-Node Inline (List ℕ × Inline) (List (List ℕ × Inline)) (List Inline) layer (λ d. (d.name, d.node)) (λ l. l.items.items) (λ l. wholes l.front ++ l.rest.items) _
 
 pub inline-And : (items : Nodes) → inline (nodes.And items) ≡ shape all (pack (inlines items))
-inline-And items = ap inline (sym (nodes.rolls-And items)) ∙ fold-roll-Node Inline (List ℕ × Inline) (List (List ℕ × Inline)) (List Inline) layer (λ d. (d.name, d.node)) (λ l. l.items.items) (λ l. l.items.items) _
+inline-And items = ap inline (sym (nodes.rolls-And items)) ∙ fold-roll-Node Inline (List ℕ × Inline) (List (List ℕ × Inline)) (List Inline) layer (λ d. (d.name, d.node)) (λ l. l.items.items) (λ l. wholes l.front ++ l.rest.items) _
 
 pub inline-Or : (items : Nodes) → inline (nodes.Or items) ≡ shape any (pack (inlines items))
-inline-Or items = ap inline (sym (nodes.rolls-Or items)) ∙ fold-roll-Node Inline (List ℕ × Inline) (List (List ℕ × Inline)) (List Inline) layer (λ d. (d.name, d.node)) (λ l. l.items.items) (λ l. l.items.items) _
+inline-Or items = ap inline (sym (nodes.rolls-Or items)) ∙ fold-roll-Node Inline (List ℕ × Inline) (List (List ℕ × Inline)) (List Inline) layer (λ d. (d.name, d.node)) (λ l. l.items.items) (λ l. wholes l.front ++ l.rest.items) _
 
 pub inline-Choice : (operands : Box (Node × Node × Node) Global) → inline (nodes.Choice operands) ≡ over_three choice (inline operands.value.0) (inline operands.value.1) (inline operands.value.2)
-inline-Choice operands = ap inline (sym (nodes.rolls-Choice operands)) ∙ fold-roll-Node Inline (List ℕ × Inline) (List (List ℕ × Inline)) (List Inline) layer (λ d. (d.name, d.node)) (λ l. l.items.items) (λ l. l.items.items) _
+inline-Choice operands = ap inline (sym (nodes.rolls-Choice operands)) ∙ fold-roll-Node Inline (List ℕ × Inline) (List (List ℕ × Inline)) (List Inline) layer (λ d. (d.name, d.node)) (λ l. l.items.items) (λ l. wholes l.front ++ l.rest.items) _
 
 pub inline-Select : (a : Box Node Global) (text : List ℕ) → inline (nodes.Select a text) ≡ over_one (select text) (inline a.value)
-inline-Select a text = ap inline (sym (nodes.rolls-Select a text)) ∙ fold-roll-Node Inline (List ℕ × Inline) (List (List ℕ × Inline)) (List Inline) layer (λ d. (d.name, d.node)) (λ l. l.items.items) (λ l. l.items.items) _
+inline-Select a text = ap inline (sym (nodes.rolls-Select a text)) ∙ fold-roll-Node Inline (List ℕ × Inline) (List (List ℕ × Inline)) (List Inline) layer (λ d. (d.name, d.node)) (λ l. l.items.items) (λ l. wholes l.front ++ l.rest.items) _
 
 pub inline-Subscript : (operands : Box (Node × Node) Global) → inline (nodes.Subscript operands) ≡ over_two subscript (inline operands.value.0) (inline operands.value.1)
-inline-Subscript operands = ap inline (sym (nodes.rolls-Subscript operands)) ∙ fold-roll-Node Inline (List ℕ × Inline) (List (List ℕ × Inline)) (List Inline) layer (λ d. (d.name, d.node)) (λ l. l.items.items) (λ l. l.items.items) _
+inline-Subscript operands = ap inline (sym (nodes.rolls-Subscript operands)) ∙ fold-roll-Node Inline (List ℕ × Inline) (List (List ℕ × Inline)) (List Inline) layer (λ d. (d.name, d.node)) (λ l. l.items.items) (λ l. wholes l.front ++ l.rest.items) _
 
 pub inline-Call : (text : List ℕ) (items : Nodes) → inline (nodes.Call text items) ≡ shape (call text) (pack (inlines items))
-inline-Call text items = ap inline (sym (nodes.rolls-Call text items)) ∙ fold-roll-Node Inline (List ℕ × Inline) (List (List ℕ × Inline)) (List Inline) layer (λ d. (d.name, d.node)) (λ l. l.items.items) (λ l. l.items.items) _
+inline-Call text items = ap inline (sym (nodes.rolls-Call text items)) ∙ fold-roll-Node Inline (List ℕ × Inline) (List (List ℕ × Inline)) (List Inline) layer (λ d. (d.name, d.node)) (λ l. l.items.items) (λ l. wholes l.front ++ l.rest.items) _
 
 pub inline-List : (items : Nodes) → inline (nodes.List items) ≡ shape list (pack (inlines items))
-inline-List items = ap inline (sym (nodes.rolls-List items)) ∙ fold-roll-Node Inline (List ℕ × Inline) (List (List ℕ × Inline)) (List Inline) layer (λ d. (d.name, d.node)) (λ l. l.items.items) (λ l. l.items.items) _
+inline-List items = ap inline (sym (nodes.rolls-List items)) ∙ fold-roll-Node Inline (List ℕ × Inline) (List (List ℕ × Inline)) (List Inline) layer (λ d. (d.name, d.node)) (λ l. l.items.items) (λ l. wholes l.front ++ l.rest.items) _
 
 pub inline-Ad : (items : Definitions) → inline (nodes.Ad items) ≡ inner (pack_definitions (definitions items))
-inline-Ad items = ap inline (sym (nodes.rolls-Ad items)) ∙ fold-roll-Node Inline (List ℕ × Inline) (List (List ℕ × Inline)) (List Inline) layer (λ d. (d.name, d.node)) (λ l. l.items.items) (λ l. l.items.items) _
+inline-Ad items = ap inline (sym (nodes.rolls-Ad items)) ∙ fold-roll-Node Inline (List ℕ × Inline) (List (List ℕ × Inline)) (List Inline) layer (λ d. (d.name, d.node)) (λ l. l.items.items) (λ l. wholes l.front ++ l.rest.items) _
 
 -- ---- nothing is made of nothing ----
 

@@ -17,4 +17,5 @@ pub mod Rules
 pub mod Shapes
 pub mod Steps
 pub mod Taking
+pub mod Wholes
 pub mod Words

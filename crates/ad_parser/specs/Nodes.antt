@@ -1,13 +1,14 @@
 -- What contracts see of the parser's own trees.
-use Rattle.std.specs.Prelude.{ℕ, List, [], ◌∷◌}
-use Rattle.ad_tree.specs.Tree.{literal, name, unary, binary, all, any, choice, select, subscript, call, list}
+use Rattle.std.specs.Prelude.{ℕ, List, [], ◌∷◌, ◌++◌}
+use Rattle.ad_tree.specs.Tree.{unary, binary, all, any, choice, select, subscript, call, list}
 use Rattle.ad_tree.specs.Inline.{Inline, Inlines, Defs, shape, inner, end, next, no_defs, def}
 use Rattle.ad_parser.specs.declared.node.Node.{Node}
 use Rattle.ad_parser.specs.declared.node.Node.TheOpen.{Node-F}
 use Rattle.ad_parser.specs.declared.node.Node.TheFolds.{fold-Node}
 use Rattle.ad_parser.specs.declared.node.Nodes.{Nodes, fold-Nodes}
 use Rattle.ad_parser.specs.declared.node.Definitions.{Definitions, fold-Definitions}
-use Rattle.ad_parser.specs.Shapes.{leaf, over_one, over_two, over_three}
+use Rattle.ad_parser.specs.Shapes.{over_one, over_two, over_three}
+use Rattle.ad_parser.specs.Wholes.{whole, wholes}
 
 -- trees in front of others
 abbrev pub before : List Inline → Inlines → Inlines
@@ -29,8 +30,7 @@ pack_definitions ds = defined_before ds no_defs
 
 -- one layer of a tree, with a spelled tree in each place below it
 abbrev pub layer : Node-F Inline (List ℕ × Inline) (List (List ℕ × Inline)) (List Inline) → Inline
-layer (Node-F.Literal lit) = leaf (literal lit)
-layer (Node-F.Name scope text) = leaf (name scope text)
+layer (Node-F.Whole w) = whole w
 layer (Node-F.Unary op a) = over_one (unary op) a.value
 layer (Node-F.Binary op operands) = over_two (binary op) operands.value.0 operands.value.1
 layer (Node-F.And is) = shape all (pack is)
@@ -44,12 +44,12 @@ layer (Node-F.Ad ds) = inner (pack_definitions ds)
 
 -- the spelled tree of a node
 abbrev pub inline : Node → Inline
-inline = fold-Node Inline (List ℕ × Inline) (List (List ℕ × Inline)) (List Inline) layer (λ d. (d.name, d.node)) (λ l. l.items.items) (λ l. l.items.items)
+inline = fold-Node Inline (List ℕ × Inline) (List (List ℕ × Inline)) (List Inline) layer (λ d. (d.name, d.node)) (λ l. l.items.items) (λ l. wholes l.front ++ l.rest.items)
 
 -- the spelled trees of nodes
 abbrev pub inlines : Nodes → List Inline
-inlines = fold-Nodes Inline (List ℕ × Inline) (List (List ℕ × Inline)) (List Inline) layer (λ d. (d.name, d.node)) (λ l. l.items.items) (λ l. l.items.items)
+inlines = fold-Nodes Inline (List ℕ × Inline) (List (List ℕ × Inline)) (List Inline) layer (λ d. (d.name, d.node)) (λ l. l.items.items) (λ l. wholes l.front ++ l.rest.items)
 
 -- names with the spelled trees of their definitions
 abbrev pub definitions : Definitions → List (List ℕ × Inline)
-definitions = fold-Definitions Inline (List ℕ × Inline) (List (List ℕ × Inline)) (List Inline) layer (λ d. (d.name, d.node)) (λ l. l.items.items) (λ l. l.items.items)
+definitions = fold-Definitions Inline (List ℕ × Inline) (List (List ℕ × Inline)) (List Inline) layer (λ d. (d.name, d.node)) (λ l. l.items.items) (λ l. wholes l.front ++ l.rest.items)

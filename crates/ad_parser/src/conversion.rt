@@ -40,8 +40,7 @@ fn convert(alloc: Global, draft: &mut Draft, parent: u32, node: Node) -> Result<
     ensures { IfOk result (λ expr. IsPlaced parent (inline node) (tree expr) (draft_frames draft.old) (draft_frames draft.new)) }
 {
     match node {
-        Node::Literal(literal) => Ok(Expr::Literal(literal)),
-        Node::Name(scope, name) => Ok(Expr::Name(scope, name)),
+        Node::Whole(item) => Ok(item.expr),
         Node::Unary(op, a) => {
             let a = convert_boxed(alloc, draft, parent, Box::into_inner(a))?;
             Ok(Expr::Unary(op, a))
@@ -134,8 +133,9 @@ fn convert_all(
     ensures { IfOk result (λ exprs. AreAllPlaced parent (pack (inlines nodes)) (pack_trees (trees exprs))
         (draft_frames draft.old) (draft_frames draft.new)) }
 {
-    let mut exprs = Exprs::new(alloc);
-    for node in nodes.items {
+    let Nodes { front, rest } = nodes;
+    let mut exprs = front.list;
+    for node in rest {
         let expr = convert(alloc, draft, parent, node)?;
         exprs.push(expr)?;
     }

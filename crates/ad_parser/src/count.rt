@@ -81,8 +81,7 @@ pub fn tally(node: &Node) -> Counts
     ensures definitions { result.definitions ≡ min counting_limit (trees.definitions (inline node.now)) }
 {
     match node {
-        Node::Literal(_) => Counts::nothing(),
-        Node::Name(_, _) => Counts::nothing(),
+        Node::Whole(_) => Counts::nothing(),
         Node::Unary(_, a) => tally(a),
         Node::Binary(_, operands) => tally_two(&operands.0, &operands.1),
         Node::And(nodes) => tally_all(nodes),
@@ -110,8 +109,8 @@ fn tally_all(nodes: &Nodes) -> Counts
     ensures definitions { result.definitions ≡ min counting_limit (trees.definitions_all (pack (inlines nodes.now))) }
 {
     let mut total = Counts::nothing();
-    for i in 0..nodes.len() {
-        total = total.plus(tally(nodes.at(i)));
+    for i in 0..nodes.rest.len() {
+        total = total.plus(tally(&nodes.rest[i]));
     }
     total
 }

@@ -10,13 +10,13 @@ ghost use Rattle.ad_parser.specs.Rules as rules;
 ghost use Rattle.ad_parser.specs.Steps.{left, Gives, reference};
 ghost use Rattle.ad_parser.specs.Words.{mark as mark_word, scope_of};
 
+use crate::building::{literal_node, name_node};
 use crate::chains::{Choice, apply, choose, hold, read_operators};
 use crate::joining::{
     ad, add_definition, add_part, call, join, leaf, list, no_definitions, no_parts, selection,
     subscript,
 };
 use crate::mark::Mark;
-use crate::node::Node;
 use crate::part::{DefinitionParts, Part, Parts};
 use crate::reader::Reader;
 use crate::stop::Stop;
@@ -176,9 +176,9 @@ fn primary(alloc: Global, reader: &mut Reader<'_>, fuel: usize) -> Result<Part, 
         result (left reader.new) }
 {
     match reader.take() {
-        Some(Word::Constant(literal)) => Ok(leaf(Node::Literal(literal))),
+        Some(Word::Constant(literal)) => Ok(leaf(literal_node(literal))),
         Some(Word::Plain(text)) => plain(alloc, reader, fuel, text),
-        Some(Word::Quoted(text)) => Ok(leaf(Node::Name(Scope::Bare, text))),
+        Some(Word::Quoted(text)) => Ok(leaf(name_node(Scope::Bare, text))),
         Some(Word::Mark(mark)) => marked(alloc, reader, fuel, mark),
         None => Err(Stop::Grammar),
     }
@@ -191,7 +191,7 @@ fn marked(alloc: Global, reader: &mut Reader<'_>, fuel: usize, mark: Mark) -> Re
         result (left reader.new) }
 {
     match mark {
-        Mark::Dot => Ok(leaf(Node::Name(Scope::My, reader.name(alloc)?))),
+        Mark::Dot => Ok(leaf(name_node(Scope::My, reader.name(alloc)?))),
         Mark::OpenBrace => Ok(list(elements(alloc, reader, fuel)?)),
         Mark::OpenBracket => Ok(ad(definitions(alloc, reader, fuel)?)),
         Mark::OpenParen => {
@@ -310,12 +310,12 @@ fn named(alloc: Global, reader: &mut Reader<'_>, text: &[u8]) -> Result<Part, St
     ensures { Gives part (reference text.now (left reader.old)) result (left reader.new) }
 {
     let Some(scope) = scope_of(text) else {
-        return Ok(leaf(Node::Name(Scope::Bare, Text::from_bytes(alloc, text)?)));
+        return Ok(leaf(name_node(Scope::Bare, Text::from_bytes(alloc, text)?)));
     };
     if reader.takes(Mark::Dot) {
-        return Ok(leaf(Node::Name(scope, reader.name(alloc)?)));
+        return Ok(leaf(name_node(scope, reader.name(alloc)?)));
     }
-    Ok(leaf(Node::Name(Scope::Bare, Text::from_bytes(alloc, text)?)))
+    Ok(leaf(name_node(Scope::Bare, Text::from_bytes(alloc, text)?)))
 }
 
 /// The scope that a plain name is in front of a dot, in any case.

@@ -8,9 +8,16 @@ ghost use Rattle.ad_parser.specs.Nodes.{inline};
 ghost use Rattle.ad_parser.specs.Parts.{part, parts, definition_parts, as_infix, cut_last, cut_last_def, cut_before, cut_defined_before, extends, joined_height};
 ghost use Rattle.ad_parser.specs.Rules.{cut, cut_one, cut_two, cut_three, cut_shape, cut_ad};
 ghost use Rattle.ad_parser.specs.Shapes as shapes;
+ghost use Rattle.ad_parser.specs.Wholes.{whole};
 
+use crate::building::{
+    binary_node, call_node, choice_node, conjunction_node, disjunction_node, list_node,
+    select_node, subscript_node, unary_node,
+};
 use crate::node::{Definitions, Node, Nodes};
 use crate::part::{DefinitionParts, HEIGHT_LIMIT, Part, Parts};
+use crate::whole::Whole;
+use ad_tree::Expr;
 use pool_text::{BinOp, OutOfMemory, Text, UnOp};
 use std::alloc::Global;
 
@@ -33,6 +40,7 @@ pub fn cut(node: Node, height: u32) -> Part
             height,
         }
     } else {
+        drop(node);
         nothing()
     }
 }
@@ -62,7 +70,7 @@ pub fn unary(alloc: Global, op: UnOp, operand: Part) -> Result<Part, OutOfMemory
 {
     let Part { node, height } = operand;
     match node {
-        Some(node) => Ok(cut(Node::Unary(op, Box::new(alloc, node)?), height + 1)),
+        Some(node) => Ok(cut(unary_node(alloc, op, node)?, height + 1)),
         None => Ok(nothing()),
     }
 }
@@ -73,7 +81,7 @@ pub fn selection(alloc: Global, base: Part, name: Text) -> Result<Part, OutOfMem
 {
     let Part { node, height } = base;
     match node {
-        Some(node) => Ok(cut(Node::Select(Box::new(alloc, node)?, name), height + 1)),
+        Some(node) => Ok(cut(select_node(alloc, node, name)?, height + 1)),
         None => Ok(nothing()),
     }
 }
@@ -84,10 +92,7 @@ pub fn subscript(alloc: Global, base: Part, place: Part) -> Result<Part, OutOfMe
 {
     let height = base.height.max(place.height) + 1;
     match (base.node, place.node) {
-        (Some(a), Some(b)) => {
-            let node = Node::Subscript(Box::new(alloc, (a, b))?);
-            Ok(cut(node, height))
-        }
+        (Some(a), Some(b)) => Ok(cut(subscript_node(alloc, a, b)?, height)),
         _ => Ok(nothing()),
     }
 }
@@ -104,10 +109,7 @@ pub fn choice(
 {
     let height = condition.height.max(first.height.max(second.height)) + 1;
     match (condition.node, first.node, second.node) {
-        (Some(a), Some(b), Some(c)) => {
-            let node = Node::Choice(Box::new(alloc, (a, b, c))?);
-            Ok(cut(node, height))
-        }
+        (Some(a), Some(b), Some(c)) => Ok(cut(choice_node(alloc, a, b, c)?, height)),
         _ => Ok(nothing()),
     }
 }
@@ -144,6 +146,17 @@ fn extends(joint: Joint, node: &Node) -> bool
     match (joint, node) {
         (Joint::Conjunction, Node::And(_)) => true,
         (Joint::Disjunction, Node::Or(_)) => true,
+        (joint, Node::Whole(item)) => whole_extends(joint, item),
+        _ => false,
+    }
+}
+
+fn whole_extends(joint: Joint, item: &Whole) -> bool
+    ensures { result ≡ extends (as_infix joint) (whole item.now) }
+{
+    match (joint, &item.expr) {
+        (Joint::Conjunction, Expr::And(_)) => true,
+        (Joint::Disjunction, Expr::Or(_)) => true,
         _ => false,
     }
 }
@@ -152,33 +165,9 @@ fn join_nodes(alloc: Global, joint: Joint, left: Node, right: Node) -> Result<No
     ensures { IfOk result (λ node. inline node ≡ shapes.joined (as_infix joint) (inline left) (inline right)) }
 {
     match joint {
-        Joint::Conjunction => conjunction(alloc, left, right),
-        Joint::Disjunction => disjunction(alloc, left, right),
-        Joint::Operator(op) => Ok(Node::Binary(op, Box::new(alloc, (left, right))?)),
-    }
-}
-
-fn conjunction(alloc: Global, left: Node, right: Node) -> Result<Node, OutOfMemory>
-    ensures { IfOk result (λ node. inline node ≡ shapes.joined shapes.conjunction (inline left) (inline right)) }
-{
-    match left {
-        Node::And(mut nodes) => {
-            nodes.push(right)?;
-            Ok(Node::And(nodes))
-        }
-        first => Ok(Node::And(Nodes::pair(alloc, first, right)?)),
-    }
-}
-
-fn disjunction(alloc: Global, left: Node, right: Node) -> Result<Node, OutOfMemory>
-    ensures { IfOk result (λ node. inline node ≡ shapes.joined shapes.disjunction (inline left) (inline right)) }
-{
-    match left {
-        Node::Or(mut nodes) => {
-            nodes.push(right)?;
-            Ok(Node::Or(nodes))
-        }
-        first => Ok(Node::Or(Nodes::pair(alloc, first, right)?)),
+        Joint::Conjunction => conjunction_node(alloc, left, right),
+        Joint::Disjunction => disjunction_node(alloc, left, right),
+        Joint::Operator(op) => binary_node(alloc, op, left, right),
     }
 }
 
@@ -218,7 +207,7 @@ pub fn call(name: Text, arguments: Parts) -> Part
 {
     let Parts { nodes, highest } = arguments;
     match nodes {
-        Some(nodes) => cut(Node::Call(name, nodes), highest + 1),
+        Some(nodes) => cut(call_node(name, nodes), highest + 1),
         None => nothing(),
     }
 }
@@ -229,7 +218,7 @@ pub fn list(elements: Parts) -> Part
 {
     let Parts { nodes, highest } = elements;
     match nodes {
-        Some(nodes) => cut(Node::List(nodes), highest + 1),
+        Some(nodes) => cut(list_node(nodes), highest + 1),
         None => nothing(),
     }
 }

@@ -1,6 +1,7 @@
 //! Trees from ClassAd text: exactly those of the grammar, within the limits.
 #![tactic(auto)]
 
+mod building;
 mod chains;
 mod conversion;
 mod count;
@@ -23,6 +24,7 @@ mod stop;
 mod symbol;
 #[cfg(test)]
 mod tests;
+mod whole;
 mod word;
 
 pub use fault::ParseFault;

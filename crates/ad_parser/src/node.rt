@@ -1,14 +1,14 @@
 // The parser's own trees, in which ad literals stand in place.
-use ad_tree::Scope;
-use pool_text::{BinOp, Lit, OutOfMemory, Text, UnOp};
+use crate::whole::{Whole, Wholes};
+use pool_text::{BinOp, OutOfMemory, Text, UnOp};
 use std::alloc::Global;
 
-/// An expression as it is spelled. The operands of a node share one box.
+/// An expression as it is spelled: built as it stays where no ad literal stands in it, else a node, whose operands share
+/// one box.
 #[cycle(node)]
 #[derive(Debug, Drop)]
 pub enum Node {
-    Literal(Lit),
-    Name(Scope, Text),
+    Whole(Whole),
     Unary(UnOp, Box<Node>),
     Binary(BinOp, Box<(Node, Node)>),
     And(Nodes),
@@ -21,10 +21,12 @@ pub enum Node {
     Ad(Definitions),
 }
 
+/// The trees in front of the first in which an ad literal stands, and the trees from there on.
 #[cycle(node)]
 #[derive(Debug, Drop)]
 pub struct Nodes {
-    pub items: Vec<Node>,
+    pub front: Wholes,
+    pub rest: Vec<Node>,
 }
 
 #[cycle(node)]
@@ -41,44 +43,66 @@ pub struct Definition {
 }
 
 impl Nodes {
-    ghost use Rattle.std.specs.Prelude.{◌≡◌, ◌<◌, ◌++◌, ◌∷◌, [], length, slice_get, Some, OnOk, IfOk};
+    ghost use Rattle.std.specs.Prelude.{◌≡◌, ◌++◌, ◌∷◌, [], IfOk, IfErr, OnOk};
     ghost use Rattle.ad_parser.specs.Nodes.{inline, inlines};
+    ghost use Rattle.ad_parser.specs.Wholes.{whole, wholes as wholes_of};
 
     pub fn new(alloc: Global) -> Nodes
         ensures { inlines result ≡ [] }
     {
+        Nodes::wholes(alloc, Wholes::new(alloc))
+    }
+
+    pub fn wholes(alloc: Global, front: Wholes) -> Nodes
+        ensures { inlines result ≡ wholes_of front }
+    {
         Nodes {
-            items: Vec::new(alloc),
+            front,
+            rest: Vec::new(alloc),
         }
+    }
+
+    pub fn one(alloc: Global, node: Node) -> Result<Nodes, OutOfMemory>
+        ensures { IfOk result (λ nodes. inlines nodes ≡ inline node ∷ []) }
+    {
+        let mut nodes = Nodes::new(alloc);
+        nodes.push(node)?;
+        Ok(nodes)
     }
 
     pub fn push(&mut self, node: Node) -> Result<(), OutOfMemory>
         ensures { OnOk result (inlines self.new ≡ inlines self.old ++ inline node ∷ []) }
     {
-        self.items.push(node)?;
-        Ok(())
+        match node {
+            Node::Whole(item) => self.push_whole(item),
+            node => {
+                self.rest.push(node)?;
+                Ok(())
+            }
+        }
     }
 
-    pub fn len(&self) -> usize
-        ensures { result ≡ length (inlines self.now) }
+    fn push_whole(&mut self, item: Whole) -> Result<(), OutOfMemory>
+        ensures { OnOk result (inlines self.new ≡ inlines self.old ++ whole item ∷ []) }
     {
-        self.items.len()
+        if self.rest.is_empty() {
+            self.front.push(item)
+        } else {
+            self.rest.push(Node::Whole(item))?;
+            Ok(())
+        }
     }
 
-    pub fn at(&self, i: usize) -> &Node
-        requires { i < length (inlines self.now) }
-        ensures { slice_get (inlines self.now) i ≡ Some (inline result.now) }
+    /// The expressions, where no ad literal stands in any of the trees.
+    pub fn whole(self) -> Result<Wholes, Nodes>
+        ensures ok { IfOk result (λ list. wholes_of list ≡ inlines self) }
+        ensures err { IfErr result (λ nodes. inlines nodes ≡ inlines self) }
     {
-        &self.items[i]
-    }
-
-    pub fn pair(alloc: Global, first: Node, second: Node) -> Result<Nodes, OutOfMemory>
-        ensures { IfOk result (λ nodes. inlines nodes ≡ inline first ∷ inline second ∷ []) }
-    {
-        let mut nodes = Nodes::new(alloc);
-        nodes.push(first)?;
-        nodes.push(second)?;
-        Ok(nodes)
+        if self.rest.is_empty() {
+            Ok(self.front)
+        } else {
+            Err(self)
+        }
     }
 }
 

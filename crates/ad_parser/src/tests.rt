@@ -166,7 +166,7 @@ fn limits(rt: HostRuntime) -> Result<(), Fail> {
 }
 
 /// Expressions with their trees, each node in brackets with its operator in front.
-const TREES: [(&[u8], &[u8]); 30] = [
+const TREES: [(&[u8], &[u8]); 32] = [
     (b"1 - 2 - 3", b"(- (- 1 2) 3)"),
     (b"1 - (2 - 3)", b"(- 1 (- 2 3))"),
     (b"a * b % c / d", b"(/ (% (* a b) c) d)"),
@@ -209,6 +209,11 @@ const TREES: [(&[u8], &[u8]); 30] = [
         b"{ [1 a={ [2 b=a]}] [3]}",
     ),
     (b"[ a = b ].a", b"(. [1 a=b])a"),
+    (b"a && b && [ ].x && c", b"(&& a b (. [1])x c)"),
+    (
+        b"f(a || [ ].x || b, 1, [ ] ? 1 : 2, -[ ] + [ ][1], c)",
+        b"f( (|| a (. [1])x b) 1 (? [2] 1 2) (+ (- [3]) (at [4] 1)) c)",
+    ),
 ];
 
 #[test]

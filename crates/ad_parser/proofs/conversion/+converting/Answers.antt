@@ -1,4 +1,4 @@
-use Rattle.std.proofs.Common.{arith, rules, map, map-id, ap, sym, subst, ◌∙◌}
+use Rattle.std.proofs.Common.{arith, rules, ◌++◌, map, map-id, ap, sym, subst, ◌∙◌}
 use Rattle.std.proofs.lemmas.Iterator.Adapters.{YieldsList-from_vec}
 use Rattle.std.proofs.lemmas.Iterator.Consumers.{YieldsList-turn, YieldsList-end}
 use Rattle.ad_tree.specs.Draft.{draft_frames}
@@ -8,9 +8,16 @@ use Rattle.ad_tree.proofs.PlacedLemmas.{next-placed, one-placed}
 use Rattle.ad_parser.specs.Converted.{Completes}
 use Rattle.ad_parser.specs.Nodes.{inline, pack, pack_definitions}
 use Rattle.ad_parser.specs.declared.node.Definitions.{out-Definitions}
-use Rattle.ad_parser.proofs.ConversionLemmas.{list-converted, definition-converted, frame-converted, stays-there}
+use Rattle.ad_parser.specs.Wholes.{wholes}
+use Rattle.ad_parser.proofs.ConversionLemmas.{whole-converted, front-converted, list-converted, definition-converted, frame-converted, stays-there}
 use Rattle.ad_parser.proofs.ListLemmas.{named, inlines-items, definitions-items, height-taken, height-defined_taken}
 use Rattle.ad_parser.proofs.conversion.+converting.Goals as goal
+
+pub convert-returns-in-Whole : goal.convert-returns-in-Whole
+convert-returns-in-Whole t c = whole-converted c.args.parent c.args.node c.in-Whole.item (draft_frames c.args.draft.now) c.in-Whole.is
+
+pub convert_all-loop-node-init : goal.convert_all-loop-node-init
+convert_all-loop-node-init t c = front-converted c.args.parent c.args.nodes.front (draft_frames c.args.draft.now)
 
 pub convert_two-returns : goal.convert_two-returns
 convert_two-returns t c = next-placed c.in_ok-a.ensures (one-placed c.in_ok-b.ensures)
@@ -20,7 +27,7 @@ convert_three-returns t c = next-placed c.in_ok-a.ensures c.in_ok-b.ensures
 
 pub convert_all-convert-requires : goal.convert_all-convert-requires
 convert_all-convert-requires t c =
-    let turn = YieldsList-turn (YieldsList-from_vec {s = c.into_iter-node-iterator.result} c.args.nodes.items.items (search rules) (search rules))
+    let turn = YieldsList-turn (YieldsList-from_vec {s = c.into_iter-node-iterator.result} c.args.nodes.rest.items (search rules) (search rules))
     c.loop-node.yielded c.loop-node.node-iterator c.loop-node.yielded_by c.next.result c.next.new.self c.in-Some.node c.in-Some.is c.next.ensures.steps in (
       omega (arith, c.decreases, height-taken c.args.nodes _ c.in-Some.node turn.0 turn.1),
       stays-there c.requires c.loop-node.invariant,
@@ -28,15 +35,15 @@ convert_all-convert-requires t c =
 
 pub convert_all-loop-node-preserved : goal.convert_all-loop-node-preserved
 convert_all-loop-node-preserved t c =
-    list-converted c.loop-node.yielded c.in-Some.node (trees c.loop-node.exprs) (trees c.push.new.self) (tree c.in_ok-expr.expr)
+    list-converted (wholes c.args.nodes.front) c.loop-node.yielded c.in-Some.node (trees c.loop-node.exprs) (trees c.push.new.self) (tree c.in_ok-expr.expr)
     c.in_ok-push.ensures.ok c.loop-node.invariant c.in_ok-expr.ensures
 
 pub convert_all-returns : goal.convert_all-returns
 convert_all-returns t c =
-    let end = YieldsList-end (YieldsList-from_vec {s = c.into_iter-node-iterator.result} c.args.nodes.items.items (search rules) (search rules))
+    let end = YieldsList-end (YieldsList-from_vec {s = c.into_iter-node-iterator.result} c.args.nodes.rest.items (search rules) (search rules))
     c.loop-node.yielded c.loop-node.node-iterator c.loop-node.yielded_by c.next.result c.next.new.self c.in-None.is c.next.ensures.steps in
     subst (λ is. AreAllPlaced c.args.parent (pack is) (pack_trees (trees c.loop-node.exprs)) (draft_frames c.args.draft.now) (draft_frames c.loop-node.draft))
-    (ap (map inline) (sym (map-id c.loop-node.yielded) ∙ end.0) ∙ sym (inlines-items c.args.nodes))
+    (ap (λ ns. wholes c.args.nodes.front ++ map inline ns) (sym (map-id c.loop-node.yielded) ∙ end.0) ∙ sym (inlines-items c.args.nodes))
     c.loop-node.invariant
 
 pub open-returns : goal.open-returns

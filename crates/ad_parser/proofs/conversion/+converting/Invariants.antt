@@ -1,10 +1,11 @@
-use Rattle.std.proofs.Common.{◌+◌, ◌*◌, max, map}
+use Rattle.std.proofs.Common.{◌+◌, ◌*◌, ◌++◌, max, map}
 use Rattle.ad_tree.specs.Draft.{draft_frames}
 use Rattle.ad_tree.specs.Inline.{height, highest, highest_def}
 use Rattle.ad_tree.specs.Placed.{AreAllPlaced}
 use Rattle.ad_tree.specs.Tree.{trees, pack as pack_trees}
 use Rattle.ad_parser.specs.Converted.{Completes}
 use Rattle.ad_parser.specs.Nodes.{inline, inlines, definitions, pack, pack_definitions}
+use Rattle.ad_parser.specs.Wholes.{wholes}
 use Rattle.ad_parser.proofs.ListLemmas.{named}
 use Rattle.ad_parser.proofs.conversion.+converting.Given as goal
 
@@ -31,7 +32,7 @@ decreases-define_all l = 4 * highest_def (pack_definitions (definitions l.list))
 
 abbrev pub invariant-convert_all-loop-node : goal.invariant-convert_all-loop-node
 invariant-convert_all-loop-node l =
-    AreAllPlaced l.parent (pack (map inline l.yielded)) (pack_trees (trees l.exprs)) (draft_frames l.initial.draft) (draft_frames l.draft)
+    AreAllPlaced l.parent (pack (wholes l.fn.nodes.front ++ map inline l.yielded)) (pack_trees (trees l.exprs)) (draft_frames l.initial.draft) (draft_frames l.draft)
 
 abbrev pub invariant-define_all-loop-definition : goal.invariant-define_all-loop-definition
 invariant-define_all-loop-definition l =

@@ -1,4 +1,4 @@
-use Rattle.std.proofs.Common.{◌≡◌, ◌+◌, ◌*◌, max, min, take}
+use Rattle.std.proofs.Common.{◌≡◌, ◌+◌, ◌*◌, max, min, map, take}
 use Rattle.ad_tree.specs.Inline.{height, highest, highest_def, count_all, count_defs, definitions_all, definitions_in}
 use Rattle.ad_parser.specs.Counts.{counting_limit}
 use Rattle.ad_parser.specs.Nodes.{inline, inlines, definitions, pack, pack_definitions}
@@ -18,8 +18,8 @@ decreases-tally_definitions l = 3 * highest_def (pack_definitions (definitions l
 
 abbrev pub invariant-tally_all-loop-i : goal.invariant-tally_all-loop-i
 invariant-tally_all-loop-i l =
-    (l.total.frames ≡ min counting_limit (count_all (pack (take l.i (inlines l.nodes)))))
-    × (l.total.definitions ≡ min counting_limit (definitions_all (pack (take l.i (inlines l.nodes)))))
+    (l.total.frames ≡ min counting_limit (count_all (pack (take l.i (map inline l.nodes.rest.items)))))
+    × (l.total.definitions ≡ min counting_limit (definitions_all (pack (take l.i (map inline l.nodes.rest.items)))))
 
 abbrev pub invariant-tally_definitions-loop-i : goal.invariant-tally_definitions-loop-i
 invariant-tally_definitions-loop-i l =

@@ -1,0 +1,13 @@
+use Rattle.std.proofs.Common.{ap, sym, ◌∙◌}
+use Rattle.ad_tree.specs.Inline.{shape}
+use Rattle.ad_tree.specs.Tree.{tree, trees, any}
+use Rattle.ad_tree.proofs.TreeLemmas.{tree-Or}
+use Rattle.ad_parser.specs.Nodes.{pack}
+use Rattle.ad_parser.specs.Shapes.{followed_by, joined, disjunction}
+use Rattle.ad_parser.proofs.WholeLemmas.{plain-node}
+use Rattle.ad_parser.proofs.building.whole_disjuncts.Goals as goal
+
+pub returns-in-Or : goal.returns-in-Or
+returns-in-Or c = λ y.
+    ap (λ is. shape any (followed_by (pack is) y)) c.wholes.ensures
+    ∙ ap (λ i. joined disjunction i y) (sym (plain-node any (trees c.in-Or.list) _ (ap tree c.in-Or.is ∙ tree-Or c.in-Or.list)))

@@ -1,0 +1,7 @@
+use Rattle.ad_tree.specs.Tree.{trees, all}
+use Rattle.ad_tree.proofs.TreeLemmas.{tree-And}
+use Rattle.ad_parser.proofs.WholeLemmas.{plain-node}
+use Rattle.ad_parser.proofs.whole.Whole.all.Goals as goal
+
+pub returns : goal.returns
+returns c = plain-node all (trees c.args.operands.list) _ (tree-And c.args.operands.list)

@@ -1,0 +1,7 @@
+use Rattle.ad_tree.specs.Tree.{trees, any}
+use Rattle.ad_tree.proofs.TreeLemmas.{tree-Or}
+use Rattle.ad_parser.proofs.WholeLemmas.{plain-node}
+use Rattle.ad_parser.proofs.whole.Whole.any.Goals as goal
+
+pub returns : goal.returns
+returns c = plain-node any (trees c.args.operands.list) _ (tree-Or c.args.operands.list)

@@ -1,0 +1,7 @@
+use Rattle.ad_tree.specs.Tree.{trees, list}
+use Rattle.ad_tree.proofs.TreeLemmas.{tree-List}
+use Rattle.ad_parser.proofs.WholeLemmas.{plain-node}
+use Rattle.ad_parser.proofs.whole.Whole.list.Goals as goal
+
+pub returns : goal.returns
+returns c = plain-node list (trees c.args.elements.list) _ (tree-List c.args.elements.list)

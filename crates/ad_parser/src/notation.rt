@@ -3,6 +3,7 @@ use ad_tree::{Ad, Expr, Exprs, Scope};
 use pool_text::{BinOp, Lit, OutOfMemory, Text, UnOp, append_number};
 
 /// Writes a tree that stands in this ad. `turns` bounds the descent.
+#[cycle(writing)]
 pub fn write_tree(out: &mut Text, ad: &Ad, expr: &Expr, turns: u32) -> Result<(), OutOfMemory> {
     if turns == 0 {
         return out.append(b"..");
@@ -34,6 +35,7 @@ pub fn write_tree(out: &mut Text, ad: &Ad, expr: &Expr, turns: u32) -> Result<()
 }
 
 /// Writes the number of a frame and its attributes.
+#[cycle(writing)]
 pub fn write_frame(out: &mut Text, ad: &Ad, frame: u32, turns: u32) -> Result<(), OutOfMemory> {
     out.append(b"[")?;
     append_number(out, frame as i64)?;
@@ -48,6 +50,7 @@ pub fn write_frame(out: &mut Text, ad: &Ad, frame: u32, turns: u32) -> Result<()
     out.append(b"]")
 }
 
+#[cycle(writing)]
 fn write_node(
     out: &mut Text,
     ad: &Ad,
@@ -66,6 +69,7 @@ fn write_node(
     out.append(b")")
 }
 
+#[cycle(writing)]
 fn write_all(
     out: &mut Text,
     ad: &Ad,

@@ -2,20 +2,12 @@
 ghost use Rattle.std.specs.Prelude.{◌<◌, length};
 ghost use Rattle.pool_io.specs.Flow.{Supply, Reads};
 
-use std::error::Error;
-use std::fmt;
+use thiserror::Error;
 
 /// A source or a sink failed. The count of its faults says that it did.
-#[derive(Clone, Copy, Debug, PartialEq, Eq)]
+#[derive(Clone, Copy, Debug, PartialEq, Eq, Error)]
+#[error("the stream failed")]
 pub struct Failed;
-
-impl fmt::Display for Failed {
-    fn fmt<W: fmt::Write>(&self, f: &mut fmt::Formatter<W>) -> fmt::Result {
-        write!(f, "the stream failed")
-    }
-}
-
-impl Error for Failed {}
 
 /// Bytes that come piece by piece.
 pub trait Source {

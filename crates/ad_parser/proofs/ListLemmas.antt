@@ -7,7 +7,7 @@ use Rattle.ad_parser.specs.declared.node.Node.{Node}
 use Rattle.ad_parser.specs.declared.node.Nodes.{Nodes, fold_out-Nodes}
 use Rattle.ad_parser.specs.declared.node.Definition.{Definition, fold_out-Definition}
 use Rattle.ad_parser.specs.declared.node.Definitions.{Definitions, out-Definitions, fold_out-Definitions}
-use Rattle.ad_parser.specs.Nodes.{inline, inlines, definitions, layer, pack, pack_definitions}
+use Rattle.ad_parser.specs.Nodes.{inline, inlines, definitions, layer, open_layer, pack, pack_definitions}
 use Rattle.ad_parser.specs.Wholes.{wholes}
 
 -- equal functions map alike
@@ -17,7 +17,7 @@ map-same f g h (x ∷ xs) = ap (λ y. y ∷ map f xs) (h x) ∙ ap (λ ys. g x �
 
 -- lists are seen item by item
 pub inlines-items : (l : Nodes) → inlines l ≡ wholes l.front ++ map inline l.rest.items
-inlines-items l = fold_out-Nodes Inline (List ℕ × Inline) (List (List ℕ × Inline)) (List Inline) layer (λ d. (d.name, d.node)) (λ l. l.items.items) (λ l. wholes l.front ++ l.rest.items) l
+inlines-items l = fold_out-Nodes Inline Inline (List ℕ × Inline) (List (List ℕ × Inline)) (List Inline) layer open_layer (λ d. (d.name, d.node)) (λ l. l.items.items) (λ l. wholes l.front ++ l.rest.items) l
 
 -- a definition as contracts see it
 abbrev pub named : Definition → List ℕ × Inline
@@ -25,8 +25,8 @@ named d = (d.name, inline d.node)
 
 pub definitions-items : (l : Definitions) → definitions l ≡ map named (out-Definitions l).items.items
 definitions-items l =
-    fold_out-Definitions Inline (List ℕ × Inline) (List (List ℕ × Inline)) (List Inline) layer (λ d. (d.name, d.node)) (λ l. l.items.items) (λ l. wholes l.front ++ l.rest.items) l
-    ∙ map-same _ named (λ d. fold_out-Definition Inline (List ℕ × Inline) (List (List ℕ × Inline)) (List Inline) layer (λ d. (d.name, d.node)) (λ l. l.items.items) (λ l. wholes l.front ++ l.rest.items) d) (out-Definitions l).items.items
+    fold_out-Definitions Inline Inline (List ℕ × Inline) (List (List ℕ × Inline)) (List Inline) layer open_layer (λ d. (d.name, d.node)) (λ l. l.items.items) (λ l. wholes l.front ++ l.rest.items) l
+    ∙ map-same _ named (λ d. fold_out-Definition Inline Inline (List ℕ × Inline) (List (List ℕ × Inline)) (List Inline) layer open_layer (λ d. (d.name, d.node)) (λ l. l.items.items) (λ l. wholes l.front ++ l.rest.items) d) (out-Definitions l).items.items
 
 -- one item more from the front
 pub take-next : {A : Type 0} (xs : List A) (j : ℕ) (x : A) → slice_get xs j ≡ Some x → take (j + 1) xs ≡ take j xs ++ x ∷ []

@@ -3,8 +3,9 @@ use Rattle.std.specs.Prelude.{ℕ, List, [], ◌∷◌, ◌++◌}
 use Rattle.ad_tree.specs.Tree.{unary, binary, all, any, choice, select, subscript, call, list}
 use Rattle.ad_tree.specs.Inline.{Inline, Inlines, Defs, shape, inner, end, next, no_defs, def}
 use Rattle.ad_parser.specs.declared.node.Node.{Node}
-use Rattle.ad_parser.specs.declared.node.Node.TheOpen.{Node-F}
+use Rattle.ad_parser.specs.declared.node.Node.TheOpen.{Node-F, Open-F}
 use Rattle.ad_parser.specs.declared.node.Node.TheFolds.{fold-Node}
+use Rattle.ad_parser.specs.declared.node.Open.{Open, fold-Open}
 use Rattle.ad_parser.specs.declared.node.Nodes.{Nodes, fold-Nodes}
 use Rattle.ad_parser.specs.declared.node.Definitions.{Definitions, fold-Definitions}
 use Rattle.ad_parser.specs.Shapes.{over_one, over_two, over_three}
@@ -29,27 +30,34 @@ abbrev pub pack_definitions : List (List ℕ × Inline) → Defs
 pack_definitions ds = defined_before ds no_defs
 
 -- one layer of a tree, with a spelled tree in each place below it
-abbrev pub layer : Node-F Inline (List ℕ × Inline) (List (List ℕ × Inline)) (List Inline) → Inline
+abbrev pub layer : Node-F Inline Inline (List ℕ × Inline) (List (List ℕ × Inline)) (List Inline) → Inline
 layer (Node-F.Whole w) = whole w
-layer (Node-F.Unary op a) = over_one (unary op) a.value
-layer (Node-F.Binary op operands) = over_two (binary op) operands.value.0 operands.value.1
-layer (Node-F.And is) = shape all (pack is)
-layer (Node-F.Or is) = shape any (pack is)
-layer (Node-F.Choice operands) = over_three choice operands.value.0 operands.value.1 operands.value.2
-layer (Node-F.Select a text) = over_one (select text) a.value
-layer (Node-F.Subscript operands) = over_two subscript operands.value.0 operands.value.1
-layer (Node-F.Call text is) = shape (call text) (pack is)
-layer (Node-F.List is) = shape list (pack is)
-layer (Node-F.Ad ds) = inner (pack_definitions ds)
+layer (Node-F.Open tree) = tree.value
+
+abbrev pub open_layer : Open-F Inline Inline (List ℕ × Inline) (List (List ℕ × Inline)) (List Inline) → Inline
+open_layer (Open-F.Unary op a) = over_one (unary op) a
+open_layer (Open-F.Binary op a b) = over_two (binary op) a b
+open_layer (Open-F.And is) = shape all (pack is)
+open_layer (Open-F.Or is) = shape any (pack is)
+open_layer (Open-F.Choice a b c) = over_three choice a b c
+open_layer (Open-F.Select a text) = over_one (select text) a
+open_layer (Open-F.Subscript a b) = over_two subscript a b
+open_layer (Open-F.Call text is) = shape (call text) (pack is)
+open_layer (Open-F.List is) = shape list (pack is)
+open_layer (Open-F.Ad ds) = inner (pack_definitions ds)
 
 -- the spelled tree of a node
 abbrev pub inline : Node → Inline
-inline = fold-Node Inline (List ℕ × Inline) (List (List ℕ × Inline)) (List Inline) layer (λ d. (d.name, d.node)) (λ l. l.items.items) (λ l. wholes l.front ++ l.rest.items)
+inline = fold-Node Inline Inline (List ℕ × Inline) (List (List ℕ × Inline)) (List Inline) layer open_layer (λ d. (d.name, d.node)) (λ l. l.items.items) (λ l. wholes l.front ++ l.rest.items)
+
+-- and of one in which an ad literal stands
+abbrev pub opened : Open → Inline
+opened = fold-Open Inline Inline (List ℕ × Inline) (List (List ℕ × Inline)) (List Inline) layer open_layer (λ d. (d.name, d.node)) (λ l. l.items.items) (λ l. wholes l.front ++ l.rest.items)
 
 -- the spelled trees of nodes
 abbrev pub inlines : Nodes → List Inline
-inlines = fold-Nodes Inline (List ℕ × Inline) (List (List ℕ × Inline)) (List Inline) layer (λ d. (d.name, d.node)) (λ l. l.items.items) (λ l. wholes l.front ++ l.rest.items)
+inlines = fold-Nodes Inline Inline (List ℕ × Inline) (List (List ℕ × Inline)) (List Inline) layer open_layer (λ d. (d.name, d.node)) (λ l. l.items.items) (λ l. wholes l.front ++ l.rest.items)
 
 -- names with the spelled trees of their definitions
 abbrev pub definitions : Definitions → List (List ℕ × Inline)
-definitions = fold-Definitions Inline (List ℕ × Inline) (List (List ℕ × Inline)) (List Inline) layer (λ d. (d.name, d.node)) (λ l. l.items.items) (λ l. wholes l.front ++ l.rest.items)
+definitions = fold-Definitions Inline Inline (List ℕ × Inline) (List (List ℕ × Inline)) (List Inline) layer open_layer (λ d. (d.name, d.node)) (λ l. l.items.items) (λ l. wholes l.front ++ l.rest.items)

@@ -1,27 +1,27 @@
 // Nodes are made of nodes: an expression at once, where no ad literal stands in it.
 ghost use Rattle.std.specs.Prelude.{◌≡◌, IfOk};
-ghost use Rattle.ad_tree.specs.Inline.{Inline, shape};
+ghost use Rattle.ad_tree.specs.Inline.{Inline, shape, inner};
 ghost use Rattle.ad_tree.specs.Tree as labels;
-ghost use Rattle.ad_parser.specs.Nodes.{inline, inlines, pack};
+ghost use Rattle.ad_parser.specs.Nodes.{inline, opened, inlines, definitions as definitions_of, pack, pack_definitions};
 ghost use Rattle.ad_parser.specs.Shapes.{leaf, over_one, over_two, over_three, followed_by, joined, conjunction, disjunction};
 ghost use Rattle.ad_parser.specs.Wholes.{whole};
 
-use crate::node::{Node, Nodes};
+use crate::node::{Definitions, Node, Nodes, Open};
 use crate::whole::{Whole, Wholes};
 use ad_tree::{Expr, Scope};
 use pool_text::{BinOp, Lit, OutOfMemory, Text, UnOp};
 use std::alloc::Global;
 
-pub fn literal_node(literal: Lit) -> Node
-    ensures { inline result ≡ leaf (labels.literal literal) }
+pub fn literal_node(alloc: Global, literal: Lit) -> Result<Node, OutOfMemory>
+    ensures { IfOk result (λ node. inline node ≡ leaf (labels.literal literal)) }
 {
-    Node::Whole(Whole::literal(literal))
+    Ok(Node::Whole(Whole::literal(alloc, literal)?))
 }
 
-pub fn name_node(scope: Scope, name: Text) -> Node
-    ensures { inline result ≡ leaf (labels.name scope name) }
+pub fn name_node(alloc: Global, scope: Scope, name: Text) -> Result<Node, OutOfMemory>
+    ensures { IfOk result (λ node. inline node ≡ leaf (labels.name scope name)) }
 {
-    Node::Whole(Whole::name(scope, name))
+    Ok(Node::Whole(Whole::name(alloc, scope, name)?))
 }
 
 pub fn unary_node(alloc: Global, op: UnOp, operand: Node) -> Result<Node, OutOfMemory>
@@ -29,7 +29,7 @@ pub fn unary_node(alloc: Global, op: UnOp, operand: Node) -> Result<Node, OutOfM
 {
     match operand {
         Node::Whole(a) => Ok(Node::Whole(Whole::unary(alloc, op, a)?)),
-        a => Ok(Node::Unary(op, Box::new(alloc, a)?)),
+        a => open_node(alloc, Open::Unary(op, a)),
     }
 }
 
@@ -38,7 +38,7 @@ pub fn binary_node(alloc: Global, op: BinOp, left: Node, right: Node) -> Result<
 {
     match (left, right) {
         (Node::Whole(a), Node::Whole(b)) => Ok(Node::Whole(Whole::binary(alloc, op, a, b)?)),
-        (a, b) => Ok(Node::Binary(op, Box::new(alloc, (a, b))?)),
+        (a, b) => open_node(alloc, Open::Binary(op, a, b)),
     }
 }
 
@@ -54,7 +54,7 @@ pub fn choice_node(
         (Node::Whole(a), Node::Whole(b), Node::Whole(c)) => {
             Ok(Node::Whole(Whole::choice(alloc, a, b, c)?))
         }
-        (a, b, c) => Ok(Node::Choice(Box::new(alloc, (a, b, c))?)),
+        (a, b, c) => open_node(alloc, Open::Choice(a, b, c)),
     }
 }
 
@@ -63,7 +63,7 @@ pub fn select_node(alloc: Global, base: Node, name: Text) -> Result<Node, OutOfM
 {
     match base {
         Node::Whole(a) => Ok(Node::Whole(Whole::select(alloc, a, name)?)),
-        a => Ok(Node::Select(Box::new(alloc, a)?, name)),
+        a => open_node(alloc, Open::Select(a, name)),
     }
 }
 
@@ -72,26 +72,32 @@ pub fn subscript_node(alloc: Global, base: Node, place: Node) -> Result<Node, Ou
 {
     match (base, place) {
         (Node::Whole(a), Node::Whole(b)) => Ok(Node::Whole(Whole::subscript(alloc, a, b)?)),
-        (a, b) => Ok(Node::Subscript(Box::new(alloc, (a, b))?)),
+        (a, b) => open_node(alloc, Open::Subscript(a, b)),
     }
 }
 
-pub fn call_node(name: Text, arguments: Nodes) -> Node
-    ensures { inline result ≡ shape (labels.call name) (pack (inlines arguments)) }
+pub fn call_node(alloc: Global, name: Text, arguments: Nodes) -> Result<Node, OutOfMemory>
+    ensures { IfOk result (λ node. inline node ≡ shape (labels.call name) (pack (inlines arguments))) }
 {
     match arguments.whole() {
-        Ok(list) => Node::Whole(Whole::call(name, list)),
-        Err(nodes) => Node::Call(name, nodes),
+        Ok(list) => Ok(Node::Whole(Whole::call(alloc, name, list)?)),
+        Err(nodes) => open_node(alloc, Open::Call(name, nodes)),
     }
 }
 
-pub fn list_node(elements: Nodes) -> Node
-    ensures { inline result ≡ shape labels.list (pack (inlines elements)) }
+pub fn list_node(alloc: Global, elements: Nodes) -> Result<Node, OutOfMemory>
+    ensures { IfOk result (λ node. inline node ≡ shape labels.list (pack (inlines elements))) }
 {
     match elements.whole() {
-        Ok(list) => Node::Whole(Whole::list(list)),
-        Err(nodes) => Node::List(nodes),
+        Ok(list) => Ok(Node::Whole(Whole::list(alloc, list)?)),
+        Err(nodes) => open_node(alloc, Open::List(nodes)),
     }
+}
+
+pub fn ad_node(alloc: Global, definitions: Definitions) -> Result<Node, OutOfMemory>
+    ensures { IfOk result (λ node. inline node ≡ inner (pack_definitions (definitions_of definitions))) }
+{
+    open_node(alloc, Open::Ad(definitions))
 }
 
 /// A chain of `&&` is one node, to which an operand on the right is added.
@@ -101,8 +107,8 @@ pub fn conjunction_node(alloc: Global, left: Node, right: Node) -> Result<Node, 
     let mut operands = conjuncts(alloc, left)?;
     operands.push(right)?;
     match operands.whole() {
-        Ok(list) => Ok(Node::Whole(Whole::all(list))),
-        Err(nodes) => Ok(Node::And(nodes)),
+        Ok(list) => Ok(Node::Whole(Whole::all(alloc, list)?)),
+        Err(nodes) => open_node(alloc, Open::And(nodes)),
     }
 }
 
@@ -113,9 +119,15 @@ pub fn disjunction_node(alloc: Global, left: Node, right: Node) -> Result<Node, 
     let mut operands = disjuncts(alloc, left)?;
     operands.push(right)?;
     match operands.whole() {
-        Ok(list) => Ok(Node::Whole(Whole::any(list))),
-        Err(nodes) => Ok(Node::Or(nodes)),
+        Ok(list) => Ok(Node::Whole(Whole::any(alloc, list)?)),
+        Err(nodes) => open_node(alloc, Open::Or(nodes)),
     }
+}
+
+fn open_node(alloc: Global, tree: Open) -> Result<Node, OutOfMemory>
+    ensures { IfOk result (λ node. inline node ≡ opened tree) }
+{
+    Ok(Node::Open(Box::new(alloc, tree)?))
 }
 
 /// The operands of a chain of `&&`, or a tree of another kind as the first of a chain.
@@ -123,19 +135,39 @@ fn conjuncts(alloc: Global, node: Node) -> Result<Nodes, OutOfMemory>
     ensures { IfOk result (λ nodes. (y : Inline) → shape labels.all (followed_by (pack (inlines nodes)) y) ≡ joined conjunction (inline node) y) }
 {
     match node {
-        Node::And(nodes) => Ok(nodes),
         Node::Whole(item) => whole_conjuncts(alloc, item),
-        first => Nodes::one(alloc, first),
+        Node::Open(tree) => open_conjuncts(alloc, tree),
     }
 }
 
+/// Only a chain is taken out of its box.
 fn whole_conjuncts(alloc: Global, item: Whole) -> Result<Nodes, OutOfMemory>
     ensures { IfOk result (λ nodes. (y : Inline) → shape labels.all (followed_by (pack (inlines nodes)) y) ≡ joined conjunction (whole item) y) }
 {
     let Whole { expr } = item;
-    match expr {
-        Expr::And(list) => Ok(Nodes::wholes(alloc, Wholes { list })),
-        expr => Nodes::one(alloc, Node::Whole(Whole { expr })),
+    match &*expr {
+        Expr::And(_) => match Box::into_inner(expr) {
+            Expr::And(list) => Ok(Nodes::wholes(alloc, Wholes { list })),
+            other => Nodes::one(
+                alloc,
+                Node::Whole(Whole {
+                    expr: Box::new(alloc, other)?,
+                }),
+            ),
+        },
+        _ => Nodes::one(alloc, Node::Whole(Whole { expr })),
+    }
+}
+
+fn open_conjuncts(alloc: Global, tree: Box<Open>) -> Result<Nodes, OutOfMemory>
+    ensures { IfOk result (λ nodes. (y : Inline) → shape labels.all (followed_by (pack (inlines nodes)) y) ≡ joined conjunction (opened tree.value) y) }
+{
+    match &*tree {
+        Open::And(_) => match Box::into_inner(tree) {
+            Open::And(nodes) => Ok(nodes),
+            other => Nodes::one(alloc, open_node(alloc, other)?),
+        },
+        _ => Nodes::one(alloc, Node::Open(tree)),
     }
 }
 
@@ -144,9 +176,8 @@ fn disjuncts(alloc: Global, node: Node) -> Result<Nodes, OutOfMemory>
     ensures { IfOk result (λ nodes. (y : Inline) → shape labels.any (followed_by (pack (inlines nodes)) y) ≡ joined disjunction (inline node) y) }
 {
     match node {
-        Node::Or(nodes) => Ok(nodes),
         Node::Whole(item) => whole_disjuncts(alloc, item),
-        first => Nodes::one(alloc, first),
+        Node::Open(tree) => open_disjuncts(alloc, tree),
     }
 }
 
@@ -154,8 +185,28 @@ fn whole_disjuncts(alloc: Global, item: Whole) -> Result<Nodes, OutOfMemory>
     ensures { IfOk result (λ nodes. (y : Inline) → shape labels.any (followed_by (pack (inlines nodes)) y) ≡ joined disjunction (whole item) y) }
 {
     let Whole { expr } = item;
-    match expr {
-        Expr::Or(list) => Ok(Nodes::wholes(alloc, Wholes { list })),
-        expr => Nodes::one(alloc, Node::Whole(Whole { expr })),
+    match &*expr {
+        Expr::Or(_) => match Box::into_inner(expr) {
+            Expr::Or(list) => Ok(Nodes::wholes(alloc, Wholes { list })),
+            other => Nodes::one(
+                alloc,
+                Node::Whole(Whole {
+                    expr: Box::new(alloc, other)?,
+                }),
+            ),
+        },
+        _ => Nodes::one(alloc, Node::Whole(Whole { expr })),
+    }
+}
+
+fn open_disjuncts(alloc: Global, tree: Box<Open>) -> Result<Nodes, OutOfMemory>
+    ensures { IfOk result (λ nodes. (y : Inline) → shape labels.any (followed_by (pack (inlines nodes)) y) ≡ joined disjunction (opened tree.value) y) }
+{
+    match &*tree {
+        Open::Or(_) => match Box::into_inner(tree) {
+            Open::Or(nodes) => Ok(nodes),
+            other => Nodes::one(alloc, open_node(alloc, other)?),
+        },
+        _ => Nodes::one(alloc, Node::Open(tree)),
     }
 }

@@ -7,9 +7,9 @@ ghost use Rattle.ad_tree.specs.Inline.{inner, next, end, ad_of, phrase_of, phras
 ghost use Rattle.ad_tree.specs.Placed.{IsPlaced, AreAllPlaced};
 ghost use Rattle.ad_tree.specs.Tree.{tree, trees, frame as frame_numbered, pack as pack_trees, none, more};
 ghost use Rattle.ad_parser.specs.Converted.{Completes};
-ghost use Rattle.ad_parser.specs.Nodes.{inline, inlines, definitions as definitions_of, pack, pack_definitions};
+ghost use Rattle.ad_parser.specs.Nodes.{inline, opened, inlines, definitions as definitions_of, pack, pack_definitions};
 
-use crate::node::{Definition, Definitions, Node, Nodes};
+use crate::node::{Definition, Definitions, Node, Nodes, Open};
 use ad_tree::{Ad, Draft, Expr, Exprs, Phrase};
 use pool_text::OutOfMemory;
 use std::alloc::Global;
@@ -40,35 +40,8 @@ fn convert(alloc: Global, draft: &mut Draft, parent: u32, node: Node) -> Result<
     ensures { IfOk result (λ expr. IsPlaced parent (inline node) (tree expr) (draft_frames draft.old) (draft_frames draft.new)) }
 {
     match node {
-        Node::Whole(item) => Ok(item.expr),
-        Node::Unary(op, a) => {
-            let a = convert_boxed(alloc, draft, parent, Box::into_inner(a))?;
-            Ok(Expr::Unary(op, a))
-        }
-        Node::Binary(op, operands) => {
-            let (a, b) = convert_two(alloc, draft, parent, Box::into_inner(operands))?;
-            Ok(Expr::Binary(op, a, b))
-        }
-        Node::And(nodes) => Ok(Expr::And(convert_all(alloc, draft, parent, nodes)?)),
-        Node::Or(nodes) => Ok(Expr::Or(convert_all(alloc, draft, parent, nodes)?)),
-        Node::Choice(operands) => {
-            let (a, b, c) = convert_three(alloc, draft, parent, Box::into_inner(operands))?;
-            Ok(Expr::Cond(a, b, c))
-        }
-        Node::Select(a, name) => {
-            let a = convert_boxed(alloc, draft, parent, Box::into_inner(a))?;
-            Ok(Expr::Select(a, name))
-        }
-        Node::Subscript(operands) => {
-            let (a, b) = convert_two(alloc, draft, parent, Box::into_inner(operands))?;
-            Ok(Expr::Subscript(a, b))
-        }
-        Node::Call(name, nodes) => {
-            let list = convert_all(alloc, draft, parent, nodes)?;
-            Ok(Expr::Call(name, list))
-        }
-        Node::List(nodes) => Ok(Expr::List(convert_all(alloc, draft, parent, nodes)?)),
-        Node::Ad(definitions) => Ok(Expr::Frame(open(alloc, draft, parent, definitions)?)),
+        Node::Whole(item) => Ok(Box::into_inner(item.expr)),
+        Node::Open(tree) => convert_open(alloc, draft, parent, Box::into_inner(tree)),
     }
 }
 
@@ -82,8 +55,52 @@ fn convert_boxed(
     requires { parent < length (draft_frames draft.old) }
     ensures { IfOk result (λ expr. IsPlaced parent (inline node) (tree expr.value) (draft_frames draft.old) (draft_frames draft.new)) }
 {
-    let expr = convert(alloc, draft, parent, node)?;
-    Ok(Box::new(alloc, expr)?)
+    match node {
+        Node::Whole(item) => Ok(item.expr),
+        Node::Open(tree) => {
+            let expr = convert_open(alloc, draft, parent, Box::into_inner(tree))?;
+            Ok(Box::new(alloc, expr)?)
+        }
+    }
+}
+
+#[cycle(converting)]
+fn convert_open(
+    alloc: Global,
+    draft: &mut Draft,
+    parent: u32,
+    node: Open,
+) -> Result<Expr, OutOfMemory>
+    requires { parent < length (draft_frames draft.old) }
+    ensures { IfOk result (λ expr. IsPlaced parent (opened node) (tree expr) (draft_frames draft.old) (draft_frames draft.new)) }
+{
+    match node {
+        Open::Unary(op, a) => Ok(Expr::Unary(op, convert_boxed(alloc, draft, parent, a)?)),
+        Open::Binary(op, a, b) => {
+            let (a, b) = convert_two(alloc, draft, parent, (a, b))?;
+            Ok(Expr::Binary(op, a, b))
+        }
+        Open::And(nodes) => Ok(Expr::And(convert_all(alloc, draft, parent, nodes)?)),
+        Open::Or(nodes) => Ok(Expr::Or(convert_all(alloc, draft, parent, nodes)?)),
+        Open::Choice(a, b, c) => {
+            let (a, b, c) = convert_three(alloc, draft, parent, (a, b, c))?;
+            Ok(Expr::Cond(a, b, c))
+        }
+        Open::Select(a, name) => {
+            let a = convert_boxed(alloc, draft, parent, a)?;
+            Ok(Expr::Select(a, name))
+        }
+        Open::Subscript(a, b) => {
+            let (a, b) = convert_two(alloc, draft, parent, (a, b))?;
+            Ok(Expr::Subscript(a, b))
+        }
+        Open::Call(name, nodes) => {
+            let list = convert_all(alloc, draft, parent, nodes)?;
+            Ok(Expr::Call(name, list))
+        }
+        Open::List(nodes) => Ok(Expr::List(convert_all(alloc, draft, parent, nodes)?)),
+        Open::Ad(definitions) => Ok(Expr::Frame(open_frame(alloc, draft, parent, definitions)?)),
+    }
 }
 
 #[cycle(converting)]
@@ -144,7 +161,7 @@ fn convert_all(
 
 /// Adds a frame for an ad literal, with its definitions, and answers its number.
 #[cycle(converting)]
-fn open(
+fn open_frame(
     alloc: Global,
     draft: &mut Draft,
     parent: u32,

@@ -1,10 +1,10 @@
 // How many ad literals and definitions a tree spells.
 ghost use Rattle.std.specs.Prelude.{◌≡◌, ◌≤◌, ◌+◌, min};
 ghost use Rattle.ad_tree.specs.Inline as trees;
-ghost use Rattle.ad_parser.specs.Nodes.{inline, inlines, definitions as definitions_of, pack, pack_definitions};
+ghost use Rattle.ad_parser.specs.Nodes.{inline, opened, inlines, definitions as definitions_of, pack, pack_definitions};
 ghost use Rattle.ad_parser.specs.Counts.{counting_limit};
 
-use crate::node::{Definitions, Node, Nodes};
+use crate::node::{Definitions, Node, Nodes, Open};
 
 /// Counts are exact up to here, far above the limits of a parse, and stop there.
 const COUNTING_LIMIT: u32 = 4_096;
@@ -82,16 +82,26 @@ pub fn tally(node: &Node) -> Counts
 {
     match node {
         Node::Whole(_) => Counts::nothing(),
-        Node::Unary(_, a) => tally(a),
-        Node::Binary(_, operands) => tally_two(&operands.0, &operands.1),
-        Node::And(nodes) => tally_all(nodes),
-        Node::Or(nodes) => tally_all(nodes),
-        Node::Choice(operands) => tally(&operands.0).plus(tally_two(&operands.1, &operands.2)),
-        Node::Select(a, _) => tally(a),
-        Node::Subscript(operands) => tally_two(&operands.0, &operands.1),
-        Node::Call(_, nodes) => tally_all(nodes),
-        Node::List(nodes) => tally_all(nodes),
-        Node::Ad(definitions) => tally_definitions(definitions).and_frame(),
+        Node::Open(tree) => tally_open(tree),
+    }
+}
+
+#[cycle(tallying)]
+fn tally_open(tree: &Open) -> Counts
+    ensures frames { result.frames ≡ min counting_limit (trees.count (opened tree.now)) }
+    ensures definitions { result.definitions ≡ min counting_limit (trees.definitions (opened tree.now)) }
+{
+    match tree {
+        Open::Unary(_, a) => tally(a),
+        Open::Binary(_, a, b) => tally_two(a, b),
+        Open::And(nodes) => tally_all(nodes),
+        Open::Or(nodes) => tally_all(nodes),
+        Open::Choice(a, b, c) => tally(a).plus(tally_two(b, c)),
+        Open::Select(a, _) => tally(a),
+        Open::Subscript(a, b) => tally_two(a, b),
+        Open::Call(_, nodes) => tally_all(nodes),
+        Open::List(nodes) => tally_all(nodes),
+        Open::Ad(definitions) => tally_definitions(definitions).and_frame(),
     }
 }
 

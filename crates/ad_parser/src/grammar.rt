@@ -10,11 +10,10 @@ ghost use Rattle.ad_parser.specs.Rules as rules;
 ghost use Rattle.ad_parser.specs.Steps.{left, Gives, reference};
 ghost use Rattle.ad_parser.specs.Words.{mark as mark_word, scope_of};
 
-use crate::building::{literal_node, name_node};
 use crate::chains::{Choice, apply, choose, hold, read_operators};
 use crate::joining::{
-    ad, add_definition, add_part, call, join, leaf, list, no_definitions, no_parts, selection,
-    subscript,
+    ad, add_definition, add_part, call, join, list, literal_part, name_part, no_definitions,
+    no_parts, selection, subscript,
 };
 use crate::mark::Mark;
 use crate::part::{DefinitionParts, Part, Parts};
@@ -176,9 +175,9 @@ fn primary(alloc: Global, reader: &mut Reader<'_>, fuel: usize) -> Result<Part, 
         result (left reader.new) }
 {
     match reader.take() {
-        Some(Word::Constant(literal)) => Ok(leaf(literal_node(literal))),
+        Some(Word::Constant(literal)) => Ok(literal_part(alloc, literal)?),
         Some(Word::Plain(text)) => plain(alloc, reader, fuel, text),
-        Some(Word::Quoted(text)) => Ok(leaf(name_node(Scope::Bare, text))),
+        Some(Word::Quoted(text)) => Ok(name_part(alloc, Scope::Bare, text)?),
         Some(Word::Mark(mark)) => marked(alloc, reader, fuel, mark),
         None => Err(Stop::Grammar),
     }
@@ -191,9 +190,9 @@ fn marked(alloc: Global, reader: &mut Reader<'_>, fuel: usize, mark: Mark) -> Re
         result (left reader.new) }
 {
     match mark {
-        Mark::Dot => Ok(leaf(name_node(Scope::My, reader.name(alloc)?))),
-        Mark::OpenBrace => Ok(list(elements(alloc, reader, fuel)?)),
-        Mark::OpenBracket => Ok(ad(definitions(alloc, reader, fuel)?)),
+        Mark::Dot => Ok(name_part(alloc, Scope::My, reader.name(alloc)?)?),
+        Mark::OpenBrace => Ok(list(alloc, elements(alloc, reader, fuel)?)?),
+        Mark::OpenBracket => Ok(ad(alloc, definitions(alloc, reader, fuel)?)?),
         Mark::OpenParen => {
             let inner = expression(alloc, reader, fuel)?;
             reader.expect(Mark::CloseParen)?;
@@ -211,7 +210,7 @@ fn plain(alloc: Global, reader: &mut Reader<'_>, fuel: usize, text: &[u8]) -> Re
 {
     if reader.takes(Mark::OpenParen) {
         let arguments = arguments(alloc, reader, fuel)?;
-        return Ok(call(Text::from_bytes(alloc, text)?, arguments));
+        return Ok(call(alloc, Text::from_bytes(alloc, text)?, arguments)?);
     }
     named(alloc, reader, text)
 }
@@ -310,12 +309,12 @@ fn named(alloc: Global, reader: &mut Reader<'_>, text: &[u8]) -> Result<Part, St
     ensures { Gives part (reference text.now (left reader.old)) result (left reader.new) }
 {
     let Some(scope) = scope_of(text) else {
-        return Ok(leaf(name_node(Scope::Bare, Text::from_bytes(alloc, text)?)));
+        return Ok(name_part(alloc, Scope::Bare, Text::from_bytes(alloc, text)?)?);
     };
     if reader.takes(Mark::Dot) {
-        return Ok(leaf(name_node(scope, reader.name(alloc)?)));
+        return Ok(name_part(alloc, scope, reader.name(alloc)?)?);
     }
-    Ok(leaf(name_node(Scope::Bare, Text::from_bytes(alloc, text)?)))
+    Ok(name_part(alloc, Scope::Bare, Text::from_bytes(alloc, text)?)?)
 }
 
 /// The scope that a plain name is in front of a dot, in any case.

@@ -4,21 +4,21 @@ ghost use Rattle.ad_tree.specs.Inline.{end, no_defs};
 ghost use Rattle.ad_tree.specs.Tree as labels;
 ghost use Rattle.ad_parser.specs.Heights.{node_height};
 ghost use Rattle.ad_parser.specs.Limits.{height_limit};
-ghost use Rattle.ad_parser.specs.Nodes.{inline};
+ghost use Rattle.ad_parser.specs.Nodes.{inline, opened};
 ghost use Rattle.ad_parser.specs.Parts.{part, parts, definition_parts, as_infix, cut_last, cut_last_def, cut_before, cut_defined_before, extends, joined_height};
 ghost use Rattle.ad_parser.specs.Rules.{cut, cut_one, cut_two, cut_three, cut_shape, cut_ad};
 ghost use Rattle.ad_parser.specs.Shapes as shapes;
 ghost use Rattle.ad_parser.specs.Wholes.{whole};
 
 use crate::building::{
-    binary_node, call_node, choice_node, conjunction_node, disjunction_node, list_node,
-    select_node, subscript_node, unary_node,
+    ad_node, binary_node, call_node, choice_node, conjunction_node, disjunction_node, list_node,
+    literal_node, name_node, select_node, subscript_node, unary_node,
 };
-use crate::node::{Definitions, Node, Nodes};
+use crate::node::{Definitions, Node, Nodes, Open};
 use crate::part::{DefinitionParts, HEIGHT_LIMIT, Part, Parts};
 use crate::whole::Whole;
-use ad_tree::Expr;
-use pool_text::{BinOp, OutOfMemory, Text, UnOp};
+use ad_tree::{Expr, Scope};
+use pool_text::{BinOp, Lit, OutOfMemory, Text, UnOp};
 use std::alloc::Global;
 
 /// An operator between two operands.
@@ -54,7 +54,7 @@ pub fn nothing() -> Part
     }
 }
 
-pub fn leaf(node: Node) -> Part
+fn leaf(node: Node) -> Part
     requires { node_height node ≡ 1 }
     ensures { part result ≡ Some (inline node) }
 {
@@ -62,6 +62,20 @@ pub fn leaf(node: Node) -> Part
         node: Some(node),
         height: 1,
     }
+}
+
+/// A literal.
+pub fn literal_part(alloc: Global, literal: Lit) -> Result<Part, OutOfMemory>
+    ensures { IfOk result (λ p. part p ≡ Some (shapes.leaf (labels.literal literal))) }
+{
+    Ok(leaf(literal_node(alloc, literal)?))
+}
+
+/// A name in a scope.
+pub fn name_part(alloc: Global, scope: Scope, name: Text) -> Result<Part, OutOfMemory>
+    ensures { IfOk result (λ p. part p ≡ Some (shapes.leaf (labels.name scope name))) }
+{
+    Ok(leaf(name_node(alloc, scope, name)?))
 }
 
 /// An operator before an operand.
@@ -143,20 +157,28 @@ fn joined_height(extends: bool, left: u32, right: u32) -> u32
 fn extends(joint: Joint, node: &Node) -> bool
     ensures { result ≡ extends (as_infix joint) (inline node.now) }
 {
-    match (joint, node) {
-        (Joint::Conjunction, Node::And(_)) => true,
-        (Joint::Disjunction, Node::Or(_)) => true,
-        (joint, Node::Whole(item)) => whole_extends(joint, item),
-        _ => false,
+    match node {
+        Node::Whole(item) => whole_extends(joint, item),
+        Node::Open(tree) => open_extends(joint, tree),
     }
 }
 
 fn whole_extends(joint: Joint, item: &Whole) -> bool
     ensures { result ≡ extends (as_infix joint) (whole item.now) }
 {
-    match (joint, &item.expr) {
+    match (joint, &*item.expr) {
         (Joint::Conjunction, Expr::And(_)) => true,
         (Joint::Disjunction, Expr::Or(_)) => true,
+        _ => false,
+    }
+}
+
+fn open_extends(joint: Joint, tree: &Open) -> bool
+    ensures { result ≡ extends (as_infix joint) (opened tree.now) }
+{
+    match (joint, tree) {
+        (Joint::Conjunction, Open::And(_)) => true,
+        (Joint::Disjunction, Open::Or(_)) => true,
         _ => false,
     }
 }
@@ -202,24 +224,24 @@ pub fn add_part(list: Parts, last: Part) -> Result<Parts, OutOfMemory>
 }
 
 /// A call with its arguments.
-pub fn call(name: Text, arguments: Parts) -> Part
-    ensures { part result ≡ cut_shape height_limit (labels.call name) (cut_before (parts arguments) (Some end)) }
+pub fn call(alloc: Global, name: Text, arguments: Parts) -> Result<Part, OutOfMemory>
+    ensures { IfOk result (λ p. part p ≡ cut_shape height_limit (labels.call name) (cut_before (parts arguments) (Some end))) }
 {
     let Parts { nodes, highest } = arguments;
     match nodes {
-        Some(nodes) => cut(call_node(name, nodes), highest + 1),
-        None => nothing(),
+        Some(nodes) => Ok(cut(call_node(alloc, name, nodes)?, highest + 1)),
+        None => Ok(nothing()),
     }
 }
 
 /// A list of its elements.
-pub fn list(elements: Parts) -> Part
-    ensures { part result ≡ cut_shape height_limit labels.list (cut_before (parts elements) (Some end)) }
+pub fn list(alloc: Global, elements: Parts) -> Result<Part, OutOfMemory>
+    ensures { IfOk result (λ p. part p ≡ cut_shape height_limit labels.list (cut_before (parts elements) (Some end))) }
 {
     let Parts { nodes, highest } = elements;
     match nodes {
-        Some(nodes) => cut(list_node(nodes), highest + 1),
-        None => nothing(),
+        Some(nodes) => Ok(cut(list_node(alloc, nodes)?, highest + 1)),
+        None => Ok(nothing()),
     }
 }
 
@@ -258,15 +280,15 @@ pub fn add_definition(
 }
 
 /// An ad with its definitions.
-pub fn ad(list: DefinitionParts) -> Part
-    ensures { part result ≡ cut_ad height_limit (cut_defined_before (definition_parts list) (Some no_defs)) }
+pub fn ad(alloc: Global, list: DefinitionParts) -> Result<Part, OutOfMemory>
+    ensures { IfOk result (λ p. part p ≡ cut_ad height_limit (cut_defined_before (definition_parts list) (Some no_defs))) }
 {
     let DefinitionParts {
         definitions,
         highest,
     } = list;
     match definitions {
-        Some(definitions) => cut(Node::Ad(definitions), highest + 1),
-        None => nothing(),
+        Some(definitions) => Ok(cut(ad_node(alloc, definitions)?, highest + 1)),
+        None => Ok(nothing()),
     }
 }

@@ -3,19 +3,25 @@ use crate::whole::{Whole, Wholes};
 use pool_text::{BinOp, OutOfMemory, Text, UnOp};
 use std::alloc::Global;
 
-/// An expression as it is spelled: built as it stays where no ad literal stands in it, else a node, whose operands share
-/// one box.
+/// An expression as it is spelled, in a box: built as it stays where no ad literal stands in it.
 #[cycle(node)]
 #[derive(Debug, Drop)]
 pub enum Node {
     Whole(Whole),
-    Unary(UnOp, Box<Node>),
-    Binary(BinOp, Box<(Node, Node)>),
+    Open(Box<Open>),
+}
+
+/// A tree in which some ad literal stands, whose frame has no number yet.
+#[cycle(node)]
+#[derive(Debug, Drop)]
+pub enum Open {
+    Unary(UnOp, Node),
+    Binary(BinOp, Node, Node),
     And(Nodes),
     Or(Nodes),
-    Choice(Box<(Node, Node, Node)>),
-    Select(Box<Node>, Text),
-    Subscript(Box<(Node, Node)>),
+    Choice(Node, Node, Node),
+    Select(Node, Text),
+    Subscript(Node, Node),
     Call(Text, Nodes),
     List(Nodes),
     Ad(Definitions),

@@ -2,7 +2,7 @@ use Rattle.std.proofs.Common.{arith, rules, ◌++◌, map, map-id, ap, sym, subs
 use Rattle.std.proofs.lemmas.Iterator.Adapters.{YieldsList-from_vec}
 use Rattle.std.proofs.lemmas.Iterator.Consumers.{YieldsList-turn, YieldsList-end}
 use Rattle.ad_tree.specs.Draft.{draft_frames}
-use Rattle.ad_tree.specs.Placed.{AreAllPlaced}
+use Rattle.ad_tree.specs.Placed.{IsPlaced, AreAllPlaced}
 use Rattle.ad_tree.specs.Tree.{tree, trees, pack as pack_trees}
 use Rattle.ad_tree.proofs.PlacedLemmas.{next-placed, one-placed}
 use Rattle.ad_parser.specs.Converted.{Completes}
@@ -14,7 +14,13 @@ use Rattle.ad_parser.proofs.ListLemmas.{named, inlines-items, definitions-items,
 use Rattle.ad_parser.proofs.conversion.+converting.Goals as goal
 
 pub convert-returns-in-Whole : goal.convert-returns-in-Whole
-convert-returns-in-Whole t c = whole-converted c.args.parent c.args.node c.in-Whole.item (draft_frames c.args.draft.now) c.in-Whole.is
+convert-returns-in-Whole t c =
+    let fs = draft_frames c.args.draft.now in
+    subst (λ e. IsPlaced c.args.parent (inline c.args.node) (tree e) fs fs) (sym c.into_inner.ensures)
+    (whole-converted c.args.parent c.args.node c.in-Whole.item fs c.in-Whole.is)
+
+pub convert_boxed-returns-in-Whole : goal.convert_boxed-returns-in-Whole
+convert_boxed-returns-in-Whole t c = whole-converted c.args.parent c.args.node c.in-Whole.item (draft_frames c.args.draft.now) c.in-Whole.is
 
 pub convert_all-loop-node-init : goal.convert_all-loop-node-init
 convert_all-loop-node-init t c = front-converted c.args.parent c.args.nodes.front (draft_frames c.args.draft.now)
@@ -46,8 +52,8 @@ convert_all-returns t c =
     (ap (λ ns. wholes c.args.nodes.front ++ map inline ns) (sym (map-id c.loop-node.yielded) ∙ end.0) ∙ sym (inlines-items c.args.nodes))
     c.loop-node.invariant
 
-pub open-returns : goal.open-returns
-open-returns t c = frame-converted c.args.parent c.in_ok-frame.frame c.in_ok-frame.ensures.number c.in_ok-frame.ensures.ok c.in_ok-define_all.ensures
+pub open_frame-returns : goal.open_frame-returns
+open_frame-returns t c = frame-converted c.args.parent c.in_ok-frame.frame c.in_ok-frame.ensures.number c.in_ok-frame.ensures.ok c.in_ok-define_all.ensures
 
 pub define_all-convert-requires : goal.define_all-convert-requires
 define_all-convert-requires t c =

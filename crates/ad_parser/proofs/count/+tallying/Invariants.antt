@@ -1,20 +1,23 @@
 use Rattle.std.proofs.Common.{◌≡◌, ◌+◌, ◌*◌, max, min, map, take}
 use Rattle.ad_tree.specs.Inline.{height, highest, highest_def, count_all, count_defs, definitions_all, definitions_in}
 use Rattle.ad_parser.specs.Counts.{counting_limit}
-use Rattle.ad_parser.specs.Nodes.{inline, inlines, definitions, pack, pack_definitions}
+use Rattle.ad_parser.specs.Nodes.{inline, opened, inlines, definitions, pack, pack_definitions}
 use Rattle.ad_parser.proofs.count.+tallying.Given as goal
 
 abbrev pub decreases-tally : goal.decreases-tally
-decreases-tally l = 3 * height (inline l.node.now)
+decreases-tally l = 4 * height (inline l.node.now) + 1
+
+abbrev pub decreases-tally_open : goal.decreases-tally_open
+decreases-tally_open l = 4 * height (opened l.tree.now)
 
 abbrev pub decreases-tally_two : goal.decreases-tally_two
-decreases-tally_two l = 3 * max (height (inline l.a.now)) (height (inline l.b.now)) + 1
+decreases-tally_two l = 4 * max (height (inline l.a.now)) (height (inline l.b.now)) + 2
 
 abbrev pub decreases-tally_all : goal.decreases-tally_all
-decreases-tally_all l = 3 * highest (pack (inlines l.nodes.now)) + 1
+decreases-tally_all l = 4 * highest (pack (inlines l.nodes.now)) + 2
 
 abbrev pub decreases-tally_definitions : goal.decreases-tally_definitions
-decreases-tally_definitions l = 3 * highest_def (pack_definitions (definitions l.list.now)) + 1
+decreases-tally_definitions l = 4 * highest_def (pack_definitions (definitions l.list.now)) + 2
 
 abbrev pub invariant-tally_all-loop-i : goal.invariant-tally_all-loop-i
 invariant-tally_all-loop-i l =

@@ -219,6 +219,7 @@ const TREES: [(&[u8], &[u8]); 32] = [
 #[test]
 fn trees(rt: HostRuntime) -> Result<(), Fail> {
     for (text, wanted) in TREES.iter() {
+        assert!(rt; text.len() < 100_000);
         let phrase = parse_expr(rt.alloc(), text)?;
         let mut tree = Text::new(rt.alloc());
         write_tree(&mut tree, &phrase.ad, &phrase.expr, 64)?;

@@ -10,7 +10,9 @@ pub mod KeptLemmas
 mod LevelLemmas
 mod ListLemmas
 pub mod MadeLemmas
+pub mod MerelyLemmas
 pub mod MadeWordLemmas
+mod NestingLemmas
 mod NodeLemmas
 mod ParseLemmas
 mod QuoteLemmas

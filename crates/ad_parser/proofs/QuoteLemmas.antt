@@ -96,6 +96,13 @@ small_by quote rest (letter ∷ letters) spelled are other at =
 pub unread-small : (quote : ℕ) (bytes text rest : List ℕ) → Unread quote bytes text rest → (slice_index rest 0 ≡ quote → ⊥) → slice_index rest 0 ≡ 92 → meaning_at rest < 256
 unread-small quote bytes text rest u other at = small_by quote rest u.letters u.spelled u.are other at
 
+-- a quotation has two quotes
+long_by : (quote : ℕ) (bytes text : List ℕ) → IsQuoted quote bytes text → 1 < length bytes
+long_by quote bytes text q = omega (arith, ap length q.1, length-append (spellings q.0) (quote ∷ []))
+
+pub quotation-long : (bytes : List ℕ) → IsQuotation bytes → 1 < length bytes
+quotation-long bytes q = elim q [ inl string ↦ long_by 34 bytes string.0 string.1 | inr named ↦ long_by 39 bytes named.0 named.1 ]
+
 -- ---- letters that mean themselves ----
 
 -- without a backslash each letter means itself

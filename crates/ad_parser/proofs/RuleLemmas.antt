@@ -47,7 +47,7 @@ then_some r f a rest h = ap (λ x. and_then x f) h
 then_none : {A B : Type 0} (r : Reading A) (f : A → List Word → Reading B) → r ≡ None → and_then r f ≡ None
 then_none r f h = ap (λ x. and_then x f) h
 
-less : (n : ℕ) → 0 < n → n ≡ suc (n - 1)
+pub less : (n : ℕ) → 0 < n → n ≡ suc (n - 1)
 less n some = omega arith
 
 -- ---- marks that lack ----

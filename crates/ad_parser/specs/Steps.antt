@@ -1,6 +1,5 @@
 -- What contracts see of the parser's place in its words, and what its rules answer.
-use Rattle.std.specs.Prelude.{◌≡◌, ℕ, Bool, true, false, List, [], ◌∷◌, ◌++◌, reverse, map, Option, None, Some, option_map, Result, Ok, Err}
-use Rattle.std.specs.Option.{option_and_then}
+use Rattle.std.specs.Prelude.{◌≡◌, ℕ, Bool, true, false, List, [], ◌∷◌, ◌++◌, drop, Option, None, Some, option_map, Result, Ok, Err}
 use Rattle.pool_text.specs.declared.language.UnOp.{UnOp}
 use Rattle.ad_tree.specs.Inline.{Inline, Inlines, Defs, no_defs}
 use Rattle.ad_tree.specs.Tree.{unary, choice, name}
@@ -11,27 +10,14 @@ use Rattle.ad_parser.specs.declared.reader.Reader.{Reader}
 use Rattle.ad_parser.specs.declared.stop.Stop.{Stop}
 use Rattle.ad_parser.specs.declared.stop.Stop.TheVariants as stops
 use Rattle.ad_parser.specs.Limits.{height_limit}
-use Rattle.ad_parser.specs.Meaning.{meaning}
 use Rattle.ad_parser.specs.Parts.{cut_before, cut_defined_before}
 use Rattle.ad_parser.specs.Rules.{Reading, and_then, prefix_word, cut_one, cut_three, cut_def, named_in, definitions_behind}
 use Rattle.ad_parser.specs.Shapes.{leaf, over_one, over_three}
-use Rattle.ad_parser.specs.Words.{Word, mark, scope_of}
+use Rattle.ad_parser.specs.Words.{Word, mark, known_words, scope_of}
 
 -- the words that are left
 abbrev pub left : Reader → List Word
-left r = map meaning (reverse r.words.items)
-
--- the first word, and the mark that it is
-abbrev pub front : List Word → Option Word
-front [] = None
-front (w ∷ ws) = Some w
-
-abbrev pub mark_in : Word → Option Mark
-mark_in (mark m) = Some m
-mark_in w = None
-
-abbrev pub front_mark : List Word → Option Mark
-front_mark ws = option_and_then mark_in (front ws)
+left r = drop r.at (known_words r.marks.items r.tokens)
 
 -- an operator before an operand
 abbrev pub prefix_at : List Word → Reading UnOp

@@ -174,7 +174,7 @@ fn primary(alloc: Global, reader: &mut Reader<'_>, fuel: usize) -> Result<Part, 
     ensures { Gives part (rules.primary height_limit (rules.expression height_limit fuel) (left reader.old))
         result (left reader.new) }
 {
-    match reader.take() {
+    match reader.take(alloc)? {
         Some(Word::Constant(literal)) => Ok(literal_part(alloc, literal)?),
         Some(Word::Plain(text)) => plain(alloc, reader, fuel, text),
         Some(Word::Quoted(text)) => Ok(name_part(alloc, Scope::Bare, text)?),

@@ -1,22 +1,21 @@
 // How many constructs are open at once.
-ghost use Rattle.std.specs.Prelude.{◌≡◌, ◌≤◌, map};
+ghost use Rattle.std.specs.Prelude.{◌≡◌, ◌≤◌, List, map};
 ghost use Rattle.ad_parser.specs.Limits.{nests_too_deep, opening, closing};
-ghost use Rattle.ad_parser.specs.Meaning.{meaning};
+ghost use Rattle.ad_parser.specs.Words.{Word as MeantWord, mark_in};
 
 use crate::mark::Mark;
-use crate::word::Word;
 
 const NESTING_LIMIT: usize = 130;
 
-/// Whether after some word more constructs are open than the limit.
-pub fn nests_too_deep(words: &[Word<'_>]) -> bool
-    ensures { result ≡ nests_too_deep (map meaning words.now) }
+/// Whether after some word more constructs are open than the limit. The words that aren't marks open and close none.
+pub fn nests_too_deep(marks: &[Option<Mark>]) -> bool
+    ensures { (ws : List MeantWord) → map mark_in ws ≡ marks.now → result ≡ nests_too_deep ws }
 {
     let mut opened: usize = 0;
     let mut closed: usize = 0;
-    for word in words {
-        opened += opening(word);
-        closed += closing(word);
+    for mark in marks {
+        opened += opening(*mark);
+        closed += closing(*mark);
         if opened.saturating_sub(closed) > NESTING_LIMIT {
             return true;
         }
@@ -24,28 +23,28 @@ pub fn nests_too_deep(words: &[Word<'_>]) -> bool
     false
 }
 
-fn opening(word: &Word<'_>) -> usize
-    ensures value { result ≡ opening (meaning word.now) }
+fn opening(mark: Option<Mark>) -> usize
+    ensures value { (w : MeantWord) → mark_in w ≡ mark → result ≡ opening w }
     ensures small { result ≤ 1 }
 {
-    match word {
-        Word::Mark(Mark::OpenParen) => 1,
-        Word::Mark(Mark::OpenBracket) => 1,
-        Word::Mark(Mark::OpenBrace) => 1,
-        Word::Mark(Mark::Question) => 1,
+    match mark {
+        Some(Mark::OpenParen) => 1,
+        Some(Mark::OpenBracket) => 1,
+        Some(Mark::OpenBrace) => 1,
+        Some(Mark::Question) => 1,
         _ => 0,
     }
 }
 
-fn closing(word: &Word<'_>) -> usize
-    ensures value { result ≡ closing (meaning word.now) }
+fn closing(mark: Option<Mark>) -> usize
+    ensures value { (w : MeantWord) → mark_in w ≡ mark → result ≡ closing w }
     ensures small { result ≤ 1 }
 {
-    match word {
-        Word::Mark(Mark::CloseParen) => 1,
-        Word::Mark(Mark::CloseBracket) => 1,
-        Word::Mark(Mark::CloseBrace) => 1,
-        Word::Mark(Mark::Colon) => 1,
+    match mark {
+        Some(Mark::CloseParen) => 1,
+        Some(Mark::CloseBracket) => 1,
+        Some(Mark::CloseBrace) => 1,
+        Some(Mark::Colon) => 1,
         _ => 0,
     }
 }

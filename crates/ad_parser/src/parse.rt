@@ -1,11 +1,11 @@
 // Parsing a text: its tokens, their words, the tree that these spell, and the ad of the tree.
-ghost use Rattle.std.specs.Prelude.{◌≡◌, ◌<◌, ◌+◌, ◌^◌, length, map, min, Some, IfOk, IfErr};
+ghost use Rattle.std.specs.Prelude.{◌≡◌, ◌<◌, ◌+◌, ◌^◌, length, min, Some, IfOk, IfErr};
 ghost use Rattle.ad_tree.specs.Inline.{no_defs};
 ghost use Rattle.ad_parser.specs.Answers.{AnswersAd, AnswersExpr};
 ghost use Rattle.ad_parser.specs.Limits.{height_limit};
-ghost use Rattle.ad_parser.specs.Meaning.{meaning};
 ghost use Rattle.ad_parser.specs.Parts.{part, definition_parts, cut_defined_before};
 ghost use Rattle.ad_parser.specs.Rules.{cut_ad, parsed_ad, parsed_expr};
+ghost use Rattle.ad_parser.specs.Steps.{left};
 ghost use Rattle.ad_parser.specs.Taking.{IsShallow, IsEarlyFault, IsRead, IsCounted, literal_of};
 
 use crate::ParseFault;
@@ -18,7 +18,7 @@ use crate::node::Definitions;
 use crate::part::{DefinitionParts, HEIGHT_LIMIT, Part};
 use crate::reader::Reader;
 use crate::stop::Stop;
-use crate::word::{Word, read_words};
+use crate::word::read_marks;
 use ad_lexer::lex;
 use ad_tree::{Ad, Phrase};
 use std::alloc::Global;
@@ -34,8 +34,8 @@ pub fn parse_ad(alloc: Global, text: &[u8]) -> Result<Ad, ParseFault>
     requires { length text.now < 2 ^ 32 }
     ensures { AnswersAd text.now result }
 {
-    let words = shallow_words(alloc, text)?;
-    let Some(list) = read_ad(alloc, words)? else {
+    let reader = shallow_reader(alloc, text)?;
+    let Some(list) = read_ad(alloc, reader)? else {
         return Err(ParseFault::Depth);
     };
     check_counts(tally_definitions(&list))?;
@@ -47,8 +47,8 @@ pub fn parse_expr(alloc: Global, text: &[u8]) -> Result<Phrase, ParseFault>
     requires { length text.now < 2 ^ 32 }
     ensures { AnswersExpr text.now result }
 {
-    let words = shallow_words(alloc, text)?;
-    let Part { node, .. } = read_expression(alloc, words)?;
+    let reader = shallow_reader(alloc, text)?;
+    let Part { node, .. } = read_expression(alloc, reader)?;
     let Some(node) = node else {
         return Err(ParseFault::Depth);
     };
@@ -56,25 +56,25 @@ pub fn parse_expr(alloc: Global, text: &[u8]) -> Result<Phrase, ParseFault>
     Ok(convert_phrase(alloc, node)?)
 }
 
-/// The words of a text, where no more constructs are open at once than may be.
-fn shallow_words<'a>(alloc: Global, text: &'a [u8]) -> Result<Vec<Word<'a>>, ParseFault>
+/// The place in front of the words of a text, where no more constructs are open at once than may be.
+fn shallow_reader<'a>(alloc: Global, text: &'a [u8]) -> Result<Reader<'a>, ParseFault>
     requires { length text.now < 2 ^ 32 }
-    ensures ok { IfOk result (λ words. IsShallow text.now (map meaning words.items)) }
+    ensures ok { IfOk result (λ reader. IsShallow text.now (left reader)) }
     ensures err { IfErr result (λ fault. IsEarlyFault text.now fault) }
 {
     let tokens = lex(alloc, text)?;
-    let words = read_words(alloc, &tokens)?;
-    if nests_too_deep(&words) {
+    let marks = read_marks(alloc, &tokens)?;
+    if nests_too_deep(&marks) {
         return Err(ParseFault::Nesting);
     }
-    Ok(words)
+    Ok(Reader::new(tokens, marks))
 }
 
 /// The tree of words that are an expression.
-fn read_expression(alloc: Global, words: Vec<Word<'_>>) -> Result<Part, Stop>
-    ensures { IsRead part (parsed_expr height_limit (map meaning words.entry.items)) result }
+fn read_expression(alloc: Global, reader: Reader<'_>) -> Result<Part, Stop>
+    ensures { IsRead part (parsed_expr height_limit (left reader.entry)) result }
 {
-    let mut reader = Reader::new(words);
+    let mut reader = reader;
     let fuel = reader.count() + 1;
     let part = expression(alloc, &mut reader, fuel)?;
     if reader.count() > 0 {
@@ -84,10 +84,10 @@ fn read_expression(alloc: Global, words: Vec<Word<'_>>) -> Result<Part, Stop>
 }
 
 /// The definitions of words that are an ad, nothing where its tree is too high.
-fn read_ad(alloc: Global, words: Vec<Word<'_>>) -> Result<Option<Definitions>, Stop>
-    ensures { IsRead literal_of (parsed_ad height_limit (map meaning words.entry.items)) result }
+fn read_ad(alloc: Global, reader: Reader<'_>) -> Result<Option<Definitions>, Stop>
+    ensures { IsRead literal_of (parsed_ad height_limit (left reader.entry)) result }
 {
-    let mut reader = Reader::new(words);
+    let mut reader = reader;
     reader.expect(Mark::OpenBracket)?;
     let fuel = reader.count() + 1;
     let list = definitions(alloc, &mut reader, fuel)?;

@@ -1,5 +1,5 @@
 // What strings and quoted names mean.
-ghost use Rattle.std.specs.Prelude.{◌≡◌, ◌<◌, drop, slice_index, IfOk, IfSome};
+ghost use Rattle.std.specs.Prelude.{◌≡◌, ◌-◌, ◌<◌, ◌≤◌, drop, length, slice_index, take, IfOk, IfSome};
 ghost use Rattle.ad_lexer.specs.Content.{content, meaning_at, letter_len, octal_value, octal_len};
 ghost use Rattle.ad_lexer.specs.Quoted.{escaped, is_octal_digit};
 ghost use Rattle.ad_parser.specs.Quotes.{IsQuotation};
@@ -9,7 +9,7 @@ use std::alloc::Global;
 
 /// What the letters between the quotes mean.
 pub fn content(alloc: Global, bytes: &[u8]) -> Result<Text, OutOfMemory>
-    requires { IsQuotation bytes.now }
+    requires { ∥ IsQuotation bytes.now ∥₁ }
     ensures { IfOk result (λ text. text ≡ content bytes.now) }
 {
     match verbatim(bytes) {
@@ -20,17 +20,25 @@ pub fn content(alloc: Global, bytes: &[u8]) -> Result<Text, OutOfMemory>
 
 /// What stands between the quotes, where it has no backslash and so means itself.
 fn verbatim(bytes: &[u8]) -> Option<&[u8]>
-    requires { IsQuotation bytes.now }
+    requires { ∥ IsQuotation bytes.now ∥₁ }
     ensures { IfSome result (λ letters. letters.now ≡ content bytes.now) }
 {
     if bytes.contains(&b'\\') {
         return None;
     }
-    Some(&bytes[1..bytes.len() - 1])
+    Some(inside(bytes))
+}
+
+/// What stands between the first byte and the last.
+fn inside(bytes: &[u8]) -> &[u8]
+    requires { 2 ≤ length bytes.now }
+    ensures { result.now ≡ take (length bytes.now - 1 - 1) (drop 1 bytes.now) }
+{
+    &bytes[1..bytes.len() - 1]
 }
 
 fn unescaped(alloc: Global, bytes: &[u8]) -> Result<Text, OutOfMemory>
-    requires { IsQuotation bytes.now }
+    requires { ∥ IsQuotation bytes.now ∥₁ }
     ensures { IfOk result (λ text. text ≡ content bytes.now) }
 {
     let quote = byte_at(bytes, 0);

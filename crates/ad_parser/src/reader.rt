@@ -1,67 +1,90 @@
-// The parser's place in its words.
+// The parser's place in the words of a text.
+ghost use Rattle.std.specs.Prelude.{◌≡◌, ◌≤◌, length};
+ghost use Rattle.ad_parser.specs.Meaning.{AreSpelled};
+
 use crate::joining::Joint;
 use crate::mark::Mark;
 use crate::operators::{joint_of, prefix_of};
 use crate::stop::Stop;
-use crate::word::Word;
-use pool_text::{Text, UnOp};
+use crate::word::{Word, unmarked_word};
+use ad_lexer::Tokens;
+use pool_text::{OutOfMemory, Text, UnOp};
 use std::alloc::Global;
 
-/// The words of a text from a place on.
+/// The words of a text from a place on. A token is made a word when it is taken; which tokens are marks is known before,
+/// since the rules look at the next one many times.
 #[derive(Debug, Drop)]
 pub struct Reader<'a> {
-    // The next word stands last, so that it is taken without a copy.
-    words: Vec<Word<'a>>,
+    tokens: Tokens<'a>,
+    marks: Vec<Option<Mark>>,
+    at: usize,
+    ghost spelled: { ∥ AreSpelled tokens ∥₁ },
+    ghost paired: { length marks.items ≡ length tokens },
+    ghost within: { at ≤ length tokens },
 }
 
 impl<'a> Reader<'a> {
-    ghost use Rattle.std.specs.Prelude.{◌≡◌, ◌<◌, ◌≤◌, ◌∷◌, ℕ, List, drop, length, map, option_map, Some, None, Ok, Err};
+    ghost use Rattle.std.specs.Prelude.{◌<◌, ◌∷◌, ◌^◌, ℕ, List, drop, map, option_map, Some, None, Ok, Err, IfOk, OnOk};
     ghost use Rattle.std.specs.Bool.{Decides};
     ghost use Rattle.ad_parser.specs.Levels.{looseness_at};
     ghost use Rattle.ad_parser.specs.Meaning.{meaning};
     ghost use Rattle.ad_parser.specs.Parts.{as_infix};
     ghost use Rattle.ad_parser.specs.Rules.{name_at, infix_at};
-    ghost use Rattle.ad_parser.specs.Steps.{left, front, front_mark, prefix_at, Takes, Gives, Finds, Continues};
-    ghost use Rattle.ad_parser.specs.Words.{Word as MeantWord, mark as mark_word};
+    ghost use Rattle.ad_parser.specs.Steps.{left, prefix_at, Takes, Gives, Finds, Continues};
+    ghost use Rattle.ad_parser.specs.Words.{Word as MeantWord, front, front_mark, mark as mark_word, mark_in, words};
     ghost use Rattle.ad_parser.specs.declared.stop.Stop.{Stop};
 
     /// The place in front of the first word.
-    pub fn new(words: Vec<Word<'a>>) -> Reader<'a>
-        ensures { left result ≡ map meaning words.entry.items }
+    pub fn new(tokens: Tokens<'a>, marks: Vec<Option<Mark>>) -> Reader<'a>
+        requires spelled { AreSpelled tokens }
+        requires marked { marks.items ≡ map mark_in (words tokens) }
+        ensures { left result ≡ words tokens.entry }
     {
-        let mut words = words;
-        words.reverse();
-        Reader { words }
+        Reader {
+            tokens,
+            marks,
+            at: 0,
+        }
     }
 
     /// How many words are left.
     pub fn count(&self) -> usize
-        ensures { result ≡ length (left self.now) }
+        ensures value { result ≡ length (left self.now) }
+        ensures few { result < 2 ^ 63 }
     {
-        self.words.len()
-    }
-
-    fn peek(&self) -> Option<&Word<'a>>
-        ensures { option_map (λ w. meaning w.now) result ≡ front (left self.now) }
-    {
-        self.words.last()
+        self.marks.len() - self.at
     }
 
     /// Takes the next word.
-    pub fn take(&mut self) -> Option<Word<'a>>
-        ensures word { option_map meaning result ≡ front (left self.old) }
-        ensures left { left self.new ≡ drop 1 (left self.old) }
+    pub fn take(&mut self, alloc: Global) -> Result<Option<Word<'a>>, OutOfMemory>
+        ensures word { IfOk result (λ w. option_map meaning w ≡ front (left self.old)) }
+        ensures left { OnOk result (left self.new ≡ drop 1 (left self.old)) }
     {
-        self.words.pop()
+        let word = self.next(alloc)?;
+        self.skip();
+        Ok(word)
+    }
+
+    fn next(&self, alloc: Global) -> Result<Option<Word<'a>>, OutOfMemory>
+        ensures { IfOk result (λ w. option_map meaning w ≡ front (left self.now)) }
+    {
+        if self.at >= self.marks.len() {
+            return Ok(None);
+        }
+        match self.marks[self.at] {
+            Some(mark) => Ok(Some(Word::Mark(mark))),
+            None => Ok(Some(unmarked_word(alloc, self.tokens.at(self.at))?)),
+        }
     }
 
     /// The next word, where it is a mark.
     pub fn mark(&self) -> Option<Mark>
         ensures { result ≡ front_mark (left self.now) }
     {
-        match self.peek() {
-            Some(Word::Mark(mark)) => Some(*mark),
-            _ => None,
+        if self.at < self.marks.len() {
+            self.marks[self.at]
+        } else {
+            None
         }
     }
 
@@ -88,7 +111,9 @@ impl<'a> Reader<'a> {
     fn skip(&mut self)
         ensures { left self.new ≡ drop 1 (left self.old) }
     {
-        let _word = self.take();
+        if self.at < self.marks.len() {
+            self.at += 1;
+        }
     }
 
     /// Takes the mark, which is to stand next.
@@ -107,7 +132,7 @@ impl<'a> Reader<'a> {
     pub fn name(&mut self, alloc: Global) -> Result<Text, Stop>
         ensures { Gives (λ (t : List ℕ). t) (name_at (left self.old)) result (left self.new) }
     {
-        match self.take() {
+        match self.take(alloc)? {
             Some(Word::Plain(text)) => Ok(Text::from_bytes(alloc, text)?),
             Some(Word::Quoted(text)) => Ok(text),
             _ => Err(Stop::Grammar),

@@ -2,8 +2,8 @@
 ghost use Rattle.std.specs.Prelude.{◌≡◌, map, IfOk};
 ghost use Rattle.ad_lexer.specs.Spelling.{Spells};
 ghost use Rattle.ad_lexer.specs.Lexeme.{lexeme};
-ghost use Rattle.ad_parser.specs.Meaning.{meaning, AreSpelled};
-ghost use Rattle.ad_parser.specs.Words.{or_undefined, meaning_of, mark_word, marks, reserved_words, word, words};
+ghost use Rattle.ad_parser.specs.Meaning.{meaning};
+ghost use Rattle.ad_parser.specs.Words.{or_undefined, constant, mark_in, meaning_of, reserved_words, unmarked, word, words};
 ghost use Rattle.pool_text.specs.Folding.{folded};
 
 use crate::mark::Mark;
@@ -23,58 +23,68 @@ pub enum Word<'a> {
     Mark(Mark),
 }
 
-/// The words of tokens.
-pub fn read_words<'a>(alloc: Global, tokens: &Tokens<'a>) -> Result<Vec<Word<'a>>, OutOfMemory>
-    requires { AreSpelled tokens.now }
-    ensures { IfOk result (λ list. map meaning list.items ≡ words tokens.now) }
-{
-    let mut list = Vec::with_capacity(alloc, tokens.len())?;
-    for i in 0..tokens.len() {
-        list.push(read_word(alloc, tokens.at(i))?)?;
-    }
-    Ok(list)
-}
-
-fn read_word<'a>(alloc: Global, token: &Token<'a>) -> Result<Word<'a>, OutOfMemory>
-    requires { Spells token.now.kind token.now.text.now }
-    ensures { IfOk result (λ read. meaning read ≡ word (lexeme token.now)) }
+/// The word of a token that is no mark.
+pub fn unmarked_word<'a>(alloc: Global, token: &Token<'a>) -> Result<Word<'a>, OutOfMemory>
+    requires { ∥ Spells token.now.kind token.now.text.now ∥₁ }
+    ensures { IfOk result (λ read. meaning read ≡ unmarked (word (lexeme token.now))) }
 {
     let text = token.text;
     Ok(match token.kind {
         TokenKind::Plain => Word::Plain(text),
-        TokenKind::Reserved => reserved(text),
+        TokenKind::Reserved => Word::Constant(reserved(text)),
         TokenKind::Quoted => Word::Quoted(content(alloc, text)?),
         TokenKind::Str => Word::Constant(Lit::Str(content(alloc, text)?)),
         TokenKind::Int => Word::Constant(Lit::Integer(integer(text))),
-        TokenKind::Symbol => symbol(text),
+        TokenKind::Symbol => Word::Constant(Lit::Undefined),
     })
 }
 
-fn symbol<'a>(text: &[u8]) -> Word<'a>
-    ensures { meaning result ≡ mark_word (meaning_of marks text.now) }
+/// The literal of a reserved word that is no operator.
+fn reserved(text: &[u8]) -> Lit
+    ensures { constant result ≡ unmarked (or_undefined (meaning_of reserved_words (folded text.now))) }
 {
-    match mark_of(text) {
-        Some(mark) => Word::Mark(mark),
-        None => Word::Constant(Lit::Undefined),
+    if text.eq_ignore_ascii_case(b"true") {
+        Lit::Boolean(true)
+    } else if text.eq_ignore_ascii_case(b"false") {
+        Lit::Boolean(false)
+    } else if text.eq_ignore_ascii_case(b"error") {
+        Lit::Error
+    } else {
+        Lit::Undefined
     }
 }
 
-fn reserved<'a>(text: &[u8]) -> Word<'a>
-    ensures { meaning result ≡ or_undefined (meaning_of reserved_words (folded text.now)) }
+/// The marks that tokens are.
+pub fn read_marks(alloc: Global, tokens: &Tokens<'_>) -> Result<Vec<Option<Mark>>, OutOfMemory>
+    ensures { IfOk result (λ marks. marks.items ≡ map mark_in (words tokens.now)) }
 {
-    if text.eq_ignore_ascii_case(b"true") {
-        Word::Constant(Lit::Boolean(true))
-    } else if text.eq_ignore_ascii_case(b"false") {
-        Word::Constant(Lit::Boolean(false))
-    } else if text.eq_ignore_ascii_case(b"undefined") {
-        Word::Constant(Lit::Undefined)
-    } else if text.eq_ignore_ascii_case(b"error") {
-        Word::Constant(Lit::Error)
-    } else if text.eq_ignore_ascii_case(b"is") {
-        Word::Mark(Mark::Binary(BinOp::Same))
+    let mut marks = Vec::with_capacity(alloc, tokens.len())?;
+    for i in 0..tokens.len() {
+        marks.push(mark_of_token(tokens.at(i)))?;
+    }
+    Ok(marks)
+}
+
+/// The mark that a token is.
+fn mark_of_token(token: &Token<'_>) -> Option<Mark>
+    ensures { result ≡ mark_in (word (lexeme token.now)) }
+{
+    match token.kind {
+        TokenKind::Symbol => mark_of(token.text),
+        TokenKind::Reserved => mark_of_reserved(token.text),
+        _ => None,
+    }
+}
+
+/// `is` and `isnt` are operators.
+fn mark_of_reserved(text: &[u8]) -> Option<Mark>
+    ensures { result ≡ mark_in (or_undefined (meaning_of reserved_words (folded text.now))) }
+{
+    if text.eq_ignore_ascii_case(b"is") {
+        Some(Mark::Binary(BinOp::Same))
     } else if text.eq_ignore_ascii_case(b"isnt") {
-        Word::Mark(Mark::Binary(BinOp::NotSame))
+        Some(Mark::Binary(BinOp::NotSame))
     } else {
-        Word::Constant(Lit::Undefined)
+        None
     }
 }

@@ -9,9 +9,15 @@ use Rattle.ad_parser.specs.Rules as rules
 use Rattle.ad_parser.specs.Rules.{Reading}
 use Rattle.ad_parser.specs.Steps.{left, ContinuesOk}
 use Rattle.ad_parser.specs.Words.{mark as mark_word}
-use Rattle.ad_parser.proofs.RuleLemmas.{gives-ok, regives, stops-here, stops-by, arguments-broken, elements-broken, group-broken, conditionals-init, conditionals-end, conditionals-broken, conditionals-unclosed, conditionals-more, operations-broken, operations-more, several-end, several-more, definitions-broken, definitions-end, definitions-more, suffixes-end, suffixes-selection, suffixes-broken, suffixes-subscript}
+use Rattle.ad_parser.proofs.RuleLemmas.{less, gives-ok, regives, stops-here, stops-by, arguments-broken, elements-broken, group-broken, conditionals-init, conditionals-end, conditionals-broken, conditionals-unclosed, conditionals-more, operations-broken, operations-more, several-end, several-more, definitions-broken, definitions-end, definitions-more, suffixes-end, suffixes-selection, suffixes-broken, suffixes-subscript}
 use Rattle.ad_parser.proofs.LevelLemmas.{level-climbed, level-none, climb-end, climb-broken, climb-more}
 use Rattle.ad_parser.proofs.grammar.+grammar.Goals as goal
+
+pub expression-returns : goal.expression-returns
+expression-returns t c =
+    let ws = left c.args.reader.now in
+    regives part (rules.expression height_limit c.args.fuel ws) (rules.conditionals height_limit (rules.expression height_limit (c.args.fuel - 1)) (suc (length ws)) ws) c.conditionals.result (left c.conditionals.new.reader)
+    (ap (λ n. rules.expression height_limit n ws) (less c.args.fuel (omega (arith, c.if-fuel-eq0.false)))) c.conditionals.ensures
 
 pub arguments-returns-in_err-expect : goal.arguments-returns-in_err-expect
 arguments-returns-in_err-expect t c =
@@ -36,7 +42,7 @@ marked-returns-in_err-expect-in-OpenParen t c =
 
 pub conditionals-loop-turns-init : goal.conditionals-loop-turns-init
 conditionals-loop-turns-init t c =
-    conditionals-init (rules.expression height_limit c.args.fuel) (left c.args.reader.now) c.new-choices.result.items c.count-turns.result c.new-choices.ensures.items c.count-turns.ensures
+    conditionals-init (rules.expression height_limit c.args.fuel) (left c.args.reader.now) c.new-choices.result.items c.count-turns.result c.new-choices.ensures.items c.count-turns.ensures.value
 
 pub conditionals-returns-then-not-takes : goal.conditionals-returns-then-not-takes
 conditionals-returns-then-not-takes t c =

@@ -10,14 +10,12 @@ use Rattle.ad_parser.proofs.parse.read_expression.Goals as goal
 
 pub returns-then-count-gt0 : goal.returns-then-count-gt0
 returns-then-count-gt0 c =
-    is_read-none part (parsed_expr height_limit (map meaning c.args.words.items)) stops.Grammar
-    (ap (parsed_expr height_limit) (sym c.new-reader.ensures)
-    ∙ expression-more (left c.new-reader.result) (c.count-fuel.result + 1) (ap (λ n. n + 1) c.count-fuel.ensures) (part c.in_ok-part.part) (left c.expression.new.reader)
-    (c.in_ok-part.ensures.ok c.in_ok-part.part refl) (omega (arith, c.count.ensures, c.if-count-gt0.true)))
+    is_read-none part (parsed_expr height_limit (left c.args.reader)) stops.Grammar
+    (expression-more (left c.args.reader) (c.count-fuel.result + 1) (ap (λ n. n + 1) c.count-fuel.ensures.value) (part c.in_ok-part.part) (left c.expression.new.reader)
+    (c.in_ok-part.ensures.ok c.in_ok-part.part refl) (omega (arith, c.count.ensures.value, c.if-count-gt0.true)))
 
 pub returns : goal.returns
 returns c =
-    is_read-ok part (parsed_expr height_limit (map meaning c.args.words.items)) c.in_ok-part.part
-    (ap (parsed_expr height_limit) (sym c.new-reader.ensures)
-    ∙ expression-all (left c.new-reader.result) (c.count-fuel.result + 1) (ap (λ n. n + 1) c.count-fuel.ensures) (part c.in_ok-part.part) (left c.expression.new.reader)
-    (c.in_ok-part.ensures.ok c.in_ok-part.part refl) (omega (arith, c.count.ensures, c.if-count-gt0.false)))
+    is_read-ok part (parsed_expr height_limit (left c.args.reader)) c.in_ok-part.part
+    (expression-all (left c.args.reader) (c.count-fuel.result + 1) (ap (λ n. n + 1) c.count-fuel.ensures.value) (part c.in_ok-part.part) (left c.expression.new.reader)
+    (c.in_ok-part.ensures.ok c.in_ok-part.part refl) (omega (arith, c.count.ensures.value, c.if-count-gt0.false)))

@@ -1,6 +1,0 @@
-use Rattle.ad_lexer.proofs.SliceLemmas.{tokens_slices}
-use Rattle.ad_parser.proofs.ParseLemmas.{tokens-spelled}
-use Rattle.ad_parser.proofs.parse.shallow_words.Goals as goal
-
-pub read_words-requires : goal.read_words-requires
-read_words-requires c = tokens-spelled c.args.text.now 0 c.in_ok-tokens.tokens (tokens_slices c.args.text.now c.in_ok-tokens.tokens c.in_ok-tokens.ensures.answer)

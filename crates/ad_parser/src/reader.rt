@@ -56,6 +56,7 @@ impl<'a> Reader<'a> {
     }
 
     /// Takes the next word.
+    #[inline(always)]
     pub fn take(&mut self, alloc: Global) -> Result<Option<Word<'a>>, OutOfMemory>
         ensures word { IfOk result (λ w. option_map meaning w ≡ front (left self.old)) }
         ensures left { OnOk result (left self.new ≡ drop 1 (left self.old)) }
@@ -65,6 +66,7 @@ impl<'a> Reader<'a> {
         Ok(word)
     }
 
+    #[inline(always)]
     fn next(&self, alloc: Global) -> Result<Option<Word<'a>>, OutOfMemory>
         ensures { IfOk result (λ w. option_map meaning w ≡ front (left self.now)) }
     {

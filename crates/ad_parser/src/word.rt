@@ -24,6 +24,7 @@ pub enum Word<'a> {
 }
 
 /// The word of a token that is no mark.
+#[inline(always)]
 pub fn unmarked_word<'a>(alloc: Global, token: &Token<'a>) -> Result<Word<'a>, OutOfMemory>
     requires { ∥ Spells token.now.kind token.now.text.now ∥₁ }
     ensures { IfOk result (λ read. meaning read ≡ unmarked (word (lexeme token.now))) }

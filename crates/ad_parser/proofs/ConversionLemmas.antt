@@ -21,8 +21,8 @@ use Rattle.ad_parser.proofs.NodeLemmas.{inline-Whole}
 use Rattle.ad_parser.proofs.WholeLemmas.{whole-placed, wholes-placed}
 
 -- an expression without ad literals is placed as it is
-pub whole-converted : (p : ℕ) (n : Node) (w : Whole) (fs : List Frame) → n ≡ nodes.Whole w → IsPlaced p (inline n) (tree w.expr.value) fs fs
-whole-converted p n w fs e = subst (λ i. IsPlaced p i (tree w.expr.value) fs fs) (sym (ap inline e ∙ inline-Whole w)) (whole-placed p (tree w.expr.value) fs w.cites_none)
+pub whole-converted : (p : ℕ) (n : Node) (w : Whole) (fs : List Frame) → n ≡ nodes.Whole w → IsPlaced p (inline n) (tree w.expr) fs fs
+whole-converted p n w fs e = subst (λ i. IsPlaced p i (tree w.expr) fs fs) (sym (ap inline e ∙ inline-Whole w)) (whole-placed p (tree w.expr) fs w.cites_none)
 
 -- and so are those at the front of a list
 pub front-converted : (p : ℕ) (w : Wholes) (fs : List Frame) → AreAllPlaced p (pack (wholes w ++ [])) (pack_trees (trees w.list)) fs fs

@@ -40,7 +40,7 @@ fn convert(alloc: Global, draft: &mut Draft, parent: u32, node: Node) -> Result<
     ensures { IfOk result (λ expr. IsPlaced parent (inline node) (tree expr) (draft_frames draft.old) (draft_frames draft.new)) }
 {
     match node {
-        Node::Whole(item) => Ok(Box::into_inner(item.expr)),
+        Node::Whole(item) => Ok(item.expr),
         Node::Open(tree) => convert_open(alloc, draft, parent, Box::into_inner(tree)),
     }
 }
@@ -55,13 +55,8 @@ fn convert_boxed(
     requires { parent < length (draft_frames draft.old) }
     ensures { IfOk result (λ expr. IsPlaced parent (inline node) (tree expr.value) (draft_frames draft.old) (draft_frames draft.new)) }
 {
-    match node {
-        Node::Whole(item) => Ok(item.expr),
-        Node::Open(tree) => {
-            let expr = convert_open(alloc, draft, parent, Box::into_inner(tree))?;
-            Ok(Box::new(alloc, expr)?)
-        }
-    }
+    let expr = convert(alloc, draft, parent, node)?;
+    Ok(Box::new(alloc, expr)?)
 }
 
 #[cycle(converting)]

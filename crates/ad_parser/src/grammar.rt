@@ -175,9 +175,9 @@ fn primary(alloc: Global, reader: &mut Reader<'_>, fuel: usize) -> Result<Part, 
         result (left reader.new) }
 {
     match reader.take(alloc)? {
-        Some(Word::Constant(literal)) => Ok(literal_part(alloc, literal)?),
+        Some(Word::Constant(literal)) => Ok(literal_part(literal)),
         Some(Word::Plain(text)) => plain(alloc, reader, fuel, text),
-        Some(Word::Quoted(text)) => Ok(name_part(alloc, Scope::Bare, text)?),
+        Some(Word::Quoted(text)) => Ok(name_part(Scope::Bare, text)),
         Some(Word::Mark(mark)) => marked(alloc, reader, fuel, mark),
         None => Err(Stop::Grammar),
     }
@@ -190,7 +190,7 @@ fn marked(alloc: Global, reader: &mut Reader<'_>, fuel: usize, mark: Mark) -> Re
         result (left reader.new) }
 {
     match mark {
-        Mark::Dot => Ok(name_part(alloc, Scope::My, reader.name(alloc)?)?),
+        Mark::Dot => Ok(name_part(Scope::My, reader.name(alloc)?)),
         Mark::OpenBrace => Ok(list(alloc, elements(alloc, reader, fuel)?)?),
         Mark::OpenBracket => Ok(ad(alloc, definitions(alloc, reader, fuel)?)?),
         Mark::OpenParen => {
@@ -309,12 +309,12 @@ fn named(alloc: Global, reader: &mut Reader<'_>, text: &[u8]) -> Result<Part, St
     ensures { Gives part (reference text.now (left reader.old)) result (left reader.new) }
 {
     let Some(scope) = scope_of(text) else {
-        return Ok(name_part(alloc, Scope::Bare, Text::from_bytes(alloc, text)?)?);
+        return Ok(name_part(Scope::Bare, Text::from_bytes(alloc, text)?));
     };
     if reader.takes(Mark::Dot) {
-        return Ok(name_part(alloc, scope, reader.name(alloc)?)?);
+        return Ok(name_part(scope, reader.name(alloc)?));
     }
-    Ok(name_part(alloc, Scope::Bare, Text::from_bytes(alloc, text)?)?)
+    Ok(name_part(Scope::Bare, Text::from_bytes(alloc, text)?))
 }
 
 /// The scope that a plain name is in front of a dot, in any case.

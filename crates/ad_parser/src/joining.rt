@@ -65,17 +65,17 @@ fn leaf(node: Node) -> Part
 }
 
 /// A literal.
-pub fn literal_part(alloc: Global, literal: Lit) -> Result<Part, OutOfMemory>
-    ensures { IfOk result (λ p. part p ≡ Some (shapes.leaf (labels.literal literal))) }
+pub fn literal_part(literal: Lit) -> Part
+    ensures { part result ≡ Some (shapes.leaf (labels.literal literal)) }
 {
-    Ok(leaf(literal_node(alloc, literal)?))
+    leaf(literal_node(literal))
 }
 
 /// A name in a scope.
-pub fn name_part(alloc: Global, scope: Scope, name: Text) -> Result<Part, OutOfMemory>
-    ensures { IfOk result (λ p. part p ≡ Some (shapes.leaf (labels.name scope name))) }
+pub fn name_part(scope: Scope, name: Text) -> Part
+    ensures { part result ≡ Some (shapes.leaf (labels.name scope name)) }
 {
-    Ok(leaf(name_node(alloc, scope, name)?))
+    leaf(name_node(scope, name))
 }
 
 /// An operator before an operand.
@@ -166,7 +166,7 @@ fn extends(joint: Joint, node: &Node) -> bool
 fn whole_extends(joint: Joint, item: &Whole) -> bool
     ensures { result ≡ extends (as_infix joint) (whole item.now) }
 {
-    match (joint, &*item.expr) {
+    match (joint, &item.expr) {
         (Joint::Conjunction, Expr::And(_)) => true,
         (Joint::Disjunction, Expr::Or(_)) => true,
         _ => false,

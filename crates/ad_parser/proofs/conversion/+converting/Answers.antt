@@ -14,13 +14,7 @@ use Rattle.ad_parser.proofs.ListLemmas.{named, inlines-items, definitions-items,
 use Rattle.ad_parser.proofs.conversion.+converting.Goals as goal
 
 pub convert-returns-in-Whole : goal.convert-returns-in-Whole
-convert-returns-in-Whole t c =
-    let fs = draft_frames c.args.draft.now in
-    subst (λ e. IsPlaced c.args.parent (inline c.args.node) (tree e) fs fs) (sym c.into_inner.ensures)
-    (whole-converted c.args.parent c.args.node c.in-Whole.item fs c.in-Whole.is)
-
-pub convert_boxed-returns-in-Whole : goal.convert_boxed-returns-in-Whole
-convert_boxed-returns-in-Whole t c = whole-converted c.args.parent c.args.node c.in-Whole.item (draft_frames c.args.draft.now) c.in-Whole.is
+convert-returns-in-Whole t c = whole-converted c.args.parent c.args.node c.in-Whole.item (draft_frames c.args.draft.now) c.in-Whole.is
 
 pub convert_all-loop-node-init : goal.convert_all-loop-node-init
 convert_all-loop-node-init t c = front-converted c.args.parent c.args.nodes.front (draft_frames c.args.draft.now)

@@ -16,13 +16,13 @@ abbrev pub decreases-convert_open : goal.decreases-convert_open
 decreases-convert_open l = 5 * height (opened l.node)
 
 abbrev pub decreases-convert_boxed : goal.decreases-convert_boxed
-decreases-convert_boxed l = 5 * height (inline l.node) + 1
+decreases-convert_boxed l = 5 * height (inline l.node) + 2
 
 abbrev pub decreases-convert_two : goal.decreases-convert_two
-decreases-convert_two l = 5 * max (height (inline l.nodes.0)) (height (inline l.nodes.1)) + 2
+decreases-convert_two l = 5 * max (height (inline l.nodes.0)) (height (inline l.nodes.1)) + 3
 
 abbrev pub decreases-convert_three : goal.decreases-convert_three
-decreases-convert_three l = 5 * max (height (inline l.nodes.0)) (max (height (inline l.nodes.1)) (height (inline l.nodes.2))) + 3
+decreases-convert_three l = 5 * max (height (inline l.nodes.0)) (max (height (inline l.nodes.1)) (height (inline l.nodes.2))) + 4
 
 abbrev pub decreases-convert_all : goal.decreases-convert_all
 decreases-convert_all l = 5 * highest (pack (inlines l.nodes)) + 2

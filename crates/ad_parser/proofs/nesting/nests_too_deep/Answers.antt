@@ -5,9 +5,9 @@ use Rattle.ad_parser.proofs.nesting.nests_too_deep.Goals as goal
 pub loop-mark-preserved : goal.loop-mark-preserved
 loop-mark-preserved c = record {
   rest = λ ws is.
-  sym (shallow-next c.loop-mark.opened c.loop-mark.closed c.loop-mark.mark-index ws c.args.marks.now c.opening-opened.result c.closing-closed.result is c.loop-mark-test.true c.opening-opened.ensures.value c.closing-closed.ensures.value
-  (omega (arith, c.if-saturating_sub-gt-NESTING_LIMIT.false, c.saturating_sub.ensures)))
-  ∙ c.loop-mark.invariant.rest ws is;
+      sym (shallow-next c.loop-mark.opened c.loop-mark.closed c.loop-mark.mark-index ws c.args.marks.now c.opening-opened.result c.closing-closed.result is c.loop-mark-test.true c.opening-opened.ensures.value c.closing-closed.ensures.value
+      (omega (arith, c.if-saturating_sub-gt-NESTING_LIMIT.false, c.saturating_sub.ensures)))
+      ∙ c.loop-mark.invariant.rest ws is;
   opened_few = omega (arith, c.opening-opened.ensures.small, c.loop-mark.invariant.opened_few);
   closed_few = omega (arith, c.closing-closed.ensures.small, c.loop-mark.invariant.closed_few);
 }

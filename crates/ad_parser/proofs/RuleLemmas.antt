@@ -1,8 +1,9 @@
 -- Steps of the rules, each for the branch of the code that takes it.
-use Rattle.std.proofs.Common.{refl, arith, ◌≡◌, ℕ, zero, suc, ◌+◌, ◌-◌, ◌<◌, List, [], ◌∷◌, ◌++◌, length, map, Option, None, Some, Result, Ok, Err, ap, subst, sym, ◌∙◌}
+use Rattle.std.proofs.Common.{refl, arith, ◌≡◌, ℕ, zero, suc, ◌+◌, ◌-◌, ◌<◌, List, [], true, ◌∷◌, ◌++◌, length, map, Option, None, Some, Result, Ok, Err, ap, subst, sym, ◌∙◌}
 use Rattle.std.specs.Prelude.{IsErr, IsErrAnd}
+use Rattle.pool_text.specs.declared.language.Lit.{Lit}
 use Rattle.ad_tree.specs.Inline.{Inline, Inlines, Defs, end, no_defs}
-use Rattle.ad_tree.specs.Tree.{select, subscript, choice}
+use Rattle.ad_tree.specs.Tree.{literal, select, subscript, choice}
 use Rattle.ad_parser.specs.declared.chains.Choice.{Choice}
 use Rattle.ad_parser.specs.declared.mark.Mark.{Mark}
 use Rattle.ad_parser.specs.declared.mark.Mark.TheVariants.{OpenParen, CloseParen, OpenBracket, CloseBracket, OpenBrace, CloseBrace, Comma, Semicolon, Dot, Assign, Question, Colon}
@@ -11,10 +12,10 @@ use Rattle.ad_parser.specs.declared.stop.Stop.TheVariants as stops
 use Rattle.ad_parser.specs.Chains.{held}
 use Rattle.ad_parser.specs.Limits.{height_limit}
 use Rattle.ad_parser.specs.Parts.{cut_last, cut_last_def, cut_before, cut_defined_before}
-use Rattle.ad_parser.specs.Rules.{Rule, Reading, and_then, name_at, close_paren, close_bracket, close_brace, several_behind, several, arguments, elements, assigned, definitions_behind, definitions_at, suffixes, infix_at, operation_or, operations, level_at, colon, choice_behind, conditionals, cut_one, cut_two, cut_three, cut_next, cut_def}
-use Rattle.ad_parser.specs.Shapes.{over_one, over_two, over_three, Infix, joined}
-use Rattle.ad_parser.specs.Steps.{Gives, chosen, choices, collected, collected_definitions}
-use Rattle.ad_parser.specs.Words.{Word, plain, quoted, constant, mark}
+use Rattle.ad_parser.specs.Rules.{Rule, Reading, and_then, name_at, close_paren, close_bracket, close_brace, several_behind, several, arguments, elements, assigned, definitions_behind, definitions_at, suffixes, infix_at, operation_or, operations, level_at, expression, colon, choice_behind, conditionals, cut_one, cut_two, cut_three, cut_next, cut_def}
+use Rattle.ad_parser.specs.Shapes.{leaf, over_one, over_two, over_three, Infix, joined}
+use Rattle.ad_parser.specs.Steps.{Gives, IsLone, chosen, choices, collected, collected_definitions}
+use Rattle.ad_parser.specs.Words.{Word, plain, quoted, constant, mark, ends, ends_at}
 use Rattle.ad_parser.proofs.ChainLemmas.{choices-nil, choices-push, collected-push, cut_before-push, collected_definitions-push, cut_defined_before-push}
 
 -- a mark doesn't stand in front of words
@@ -279,3 +280,28 @@ module _ (e : Rule) (w : Reading (Option Inline)) (n : ℕ) (x : Option Inline) 
       ∙ ap (λ r. and_then (and_then r close_bracket) (λ v. suffixes height_limit e (n - 1) (cut_two height_limit (over_two subscript) x v))) read
       ∙ ap (λ us. and_then (close_bracket y us) (λ v. suffixes height_limit e (n - 1) (cut_two height_limit (over_two subscript) x v))) closed
       ∙ ap (λ v. suffixes height_limit e (n - 1) v now) (sym is)
+
+-- ---- a literal alone ----
+
+lone-behind : (n : ℕ) (lit : Lit) (m : Mark) (ws : List Word) → ends (Some m) ≡ true → expression height_limit (suc n) (constant lit ∷ mark m ∷ ws) ≡ Some (Some (leaf (literal lit)), mark m ∷ ws)
+lone-behind n lit m ws h =
+    elim m as (λ k. ends (Some k) ≡ true → expression height_limit (suc n) (constant lit ∷ mark k ∷ ws) ≡ Some (Some (leaf (literal lit)), mark k ∷ ws)) [
+      | Semicolon ↦ λ e. refl
+      | Comma ↦ λ e. refl
+      | CloseBracket ↦ λ e. refl
+      | CloseBrace ↦ λ e. refl
+      | CloseParen ↦ λ e. refl
+      | _ ↦ λ e. absurd (cc)
+    ] h
+
+lone-by : (n : ℕ) (lit : Lit) (ws : List Word) → ends_at ws ≡ true → expression height_limit (suc n) (constant lit ∷ ws) ≡ Some (Some (leaf (literal lit)), ws)
+lone-by n lit [] h = absurd (cc)
+lone-by n lit (plain t ∷ ws) h = absurd (cc)
+lone-by n lit (quoted t ∷ ws) h = absurd (cc)
+lone-by n lit (constant l ∷ ws) h = absurd (cc)
+lone-by n lit (mark m ∷ ws) h = lone-behind n lit m ws h
+
+-- a literal before a mark with which no expression goes on is an expression
+pub lone-literal : (fuel : ℕ) (lit : Lit) (old new : List Word) → 0 < fuel → IsLone lit old new → expression height_limit fuel old ≡ Some (Some (leaf (literal lit)), new)
+lone-literal fuel lit old new some lone =
+    ap (λ n. expression height_limit n old) (less fuel some) ∙ ap (expression height_limit (suc (fuel - 1))) lone.taken ∙ lone-by (fuel - 1) lit new lone.alone

@@ -1,5 +1,6 @@
 -- What contracts see of the parser's place in its words, and what its rules answer.
 use Rattle.std.specs.Prelude.{◌≡◌, ℕ, Bool, true, false, List, [], ◌∷◌, ◌++◌, drop, Option, None, Some, option_map, Result, Ok, Err}
+use Rattle.pool_text.specs.declared.language.Lit.{Lit}
 use Rattle.pool_text.specs.declared.language.UnOp.{UnOp}
 use Rattle.ad_tree.specs.Inline.{Inline, Inlines, Defs, no_defs}
 use Rattle.ad_tree.specs.Tree.{unary, choice, name}
@@ -13,7 +14,7 @@ use Rattle.ad_parser.specs.Limits.{height_limit}
 use Rattle.ad_parser.specs.Parts.{cut_before, cut_defined_before}
 use Rattle.ad_parser.specs.Rules.{Reading, and_then, prefix_word, cut_one, cut_three, cut_def, named_in, definitions_behind}
 use Rattle.ad_parser.specs.Shapes.{leaf, over_one, over_three}
-use Rattle.ad_parser.specs.Words.{Word, mark, known_words, scope_of}
+use Rattle.ad_parser.specs.Words.{Word, constant, mark, known_words, ends_at, scope_of}
 
 -- the words that are left
 abbrev pub left : Reader → List Word
@@ -23,6 +24,11 @@ left r = drop r.at (known_words r.marks.items r.tokens)
 abbrev pub prefix_at : List Word → Reading UnOp
 prefix_at [] = None
 prefix_at (w ∷ ws) = option_map (λ op. (op, ws)) (prefix_word w)
+
+-- a literal was taken that stands before a mark with which no expression goes on
+pub record IsLone (lit : Lit) (old new : List Word) : Type 0 where
+  pub taken : old ≡ constant lit ∷ new
+  pub alone : ends_at new ≡ true
 
 -- a mark was taken, or doesn't stand there
 pub record Takes (m : Mark) (old new : List Word) (stood : Bool) : Type 0 where

@@ -1,5 +1,5 @@
 -- The words of the grammar: what a token means to the parser.
-use Rattle.std.specs.Prelude.{ℕ, true, false, pos, List, [], ◌∷◌, map, codes, Option, None, Some, if◌then◌else◌}
+use Rattle.std.specs.Prelude.{ℕ, Bool, true, false, pos, List, [], ◌∷◌, map, codes, Option, None, Some, if◌then◌else◌}
 use Rattle.std.specs.Option.{option_and_then}
 use Rattle.std.specs.Str.{bytes_eq}
 use Rattle.pool_text.specs.Folding.{folded}
@@ -90,6 +90,18 @@ mark_in w = None
 
 abbrev pub front_mark : List Word → Option Mark
 front_mark ws = option_and_then mark_in (front ws)
+
+-- a mark behind an expression, with which no expression goes on
+abbrev pub ends : Option Mark → Bool
+ends (Some Semicolon) = true
+ends (Some Comma) = true
+ends (Some CloseBracket) = true
+ends (Some CloseBrace) = true
+ends (Some CloseParen) = true
+ends m = false
+
+abbrev pub ends_at : List Word → Bool
+ends_at ws = ends (front_mark ws)
 
 -- the word of a token that is known to be no mark
 abbrev pub unmarked : Word → Word

@@ -27,13 +27,16 @@ use std::alloc::Global;
 /// How loosely `||` binds, the loosest of the operators between two operands.
 const LOOSEST: usize = 10;
 
-/// An expression.
+/// An expression. One of a literal alone, as most definitions have, is told by the mark behind it, and read at once.
 #[cycle(grammar)]
 pub fn expression(alloc: Global, reader: &mut Reader<'_>, fuel: usize) -> Result<Part, Stop>
     ensures { Gives part (rules.expression height_limit fuel (left reader.old)) result (left reader.new) }
 {
     if fuel == 0 {
         return Err(Stop::Grammar);
+    }
+    if let Some(literal) = reader.lone_literal(alloc)? {
+        return Ok(literal_part(literal));
     }
     conditionals(alloc, reader, fuel - 1)
 }

@@ -2,6 +2,7 @@
 ghost use Rattle.std.specs.Prelude.{◌≡◌, option_map};
 ghost use Rattle.ad_parser.specs.Parts.{as_infix};
 ghost use Rattle.ad_parser.specs.Shapes.{infix_of, looseness, prefix_of};
+ghost use Rattle.ad_parser.specs.Words.{ends};
 
 use crate::joining::Joint;
 use crate::mark::Mark;
@@ -44,5 +45,19 @@ pub fn prefix_of(mark: Mark) -> Option<UnOp>
         Mark::Not => Some(UnOp::Not),
         Mark::Complement => Some(UnOp::Complement),
         _ => None,
+    }
+}
+
+/// Whether the mark is one behind an expression, with which no expression goes on.
+pub fn ends(mark: Option<Mark>) -> bool
+    ensures { result ≡ ends mark }
+{
+    match mark {
+        Some(Mark::Semicolon) => true,
+        Some(Mark::Comma) => true,
+        Some(Mark::CloseBracket) => true,
+        Some(Mark::CloseBrace) => true,
+        Some(Mark::CloseParen) => true,
+        _ => false,
     }
 }

@@ -4,11 +4,11 @@ ghost use Rattle.ad_parser.specs.Meaning.{AreSpelled};
 
 use crate::joining::Joint;
 use crate::mark::Mark;
-use crate::operators::{joint_of, prefix_of};
+use crate::operators::{ends, joint_of, prefix_of};
 use crate::stop::Stop;
 use crate::word::{Word, unmarked_word};
 use ad_lexer::Tokens;
-use pool_text::{OutOfMemory, Text, UnOp};
+use pool_text::{Lit, OutOfMemory, Text, UnOp};
 use std::alloc::Global;
 
 /// The words of a text from a place on. A token is made a word when it is taken; which tokens are marks is known before,
@@ -30,8 +30,9 @@ impl<'a> Reader<'a> {
     ghost use Rattle.ad_parser.specs.Meaning.{meaning};
     ghost use Rattle.ad_parser.specs.Parts.{as_infix};
     ghost use Rattle.ad_parser.specs.Rules.{name_at, infix_at};
-    ghost use Rattle.ad_parser.specs.Steps.{left, prefix_at, Takes, Gives, Finds, Continues};
-    ghost use Rattle.ad_parser.specs.Words.{Word as MeantWord, front, front_mark, mark as mark_word, mark_in, words};
+    ghost use Rattle.ad_parser.specs.Steps.{left, prefix_at, IsLone, Takes, Gives, Finds, Continues};
+    ghost use Rattle.ad_parser.specs.Words.{Word as MeantWord, front, front_mark, mark as mark_word, mark_in, words, ends_at};
+    ghost use Rattle.pool_text.specs.declared.language.Lit.{Lit as MeantLit};
     ghost use Rattle.ad_parser.specs.declared.stop.Stop.{Stop};
 
     /// The place in front of the first word.
@@ -76,6 +77,34 @@ impl<'a> Reader<'a> {
         match self.marks[self.at] {
             Some(mark) => Ok(Some(Word::Mark(mark))),
             None => Ok(Some(unmarked_word(alloc, self.tokens.at(self.at))?)),
+        }
+    }
+
+    /// Takes a literal that stands next with a mark behind it that no expression goes on with.
+    pub fn lone_literal(&mut self, alloc: Global) -> Result<Option<Lit>, OutOfMemory>
+        ensures some { (lit : MeantLit) → result ≡ Ok (Some lit) → IsLone lit (left self.old) (left self.new) }
+        ensures none { result ≡ Ok None → left self.new ≡ left self.old }
+    {
+        if !self.ends_behind_next() {
+            return Ok(None);
+        }
+        match self.next(alloc)? {
+            Some(Word::Constant(literal)) => {
+                self.skip();
+                Ok(Some(literal))
+            }
+            _ => Ok(None),
+        }
+    }
+
+    fn ends_behind_next(&self) -> bool
+        ensures { result ≡ ends_at (drop 1 (left self.now)) }
+    {
+        let place = self.at + 1;
+        if place < self.marks.len() {
+            ends(self.marks[place])
+        } else {
+            false
         }
     }
 

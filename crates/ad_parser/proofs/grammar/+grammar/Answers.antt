@@ -1,4 +1,4 @@
-use Rattle.std.proofs.Common.{refl, arith, ◌≡◌, ◌-◌, suc, true, false, ◌∷◌, length, subst, map, Option, Some, Err, ap, sym, ◌∙◌}
+use Rattle.std.proofs.Common.{refl, arith, ◌≡◌, ◌-◌, suc, true, false, ◌∷◌, length, subst, map, Option, Some, Ok, Err, ap, sym, ◌∙◌}
 use Rattle.ad_tree.specs.Inline.{Inline, Inlines, Defs, end, no_defs}
 use Rattle.ad_parser.specs.declared.mark.Mark.TheVariants.{OpenParen}
 use Rattle.ad_parser.specs.Chains.{held}
@@ -9,15 +9,25 @@ use Rattle.ad_parser.specs.Rules as rules
 use Rattle.ad_parser.specs.Rules.{Reading}
 use Rattle.ad_parser.specs.Steps.{left, ContinuesOk}
 use Rattle.ad_parser.specs.Words.{mark as mark_word}
-use Rattle.ad_parser.proofs.RuleLemmas.{less, gives-ok, regives, stops-here, stops-by, arguments-broken, elements-broken, group-broken, conditionals-init, conditionals-end, conditionals-broken, conditionals-unclosed, conditionals-more, operations-broken, operations-more, several-end, several-more, definitions-broken, definitions-end, definitions-more, suffixes-end, suffixes-selection, suffixes-broken, suffixes-subscript}
+use Rattle.ad_parser.proofs.RuleLemmas.{less, lone-literal, gives-ok, regives, stops-here, stops-by, arguments-broken, elements-broken, group-broken, conditionals-init, conditionals-end, conditionals-broken, conditionals-unclosed, conditionals-more, operations-broken, operations-more, several-end, several-more, definitions-broken, definitions-end, definitions-more, suffixes-end, suffixes-selection, suffixes-broken, suffixes-subscript}
 use Rattle.ad_parser.proofs.LevelLemmas.{level-climbed, level-none, climb-end, climb-broken, climb-more}
 use Rattle.ad_parser.proofs.grammar.+grammar.Goals as goal
+
+pub expression-returns-in-Some : goal.expression-returns-in-Some
+expression-returns-in-Some t c =
+    let ws = left c.args.reader.now in
+    let behind = left c.lone_literal.new.self in
+    gives-ok part c.literal_part.result (rules.expression height_limit c.args.fuel ws) behind
+    (lone-literal c.args.fuel c.in-Some.literal ws behind (omega (arith, c.if-fuel-eq0.false)) (c.in_ok-literal.ensures.some c.in-Some.literal (ap Ok c.in-Some.is))
+    ∙ ap (λ x. Some (x, behind)) (sym c.literal_part.ensures))
 
 pub expression-returns : goal.expression-returns
 expression-returns t c =
     let ws = left c.args.reader.now in
-    regives part (rules.expression height_limit c.args.fuel ws) (rules.conditionals height_limit (rules.expression height_limit (c.args.fuel - 1)) (suc (length ws)) ws) c.conditionals.result (left c.conditionals.new.reader)
-    (ap (λ n. rules.expression height_limit n ws) (less c.args.fuel (omega (arith, c.if-fuel-eq0.false)))) c.conditionals.ensures
+    let e = rules.expression height_limit (c.args.fuel - 1) in
+    let kept = c.in_ok-literal.ensures.none (ap Ok c.in_default.is) in
+    regives part (rules.expression height_limit c.args.fuel ws) (rules.conditionals height_limit e (suc (length (left c.lone_literal.new.self))) (left c.lone_literal.new.self)) c.conditionals.result (left c.conditionals.new.reader)
+    (ap (λ n. rules.expression height_limit n ws) (less c.args.fuel (omega (arith, c.if-fuel-eq0.false))) ∙ ap (λ us. rules.conditionals height_limit e (suc (length us)) us) (sym kept)) c.conditionals.ensures
 
 pub arguments-returns-in_err-expect : goal.arguments-returns-in_err-expect
 arguments-returns-in_err-expect t c =

@@ -49,6 +49,14 @@ impl AdFrame {
         }
     }
 
+    /// Makes room for so many more names.
+    pub fn reserve(&mut self, more: usize) -> Result<(), OutOfMemory>
+        ensures { frame_of self.new ≡ frame_of self.old }
+    {
+        self.attributes.reserve_exact(more)?;
+        Ok(())
+    }
+
     /// Defines a name: it keeps its first place, and takes this spelling and this expression.
     pub fn define(&mut self, alloc: Global, name: Text, expr: Expr) -> Result<(), OutOfMemory>
         ensures ok { OnOk result (frame_of self.new ≡ defined_in (frame_of self.old) name (tree expr)) }

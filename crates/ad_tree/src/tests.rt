@@ -239,6 +239,26 @@ fn long_names_are_found(rt: HostRuntime) -> Result<(), Fail> {
 }
 
 #[test]
+fn frames_with_room_take_definitions(rt: HostRuntime) -> Result<(), Fail> {
+    let mut draft = Draft::new(rt.alloc());
+    let frame = draft.frame(0)?;
+    draft.define(0, Text::from_bytes(rt.alloc(), b"a")?, Expr::Frame(frame))?;
+    draft.reserve(frame, 2)?;
+    for n in 0..3 {
+        assert!(rt; (frame as usize) < draft.count());
+        let name = Text::from_bytes(rt.alloc(), &[b'a', n])?;
+        draft.define(frame, name, expression(Integer(i64::from(n))))?;
+    }
+    let found = [
+        row(1, 0, &[b'a', 0], Integer(0)),
+        row(1, 1, &[b'a', 1], Integer(1)),
+        row(1, 2, &[b'a', 2], Integer(2)),
+    ];
+    assert_ad(&rt, &draft.finish()?, &[(None, 1), (Some(0), 3)], &found);
+    Ok(())
+}
+
+#[test]
 fn ports_stand_in_their_order(rt: HostRuntime) -> Result<(), Fail> {
     let mut ports = Ports::new(rt.alloc());
     for frame in [2, 1] {

@@ -1,13 +1,17 @@
 -- How far a text was divided, and what the next step makes of that.
-use Rattle.std.proofs.Common.{◌≡◌, ℕ, ◌+◌, List, [], ◌∷◌, ◌++◌, length, take, drop, IsUtf8, Result, Ok, Err, refl, sym, ◌∙◌, ap, subst, inl, inr, arith, length-append}
-use Rattle.std.proofs.lemmas.List.{take_at, drop_at, append-nil}
-use Rattle.std.specs.List.{flat_map}
+use Rattle.std.proofs.Common.{◌≡◌, ℕ, ◌+◌, ◌-◌, ◌≤◌, true, List, [], ◌∷◌, ◌++◌, length, take, drop, IsUtf8, Result, Ok, Err, refl, sym, ◌∙◌, ap, subst, inl, inr, arith, length-append, append_assoc}
+use Rattle.std.proofs.lemmas.Bool.{le-leb}
+use Rattle.std.proofs.lemmas.List.{take_at, drop_at, append-nil, map-append}
+use Rattle.std.proofs.lemmas.List.Folds.{list_all-append}
+use Rattle.std.specs.List.{flat_map, slice_range}
 use Rattle.ad_lexer.specs.declared.fault.LexFault.{LexFault}
 use Rattle.ad_lexer.specs.declared.fault.LexFault.TheVariants as faults
 use Rattle.ad_lexer.specs.declared.fault.LexKind.{LexKind}
 use Rattle.ad_lexer.specs.declared.next.Step.TheVariants as steps
+use Rattle.ad_lexer.specs.declared.token.Span.{Span}
 use Rattle.ad_lexer.specs.declared.token.TokenKind.{TokenKind}
 use Rattle.ad_lexer.specs.Lexeme.{Lexeme}
+use Rattle.ad_lexer.specs.Spans.{lexeme_of, lexemes_of, is_within, are_within}
 use Rattle.ad_lexer.specs.Tokens.{Item, blank, token, bytes_of, IsItem, Divides, lexemes, Tokens, Fault, Answers, IsOrMemory}
 use Rattle.ad_lexer.specs.Reading.{next}
 use Rattle.ad_lexer.proofs.ItemLemmas.{token_found}
@@ -94,6 +98,38 @@ reached_token text rest list at kind n reached reads =
           ap (λ (l : List Lexeme). l ++ lexeme_at kind at (at + n) (take n rest) ∷ []) reached.list_is ∙ ap (λ (x : Lexeme). lexemes 0 reached.items ++ x ∷ []) same ∙ sym (lexemes_push 0 reached.items item);
       at_is = omega (arith, reached.at_is, here.length_is, len_push reached.items item);
     }
+
+-- ---- what is pushed for a token
+
+divides_joined : (items : List Item) (text rest : List ℕ) → Divides text items rest → text ≡ flat_map bytes_of items ++ rest
+divides_joined [] text rest divides = divides
+divides_joined (item ∷ items) text rest divides =
+    divides.1 ∙ ap (λ (l : List ℕ). bytes_of item ++ l) (divides_joined items divides.0 rest divides.3) ∙ sym (append_assoc (bytes_of item) (flat_map bytes_of items) rest)
+
+-- the front of the rest is a slice of the text
+reached_slice : (text rest : List ℕ) (list : List Lexeme) (at n : ℕ) → Reached text rest list at → slice_range text at (at + n) ≡ take n rest
+reached_slice text rest list at n reached =
+    let gone : drop at text ≡ rest =
+    ap (λ (l : List ℕ). drop at l) (divides_joined reached.items text rest reached.divides) ∙ drop_at (flat_map bytes_of reached.items) rest at (sym reached.at_is) in
+    let len : at + n - at ≡ n = omega arith in
+    ap (λ (l : List ℕ). take (at + n - at) l) gone ∙ ap (λ (k : ℕ). take k rest) len
+
+abbrev pub span_at : TokenKind → ℕ → ℕ → Span
+span_at kind start end = record { kind = kind; start = start; end = end }
+
+pub reached_span : (text rest : List ℕ) (spans : List Span) (at : ℕ) (kind : TokenKind) (n : ℕ) → Reached text rest (lexemes_of text spans) at → steps.Token kind n ≡ next rest
+    → Reached text (drop n rest) (lexemes_of text (spans ++ span_at kind at (at + n) ∷ [])) (at + n)
+reached_span text rest spans at kind n reached reads =
+    let slice : take n rest ≡ slice_range text at (at + n) = sym (reached_slice text rest (lexemes_of text spans) at n reached) in
+    let pushed : lexemes_of text spans ++ lexeme_at kind at (at + n) (take n rest) ∷ [] ≡ lexemes_of text (spans ++ span_at kind at (at + n) ∷ []) =
+    ap (λ (l : List ℕ). lexemes_of text spans ++ lexeme_at kind at (at + n) l ∷ []) slice ∙ sym (map-append (lexeme_of text) spans (span_at kind at (at + n) ∷ [])) in
+    subst (λ (list : List Lexeme). Reached text (drop n rest) list (at + n)) pushed (reached_token text rest (lexemes_of text spans) at kind n reached reads)
+
+pub within_push : (len : ℕ) (spans : List Span) (kind : TokenKind) (start end : ℕ) → are_within len spans ≡ true → start ≤ end → end ≤ len → are_within len (spans ++ span_at kind start end ∷ []) ≡ true
+within_push len spans kind start end before ordered within =
+    rw (list_all-append (is_within len) spans (span_at kind start end ∷ []), before, le-leb start end ordered, le-leb end len within) refl
+
+-- ---- the ends
 
 pub reached_end : (text rest : List ℕ) (list : List Lexeme) (at : ℕ) → IsUtf8 text → Reached text rest list at → steps.End ≡ next rest → Tokens text list
 reached_end text rest list at utf8 reached reads =

@@ -7,6 +7,7 @@ pub mod Numbers
 pub mod Quoted
 pub mod Reading
 pub mod Slices
+pub mod Spans
 pub mod Spelling
 pub mod Symbols
 pub mod Texts

@@ -12,11 +12,34 @@ pub enum Class {
     Line,
 }
 
+/// Whether each byte is a letter, a digit or `_`. One look is quicker than three tests.
+const WORD_BYTES: [bool; 256] = [
+    false, false, false, false, false, false, false, false, false, false, false, false, false,
+    false, false, false, false, false, false, false, false, false, false, false, false, false,
+    false, false, false, false, false, false, false, false, false, false, false, false, false,
+    false, false, false, false, false, false, false, false, false, true, true, true, true, true,
+    true, true, true, true, true, false, false, false, false, false, false, false, true, true,
+    true, true, true, true, true, true, true, true, true, true, true, true, true, true, true, true,
+    true, true, true, true, true, true, true, true, false, false, false, false, true, false, true,
+    true, true, true, true, true, true, true, true, true, true, true, true, true, true, true, true,
+    true, true, true, true, true, true, true, true, true, false, false, false, false, false, false,
+    false, false, false, false, false, false, false, false, false, false, false, false, false,
+    false, false, false, false, false, false, false, false, false, false, false, false, false,
+    false, false, false, false, false, false, false, false, false, false, false, false, false,
+    false, false, false, false, false, false, false, false, false, false, false, false, false,
+    false, false, false, false, false, false, false, false, false, false, false, false, false,
+    false, false, false, false, false, false, false, false, false, false, false, false, false,
+    false, false, false, false, false, false, false, false, false, false, false, false, false,
+    false, false, false, false, false, false, false, false, false, false, false, false, false,
+    false, false, false, false, false, false, false, false, false, false, false, false, false,
+    false, false, false, false, false, false, false, false, false, false,
+];
+
 pub fn is_in(class: Class, byte: u8) -> bool
     ensures { result ≡ is_in class byte }
 {
     match class {
-        Class::Word => byte.is_ascii_alphanumeric() || byte == b'_',
+        Class::Word => WORD_BYTES[byte as usize],
         Class::Decimal => byte.is_ascii_digit(),
         Class::Hexadecimal => byte.is_ascii_hexdigit(),
         Class::Line => byte != b'\n',

@@ -45,3 +45,19 @@ impl From<OutOfMemory> for LexFault {
         LexFault::OutOfMemory
     }
 }
+
+impl From<AllocError> for LexFault {
+    ghost from_gives = { λ _ fault. fault ≡ faults.OutOfMemory };
+
+    fn from(_: AllocError) -> Self {
+        LexFault::OutOfMemory
+    }
+}
+
+impl<T: Drop> From<AllocFailed<T>> for LexFault {
+    ghost from_gives = { λ _ fault. fault ≡ faults.OutOfMemory };
+
+    fn from(_: AllocFailed<T>) -> Self {
+        LexFault::OutOfMemory
+    }
+}

@@ -4,10 +4,10 @@ ghost use Rattle.ad_lexer.specs.declared.fault.LexKind.{LexKind};
 ghost use Rattle.ad_lexer.specs.Lexeme.{Lexeme};
 ghost use Rattle.ad_lexer.specs.Tokens as spec;
 
-use crate::bytes::{behind, front};
+use crate::bytes::behind;
 use crate::fault::{LexFault, LexKind};
 use crate::next::{Step, next};
-use crate::token::{Token, Tokens};
+use crate::token::{Span, Tokens};
 use std::alloc::Global;
 
 /// How many bytes an ordinary token takes with the blanks around it.
@@ -36,24 +36,24 @@ fn divide(alloc: Global, text: &[u8]) -> Result<Tokens<'_>, LexFault>
     requires room { length text.now < 2 ^ 32 }
     ensures { spec.Answers text.now result }
 {
-    let mut tokens = Tokens::with_room(alloc, text.len() / BYTES_A_TOKEN)?;
+    let mut spans = Vec::with_capacity(alloc, text.len() / BYTES_A_TOKEN)?;
     let mut at = 0;
     let mut rest = text;
     loop {
         match next(rest) {
-            Step::End => return Ok(tokens),
+            Step::End => return Ok(Tokens::of(text, spans)),
             Step::Blank(len) => {
                 at += len;
                 rest = behind(rest, len);
             }
             Step::Token(kind, len) => {
-                tokens.push(Token {
+                let end = at + len;
+                spans.push(Span {
                     kind,
                     start: at as u32,
-                    end: (at + len) as u32,
-                    text: front(rest, len),
+                    end: end as u32,
                 })?;
-                at += len;
+                at = end;
                 rest = behind(rest, len);
             }
             Step::Fault(kind, place) => return Err(fault_at(kind, at + place)),

@@ -1,6 +1,4 @@
 // Tokens and lists of them.
-use pool_text::OutOfMemory;
-use std::alloc::Global;
 use std::marker::Model;
 
 /// What a token is: a plain name, a reserved word, a name in single quotes, a string in double quotes, an integer or a
@@ -25,64 +23,64 @@ pub struct Token<'a> {
     pub text: &'a [u8],
 }
 
-/// A list of tokens.
+/// A token without its bytes, which the source holds.
+#[derive(Clone, Copy, Debug)]
+pub(crate) struct Span {
+    pub kind: TokenKind,
+    pub start: u32,
+    pub end: u32,
+}
+
+/// The tokens of a source text, in order.
 #[derive(Debug, Drop)]
 pub struct Tokens<'a> {
-    items: Vec<Token<'a>>,
+    source: &'a [u8],
+    spans: Vec<Span>,
 }
 
 impl<'a> Model for Tokens<'a> {
-    ghost use Rattle.std.specs.Prelude.{List, map};
-    ghost use Rattle.ad_lexer.specs.Lexeme.{Lexeme, lexeme};
+    ghost use Rattle.std.specs.Prelude.{◌≡◌, List, length, true};
+    ghost use Rattle.ad_lexer.specs.Lexeme.{Lexeme};
+    ghost use Rattle.ad_lexer.specs.Spans.{are_within, lexemes_of};
 
     ghost Value = { List Lexeme };
 
-    ghost view = { λ t. map lexeme t.items.items };
+    ghost view = { λ t. lexemes_of t.source.now t.spans.items };
+
+    ghost invariant = { λ t. are_within (length t.source.now) t.spans.items ≡ true };
 }
 
 impl<'a> Tokens<'a> {
-    ghost use Rattle.std.specs.Prelude.{◌≡◌, ◌++◌, ◌∷◌, ◌<◌, [], length, slice_get, Some, IfOk, OnOk, OnErr};
+    ghost use Rattle.std.specs.Prelude.{◌≡◌, ◌<◌, length, slice_get, Some, true};
     ghost use Rattle.ad_lexer.specs.Lexeme.{lexeme};
+    ghost use Rattle.ad_lexer.specs.Spans.{are_within, lexemes_of};
 
-    /// The empty list, which takes no memory yet.
-    pub fn new(alloc: Global) -> Tokens<'a>
-        ensures { result ≡ [] }
+    // The tokens that stand in the source at these spans.
+    pub(crate) fn of(source: &'a [u8], spans: Vec<Span>) -> Tokens<'a>
+        requires { are_within (length source.now) spans.items ≡ true }
+        ensures { result ≡ lexemes_of source.now spans.items }
     {
-        Tokens {
-            items: Vec::new(alloc),
-        }
-    }
-
-    // The empty list, with memory for so many tokens.
-    pub(crate) fn with_room(alloc: Global, room: usize) -> Result<Tokens<'a>, OutOfMemory>
-        ensures { IfOk result (λ tokens. tokens ≡ []) }
-    {
-        Ok(Tokens {
-            items: Vec::with_capacity(alloc, room)?,
-        })
-    }
-
-    /// Adds a token at the end.
-    pub fn push(&mut self, item: Token<'a>) -> Result<(), OutOfMemory>
-        ensures ok { OnOk result (self.new ≡ self.old ++ lexeme item.entry ∷ []) }
-        ensures err { OnErr result (self.new ≡ self.old) }
-    {
-        self.items.push(item)?;
-        Ok(())
+        Tokens { source, spans }
     }
 
     /// How many tokens there are.
     pub fn len(&self) -> usize
         ensures { result ≡ length self.now }
     {
-        self.items.len()
+        self.spans.len()
     }
 
     /// The token at place `i`, counted from 0.
-    pub fn at(&self, i: usize) -> &Token<'a>
+    pub fn at(&self, i: usize) -> Token<'a>
         requires { i < length self.now }
-        ensures { slice_get self.now i ≡ Some (lexeme result.now) }
+        ensures { slice_get self.now i ≡ Some (lexeme result) }
     {
-        &self.items[i]
+        let span = self.spans[i];
+        Token {
+            kind: span.kind,
+            start: span.start,
+            end: span.end,
+            text: &self.source[span.start as usize..span.end as usize],
+        }
     }
 }

@@ -52,6 +52,19 @@ impl Draft {
         Ok(self.inner.len() as u32)
     }
 
+    /// Makes room in a frame for so many more definitions, so that those that are there needn't move for them. Want of
+    /// memory leaves the draft as it was.
+    pub fn reserve(&mut self, frame: u32, more: usize) -> Result<(), OutOfMemory>
+        requires { frame < length (draft_frames self.old) }
+        ensures { draft_frames self.new ≡ draft_frames self.old }
+    {
+        if frame == 0 {
+            self.root.reserve(more)
+        } else {
+            self.inner[frame as usize - 1].reserve(more)
+        }
+    }
+
     /// Defines a name in a frame. A name that the frame has already, in any spelling, keeps its place, and takes this
     /// spelling and this expression. Want of memory leaves the draft as it was.
     pub fn define(&mut self, frame: u32, name: Text, expr: Expr) -> Result<(), OutOfMemory>

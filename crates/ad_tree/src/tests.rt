@@ -227,14 +227,34 @@ fn expressions_are_kept(rt: HostRuntime) -> Result<(), Fail> {
 #[test]
 fn long_names_are_found(rt: HostRuntime) -> Result<(), Fail> {
     let definitions = [
-        row(0, 0, &[b'x'; 64], Integer(1)),
-        row(0, 1, &[b'x'; 65], Integer(2)),
+        row(0, 0, &[b'x'; 32], Integer(1)),
+        row(0, 1, &[b'x'; 33], Integer(2)),
     ];
     let ad = draft_of(&rt, rt.alloc(), &[], &definitions)?.finish()?;
     assert_ad(&rt, &ad, &[(None, 2)], &definitions);
     assert!(rt; ad.frames() > 0);
-    assert_eq!(rt; ad.position(0, &[b'X'; 65]), Some(1));
-    assert_eq!(rt; ad.position(0, &[b'X'; 66]), None);
+    assert_eq!(rt; ad.position(0, &[b'X'; 33]), Some(1));
+    assert_eq!(rt; ad.position(0, &[b'X'; 34]), None);
+    Ok(())
+}
+
+#[test]
+fn frames_with_room_take_definitions(rt: HostRuntime) -> Result<(), Fail> {
+    let mut draft = Draft::new(rt.alloc());
+    let frame = draft.frame(0)?;
+    draft.define(0, Text::from_bytes(rt.alloc(), b"a")?, Expr::Frame(frame))?;
+    draft.reserve(frame, 2)?;
+    for n in 0..3 {
+        assert!(rt; (frame as usize) < draft.count());
+        let name = Text::from_bytes(rt.alloc(), &[b'a', n])?;
+        draft.define(frame, name, expression(Integer(i64::from(n))))?;
+    }
+    let found = [
+        row(1, 0, &[b'a', 0], Integer(0)),
+        row(1, 1, &[b'a', 1], Integer(1)),
+        row(1, 2, &[b'a', 2], Integer(2)),
+    ];
+    assert_ad(&rt, &draft.finish()?, &[(None, 1), (Some(0), 3)], &found);
     Ok(())
 }
 

@@ -1,9 +1,10 @@
-use Rattle.std.proofs.Common.{◌≡◌, ◌+◌, length}
+use Rattle.std.proofs.Common.{◌≡◌, ◌+◌, length, true}
+use Rattle.ad_lexer.specs.Spans.{lexemes_of, are_within}
 use Rattle.ad_lexer.proofs.Reached.{Reached}
 use Rattle.ad_lexer.proofs.lexer.divide.Given as goal
 
-abbrev pub invariant-loop-tokens : goal.invariant-loop-tokens
-invariant-loop-tokens l = Reached l.text l.rest l.tokens l.at × (l.at + length l.rest ≡ length l.text)
+abbrev pub invariant-loop-spans : goal.invariant-loop-spans
+invariant-loop-spans l = Reached l.text l.rest (lexemes_of l.text l.spans.items) l.at × (l.at + length l.rest ≡ length l.text) × (are_within (length l.text) l.spans.items ≡ true)
 
-abbrev pub decreases-loop-tokens : goal.decreases-loop-tokens
-decreases-loop-tokens l = length l.rest
+abbrev pub decreases-loop-spans : goal.decreases-loop-spans
+decreases-loop-spans l = length l.rest

@@ -183,6 +183,7 @@ fn define_all(
     ensures { OnOk result (Completes frame (pack_definitions (definitions_of list))
         (draft_frames draft.old) (draft_frames draft.new)) }
 {
+    draft.reserve(frame, list.len())?;
     for definition in list.items {
         let Definition { name, node } = definition;
         let expr = convert(alloc, draft, frame, node)?;

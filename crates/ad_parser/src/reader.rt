@@ -76,7 +76,7 @@ impl<'a> Reader<'a> {
         }
         match self.marks[self.at] {
             Some(mark) => Ok(Some(Word::Mark(mark))),
-            None => Ok(Some(unmarked_word(alloc, self.tokens.at(self.at))?)),
+            None => Ok(Some(unmarked_word(alloc, &self.tokens.at(self.at))?)),
         }
     }
 

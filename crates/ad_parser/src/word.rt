@@ -61,7 +61,7 @@ pub fn read_marks(alloc: Global, tokens: &Tokens<'_>) -> Result<Vec<Option<Mark>
 {
     let mut marks = Vec::with_capacity(alloc, tokens.len())?;
     for i in 0..tokens.len() {
-        marks.push(mark_of_token(tokens.at(i)))?;
+        marks.push(mark_of_token(&tokens.at(i)))?;
     }
     Ok(marks)
 }

@@ -68,4 +68,4 @@ define_all-returns t c =
     c.loop-definition.yielded c.loop-definition.definition-iterator c.loop-definition.yielded_by c.next.result c.next.new.self c.in-None.is c.next.ensures.steps in
     subst (λ ds. Completes c.args.frame (pack_definitions ds) (draft_frames c.args.draft.now) (draft_frames c.loop-definition.draft))
     (ap (map named) (sym (map-id c.loop-definition.yielded) ∙ end.0) ∙ sym (definitions-items c.args.list))
-    c.loop-definition.invariant
+    (subst (λ fs. Completes c.args.frame (pack_definitions (map named c.loop-definition.yielded)) fs (draft_frames c.loop-definition.draft)) c.reserve.ensures c.loop-definition.invariant)

@@ -8,4 +8,4 @@ pub loop-i-preserved : goal.loop-i-preserved
 loop-i-preserved c =
     c.in_ok-push.ensures.items ∙ ap (λ ms. ms ++ c.mark_of_token.result ∷ []) c.loop-i.invariant
     ∙ ap (λ m. map mark_in (words (take c.loop-i.i c.args.tokens.now)) ++ m ∷ []) c.mark_of_token.ensures
-    ∙ sym (marks-next c.args.tokens.now c.loop-i.i (lexeme c.at.result.now) c.at.ensures)
+    ∙ sym (marks-next c.args.tokens.now c.loop-i.i (lexeme c.at.result) c.at.ensures)

@@ -11,7 +11,7 @@ returns-then-self-len c =
 
 pub unmarked_word-requires : goal.unmarked_word-requires
 unmarked_word-requires c = let x = c.index.ensures in let y = c.in-None.is in
-    ∥∥₁_map c.args.self.now.spelled (λ are. spelled-at c.args.self.now.tokens c.args.self.now.at (lexeme c.at.result.now) c.at.ensures are)
+    ∥∥₁_map c.args.self.now.spelled (λ are. spelled-at c.args.self.now.tokens c.args.self.now.at (lexeme c.at.result) c.at.ensures are)
 
 pub returns-in-Some : goal.returns-in-Some
 returns-in-Some c =
@@ -20,4 +20,4 @@ returns-in-Some c =
 pub returns-in_ok-unmarked_word-in-None : goal.returns-in_ok-unmarked_word-in-None
 returns-in_ok-unmarked_word-in-None c =
     ap Some c.in_ok-unmarked_word-in-None.ensures
-    ∙ sym (unmarked-front c.args.self.now.marks.items c.args.self.now.tokens c.args.self.now.at c.index.result.now (lexeme c.at.result.now) (omega (arith, c.if-self-len.false, c.len.ensures)) (sym c.index.ensures ∙ c.in-None.is) c.at.ensures)
+    ∙ sym (unmarked-front c.args.self.now.marks.items c.args.self.now.tokens c.args.self.now.at c.index.result.now (lexeme c.at.result) (omega (arith, c.if-self-len.false, c.len.ensures)) (sym c.index.ensures ∙ c.in-None.is) c.at.ensures)

@@ -1,13 +1,13 @@
 -- A frame's entries and its attributes: what the map does under the folded names is done under the names.
-use Rattle.std.proofs.Common.{refl, arith, ◌≡◌, ◌≤◌, ◌<◌, ℕ, zero, suc, ◌+◌, List, [], ◌∷◌, ◌++◌, length, map, take, drop, get_or, Bool, true, false, not, cond, ap, sym, ◌∙◌, None, Some, position, nat_lt, nat_eq, slice_get, slice_set, Result, Ok, Err, OnOk, OnErr, IsTrue, inl, inr, ◌⊎◌}
+use Rattle.std.proofs.Common.{refl, arith, ◌≡◌, ◌≤◌, ◌<◌, ℕ, zero, suc, ◌+◌, List, [], ◌∷◌, ◌++◌, length, map, take, drop, get_or, Bool, true, false, not, cond, ap, sym, ◌∙◌, None, Some, position, nat_lt, nat_eq, slice_get, slice_set, Vec, Result, Ok, Err, OnOk, OnErr, IsTrue, inl, inr, ◌⊎◌}
 use Rattle.std.specs.Cmp.Lexicographic.{pointwise}
 use Rattle.std.specs.List.{prefix_len}
 use Rattle.std.specs.Char.{to_ascii_lowercase}
 use Rattle.std.specs.Map.{keys_of}
+use Rattle.std.specs.declared.alloc.Global.{Global}
 use Rattle.std.proofs.lemmas.Bool.Decides.{Decides-eqb}
 use Rattle.std.proofs.lemmas.Slice.Eq.{slice_eq-Decides}
 use Rattle.indexmap.specs.IndexMap.{insert_entry}
-use Rattle.smallvec.specs.SmallVec.{SmallVec}
 use Rattle.pool_text.specs.Folding.{folded}
 use Rattle.ad_tree.specs.declared.frame.Attribute.{Attribute}
 use Rattle.ad_tree.specs.declared.frame.AdFrame.{AdFrame}
@@ -18,10 +18,10 @@ use Rattle.ad_tree.specs.Entries.{attribute_of, attributes_of, keys_fold_names}
 use Rattle.ad_tree.specs.Table.{frames_of}
 
 abbrev Entry : Type 0
-Entry = SmallVec ℕ × Attribute
+Entry = Vec ℕ Global × Attribute
 
 -- keys are equal by their bytes
-abbrev same_key : SmallVec ℕ → SmallVec ℕ → Bool
+abbrev same_key : Vec ℕ Global → Vec ℕ Global → Bool
 same_key a b = pointwise nat_eq a.items b.items
 
 -- equations of heads and of tails
@@ -31,7 +31,7 @@ heads h = cc
 tails : {A : Type 0} {x y : A} {xs ys : List A} → x ∷ xs ≡ y ∷ ys → xs ≡ ys
 tails h = cc
 
-module _ (key : SmallVec ℕ) (a : Attribute) (folds : key.items ≡ folded a.name) where
+module _ (key : Vec ℕ Global) (a : Attribute) (folds : key.items ≡ folded a.name) where
   same_key-entry : (e : Entry) → e.0.items ≡ folded e.1.name → same_key key e.0 ≡ same_name a.name e.1.name
   same_key-entry e h = ap (λ k. pointwise nat_eq k e.0.items) folds ∙ ap (pointwise nat_eq (folded a.name)) h
 

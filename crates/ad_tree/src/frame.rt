@@ -9,11 +9,10 @@ ghost use Rattle.ad_tree.specs.Entries.{attributes_of, keys_fold_names};
 use crate::Expr;
 use indexmap::IndexMap;
 use pool_text::{OutOfMemory, Text, same_folded};
-use smallvec::SmallVec;
 use std::alloc::Global;
 
-/// Folded names of up to so many bytes take no memory of their own.
-const KEY_ROOM: usize = 32;
+/// The longest name that is folded without memory.
+const SHORT_NAME: usize = 64;
 
 #[derive(Debug, Drop)]
 pub struct Attribute {
@@ -32,7 +31,7 @@ impl Attribute {
 #[derive(Debug, Drop)]
 pub struct AdFrame {
     pub parent: u32,
-    pub attributes: IndexMap<SmallVec<u8, KEY_ROOM>, Attribute>,
+    pub attributes: IndexMap<Vec<u8>, Attribute>,
     ghost keyed: { keys_fold_names attributes.entries },
     ghost apart: { IsTrue (are_apart (names_of (attributes_of attributes.entries))) },
     ghost few: { length attributes.entries < 2 ^ 32 },
@@ -88,7 +87,7 @@ impl AdFrame {
     pub fn position(&self, name: &[u8]) -> Option<u32>
         ensures { result ≡ position (same_name name.now) (names_of (frame_of self.now).attributes) }
     {
-        let place = if name.len() <= KEY_ROOM {
+        let place = if name.len() <= SHORT_NAME {
             self.look_up(name)
         } else {
             self.scan(name)
@@ -98,11 +97,15 @@ impl AdFrame {
 
     // Takes no memory.
     fn look_up(&self, name: &[u8]) -> Option<usize>
-        requires { length name.now ≤ KEY_ROOM }
+        requires { length name.now ≤ SHORT_NAME }
         ensures { result ≡ position (same_name name.now) (names_of (frame_of self.now).attributes) }
     {
-        let key = short_key(*self.attributes.allocator(), name);
-        self.attributes.get_index_of(&key)
+        let mut buffer = [0u8; SHORT_NAME];
+        let key = &mut buffer[..name.len()];
+        key.copy_from_slice(name);
+        fold_in_place(key);
+        let key: &[u8] = key;
+        self.attributes.get_index_of(key)
     }
 
     fn scan(&self, name: &[u8]) -> Option<usize>
@@ -128,24 +131,10 @@ fn fold_in_place(bytes: &mut [u8])
     }
 }
 
-fn folded_key(alloc: Global, name: &[u8]) -> Result<SmallVec<u8, KEY_ROOM>, OutOfMemory>
+fn folded_key(alloc: Global, name: &[u8]) -> Result<Vec<u8>, OutOfMemory>
     ensures { IfOk result (λ key. key.items ≡ folded name.now) }
 {
-    if name.len() <= KEY_ROOM {
-        return Ok(short_key(alloc, name));
-    }
-    let mut key = SmallVec::from_slice(alloc, name)?;
-    fold_in_place(key.as_mut_slice());
+    let mut key = Vec::from_slice(alloc, name)?;
+    fold_in_place(&mut key);
     Ok(key)
-}
-
-// The whole buffer is folded, since a loop of known length takes fewer instructions.
-fn short_key(alloc: Global, name: &[u8]) -> SmallVec<u8, KEY_ROOM>
-    requires { length name.now ≤ KEY_ROOM }
-    ensures { result.items ≡ folded name.now }
-{
-    let mut buffer = [0; KEY_ROOM];
-    buffer[..name.len()].copy_from_slice(name);
-    fold_in_place(&mut buffer);
-    SmallVec::from_buf_and_len(alloc, buffer, name.len())
 }

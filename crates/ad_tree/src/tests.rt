@@ -227,14 +227,14 @@ fn expressions_are_kept(rt: HostRuntime) -> Result<(), Fail> {
 #[test]
 fn long_names_are_found(rt: HostRuntime) -> Result<(), Fail> {
     let definitions = [
-        row(0, 0, &[b'x'; 32], Integer(1)),
-        row(0, 1, &[b'x'; 33], Integer(2)),
+        row(0, 0, &[b'x'; 64], Integer(1)),
+        row(0, 1, &[b'x'; 65], Integer(2)),
     ];
     let ad = draft_of(&rt, rt.alloc(), &[], &definitions)?.finish()?;
     assert_ad(&rt, &ad, &[(None, 2)], &definitions);
     assert!(rt; ad.frames() > 0);
-    assert_eq!(rt; ad.position(0, &[b'X'; 33]), Some(1));
-    assert_eq!(rt; ad.position(0, &[b'X'; 34]), None);
+    assert_eq!(rt; ad.position(0, &[b'X'; 65]), Some(1));
+    assert_eq!(rt; ad.position(0, &[b'X'; 66]), None);
     Ok(())
 }
 

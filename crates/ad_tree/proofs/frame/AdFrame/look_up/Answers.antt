@@ -1,9 +1,10 @@
-use Rattle.std.proofs.Common.{◌∙◌}
+use Rattle.std.proofs.Common.{◌∙◌, ap}
+use Rattle.pool_text.specs.Folding.{folded}
 use Rattle.ad_tree.proofs.EntryLemmas.{position-keys}
 use Rattle.ad_tree.proofs.frame.AdFrame.look_up.Goals as goal
 
 pub returns : goal.returns
 returns c =
     c.get_index_of.ensures.index
-    ∙ position-keys c.short_key-key.result.items c.args.name.now c.short_key-key.ensures
+    ∙ position-keys c.fold_in_place.new.bytes c.args.name.now (c.fold_in_place.ensures ∙ ap folded c.copy_from_slice.ensures.after)
     c.args.self.now.attributes.entries c.args.self.now.keyed

@@ -45,6 +45,7 @@ pub fn read_operators(alloc: Global, reader: &mut Reader<'_>) -> Result<Vec<UnOp
 }
 
 /// The operators applied to their operand, the last of them first.
+#[inline(always)]
 pub fn apply(alloc: Global, operators: Vec<UnOp>, operand: Part) -> Result<Part, OutOfMemory>
     ensures { IfOk result (λ p. part p ≡ applied operators.items (part operand)) }
 {
@@ -57,6 +58,7 @@ pub fn apply(alloc: Global, operators: Vec<UnOp>, operand: Part) -> Result<Part,
 }
 
 /// The conditionals with their last expression.
+#[inline(always)]
 pub fn choose(alloc: Global, choices: Vec<Choice>, last: Part) -> Result<Part, OutOfMemory>
     ensures { IfOk result (λ p. part p ≡ chosen (map held choices.items) (part last)) }
 {

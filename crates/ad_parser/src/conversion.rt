@@ -35,6 +35,7 @@ pub fn convert_phrase(alloc: Global, node: Node) -> Result<Phrase, OutOfMemory>
 
 /// The expression of a tree that stands in the frame `parent`. Its ad literals are added to the draft.
 #[cycle(converting)]
+#[inline(always)]
 fn convert(alloc: Global, draft: &mut Draft, parent: u32, node: Node) -> Result<Expr, OutOfMemory>
     requires { parent < length (draft_frames draft.old) }
     ensures { IfOk result (λ expr. IsPlaced parent (inline node) (tree expr) (draft_frames draft.old) (draft_frames draft.new)) }

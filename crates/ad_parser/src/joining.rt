@@ -30,6 +30,7 @@ pub enum Joint {
 }
 
 /// The tree, where it isn't too high.
+#[inline(always)]
 pub fn cut(node: Node, height: u32) -> Part
     requires { node_height node ≡ height }
     ensures { part result ≡ cut height_limit (inline node) }
@@ -54,6 +55,7 @@ pub fn nothing() -> Part
     }
 }
 
+#[inline(always)]
 fn leaf(node: Node) -> Part
     requires { node_height node ≡ 1 }
     ensures { part result ≡ Some (inline node) }
@@ -65,6 +67,7 @@ fn leaf(node: Node) -> Part
 }
 
 /// A literal.
+#[inline(always)]
 pub fn literal_part(literal: Lit) -> Part
     ensures { part result ≡ Some (shapes.leaf (labels.literal literal)) }
 {
@@ -72,6 +75,7 @@ pub fn literal_part(literal: Lit) -> Part
 }
 
 /// A name in a scope.
+#[inline(always)]
 pub fn name_part(scope: Scope, name: Text) -> Part
     ensures { part result ≡ Some (shapes.leaf (labels.name scope name)) }
 {
@@ -256,6 +260,7 @@ pub fn no_definitions(alloc: Global) -> DefinitionParts
 }
 
 /// One definition more.
+#[inline(always)]
 pub fn add_definition(
     list: DefinitionParts,
     name: Text,

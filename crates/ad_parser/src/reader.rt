@@ -81,6 +81,7 @@ impl<'a> Reader<'a> {
     }
 
     /// Takes a literal that stands next with a mark behind it that no expression goes on with.
+    #[inline(always)]
     pub fn lone_literal(&mut self, alloc: Global) -> Result<Option<Lit>, OutOfMemory>
         ensures some { (lit : MeantLit) → result ≡ Ok (Some lit) → IsLone lit (left self.old) (left self.new) }
         ensures none { result ≡ Ok None → left self.new ≡ left self.old }
@@ -97,6 +98,7 @@ impl<'a> Reader<'a> {
         }
     }
 
+    #[inline(always)]
     fn ends_behind_next(&self) -> bool
         ensures { result ≡ ends_at (drop 1 (left self.now)) }
     {
@@ -160,6 +162,7 @@ impl<'a> Reader<'a> {
     }
 
     /// Takes a name.
+    #[inline(always)]
     pub fn name(&mut self, alloc: Global) -> Result<Text, Stop>
         ensures { Gives (λ (t : List ℕ). t) (name_at (left self.old)) result (left self.new) }
     {

@@ -67,6 +67,7 @@ impl Draft {
 
     /// Defines a name in a frame. A name that the frame has already, in any spelling, keeps its place, and takes this
     /// spelling and this expression. Want of memory leaves the draft as it was.
+    #[inline(always)]
     pub fn define(&mut self, frame: u32, name: Text, expr: Expr) -> Result<(), OutOfMemory>
         requires { frame < length (draft_frames self.old) }
         ensures ok { OnOk result (draft_frames self.new ≡ defined (draft_frames self.old) frame name (tree expr)) }

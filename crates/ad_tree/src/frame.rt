@@ -58,6 +58,7 @@ impl AdFrame {
     }
 
     /// Defines a name: it keeps its first place, and takes this spelling and this expression.
+    #[inline(always)]
     pub fn define(&mut self, alloc: Global, name: Text, expr: Expr) -> Result<(), OutOfMemory>
         ensures ok { OnOk result (frame_of self.new ≡ defined_in (frame_of self.old) name (tree expr)) }
         ensures err { OnErr result (frame_of self.new ≡ frame_of self.old) }

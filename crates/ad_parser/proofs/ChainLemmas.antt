@@ -1,10 +1,9 @@
 -- Chains that a loop reads from the front and builds from the end.
-use Rattle.std.proofs.Common.{refl, arith, ◌≡◌, ℕ, zero, suc, ◌-◌, List, [], ◌∷◌, ◌++◌, length, Option, None, Some, option_map, ap, sym, ◌∙◌}
+use Rattle.std.proofs.Common.{refl, arith, ◌≡◌, ℕ, suc, List, [], ◌∷◌, ◌++◌, length, Option, None, Some, option_map, ap, sym, ◌∙◌}
 use Rattle.pool_text.specs.declared.language.UnOp.{UnOp}
-use Rattle.ad_tree.specs.Inline.{Inline, Inlines, Defs, next, def}
+use Rattle.ad_tree.specs.Inline.{Inline, Inlines, Defs}
 use Rattle.ad_tree.specs.Tree.{unary, choice}
 use Rattle.ad_parser.specs.Limits.{height_limit}
-use Rattle.ad_parser.specs.Nodes.{before, defined_before}
 use Rattle.ad_parser.specs.Parts.{cut_last, cut_last_def, cut_before, cut_defined_before}
 use Rattle.ad_parser.specs.Rules.{Rule, Reading, and_then, prefixed_or, prefix_word, prefixes, postfix, cut_one, cut_three, cut_next, cut_def}
 use Rattle.ad_parser.specs.Shapes.{over_one, over_three}

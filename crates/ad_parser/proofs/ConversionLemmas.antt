@@ -1,28 +1,33 @@
 -- The steps of the conversion of trees into a draft.
 use Rattle.std.proofs.Common.{refl, arith, ◌≡◌, ◌<◌, ℕ, List, [], ◌∷◌, ◌++◌, length, map, ap, sym, ◌∙◌, subst, append_assoc, Result, Ok, Err, IfOk}
 use Rattle.std.proofs.lemmas.List.{append-nil, map-append}
-use Rattle.ad_tree.specs.Tree.{Tree, Trees, frame, tree, trees, pack as pack_trees}
+use Rattle.pool_text.specs.declared.language.Lit.{Lit}
+use Rattle.ad_tree.specs.declared.tree.Expr.TheVariants as exprs
+use Rattle.ad_tree.specs.Tree.{Tree, Trees, node, frame, none, literal, tree, trees, pack as pack_trees}
 use Rattle.ad_tree.specs.Frames.{Frame, empty_frame, defined, settled_frame}
 use Rattle.ad_tree.specs.Inline.{Inline, Inlines, inner, Defs, no_defs, frames, spelled, spelled_tree, number, ad_of, phrase_of, phrase_tree}
 use Rattle.ad_tree.specs.Placed.{IsPlaced, AreAllPlaced, HasDefined}
 use Rattle.ad_tree.proofs.InlineLemmas.{next_last, def_last, pack-push}
 use Rattle.ad_tree.proofs.PlacedLemmas.{length-placed, length-all_placed, last-placed, new-defined, next-defined, defined-placed}
+use Rattle.ad_tree.proofs.TreeLemmas.{tree-Literal}
 use Rattle.ad_tree.proofs.SpellingLemmas.{ad_of-finished, phrase_of-finished}
 use Rattle.ad_parser.specs.Converted.{Completes}
 use Rattle.ad_parser.specs.declared.node.Node.{Node}
 use Rattle.ad_parser.specs.declared.node.Node.TheVariants as nodes
 use Rattle.ad_parser.specs.declared.node.Definition.{Definition}
+use Rattle.ad_parser.specs.declared.node.Definition.TheVariants as held
 use Rattle.ad_parser.specs.declared.whole.Whole.{Whole}
 use Rattle.ad_parser.specs.declared.whole.Wholes.{Wholes}
-use Rattle.ad_parser.specs.Nodes.{inline, pack, pack_definitions}
+use Rattle.ad_parser.specs.Nodes.{inline, named, pack, pack_definitions}
+use Rattle.ad_parser.specs.Shapes.{leaf}
 use Rattle.ad_parser.specs.Wholes.{wholes}
-use Rattle.ad_parser.proofs.ListLemmas.{named, pack-last, pack_definitions-last}
+use Rattle.ad_parser.proofs.ListLemmas.{pack-last, pack_definitions-last}
 use Rattle.ad_parser.proofs.NodeLemmas.{inline-Whole}
 use Rattle.ad_parser.proofs.WholeLemmas.{whole-placed, wholes-placed}
 
 -- an expression without ad literals is placed as it is
-pub whole-converted : (p : ℕ) (n : Node) (w : Whole) (fs : List Frame) → n ≡ nodes.Whole w → IsPlaced p (inline n) (tree w.expr) fs fs
-whole-converted p n w fs e = subst (λ i. IsPlaced p i (tree w.expr) fs fs) (sym (ap inline e ∙ inline-Whole w)) (whole-placed p (tree w.expr) fs w.cites_none)
+pub whole-converted : (p : ℕ) (n : Node) (w : Whole) (fs : List Frame) → n ≡ nodes.Whole w → IsPlaced p (inline n) (tree w.expr.value) fs fs
+whole-converted p n w fs e = subst (λ i. IsPlaced p i (tree w.expr.value) fs fs) (sym (ap inline e ∙ inline-Whole w)) (whole-placed p (tree w.expr.value) fs w.cites_none)
 
 -- and so are those at the front of a list
 pub front-converted : (p : ℕ) (w : Wholes) (fs : List Frame) → AreAllPlaced p (pack (wholes w ++ [])) (pack_trees (trees w.list)) fs fs
@@ -58,14 +63,30 @@ next-completed {f} {ds} name {i} {t} {before} {between} {placed} {after} h k e s
   there = omega (arith, h.there, length-placed k, same);
 }
 
-pub definition-converted : {f : ℕ} (ds : List Definition) (d : Definition) (t : Tree) {before between placed after : List Frame}
-    → Completes f (pack_definitions (map named ds)) before between → IsPlaced f (inline d.node) t between placed
-    → after ≡ defined placed f d.name t → length after ≡ length placed
+definition-converted : {f : ℕ} (ds : List Definition) (d : Definition) (name : List ℕ) (i : Inline) (t : Tree) {before between placed after : List Frame}
+    → named d ≡ (name, i) → Completes f (pack_definitions (map named ds)) before between → IsPlaced f i t between placed
+    → after ≡ defined placed f name t → length after ≡ length placed
     → Completes f (pack_definitions (map named (ds ++ d ∷ []))) before after
-definition-converted {f} ds d t {before} {between} {placed} {after} h k e same =
+definition-converted {f} ds d name i t {before} {between} {placed} {after} seen h k e same =
     subst (λ es. Completes f es before after)
-    (sym (ap pack_definitions (map-append named ds (d ∷ [])) ∙ pack_definitions-last (map named ds) d.name (inline d.node)))
-    (next-completed d.name h k e same)
+    (sym (ap pack_definitions (map-append named ds (d ∷ []) ∙ ap (λ n. map named ds ++ n ∷ []) seen) ∙ pack_definitions-last (map named ds) name i))
+    (next-completed name h k e same)
+
+pub tree-converted : {f : ℕ} (ds : List Definition) (d : Definition) (name : List ℕ) (n : Node) (t : Tree) {before between placed after : List Frame}
+    → d ≡ held.Tree name n → Completes f (pack_definitions (map named ds)) before between → IsPlaced f (inline n) t between placed
+    → after ≡ defined placed f name t → length after ≡ length placed
+    → Completes f (pack_definitions (map named (ds ++ d ∷ []))) before after
+tree-converted ds d name n t is h k e same = definition-converted ds d name (inline n) t (ap named is) h k e same
+
+literal-placed : (f : ℕ) (lit : Lit) (fs : List Frame) → IsPlaced f (leaf (literal lit)) (node (literal lit) none) fs fs
+literal-placed f lit fs = whole-placed f (node (literal lit) none) fs refl
+
+pub literal-converted : {f : ℕ} (ds : List Definition) (d : Definition) (name : List ℕ) (lit : Lit) {before between after : List Frame}
+    → d ≡ held.Literal name lit → Completes f (pack_definitions (map named ds)) before between
+    → after ≡ defined between f name (tree (exprs.Literal lit)) → length after ≡ length between
+    → Completes f (pack_definitions (map named (ds ++ d ∷ []))) before after
+literal-converted {f} ds d name lit {before} {between} {after} is h e same =
+    definition-converted ds d name (leaf (literal lit)) (node (literal lit) none) (ap named is) h (literal-placed f lit between) (e ∙ ap (defined between f name) (tree-Literal lit)) same
 
 -- an ad literal with all its definitions is placed
 pub frame-converted : (parent n : ℕ) {ds : Defs} {before pushed after : List Frame}

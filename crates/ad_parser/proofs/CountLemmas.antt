@@ -30,10 +30,10 @@ definitions_in-push (e ∷ ds) d = omega (arith, definitions_in-push ds d)
 
 -- an expression without ad literals counts nothing
 pub whole-counts : (n : Node) (w : Whole) → n ≡ nodes.Whole w → count (inline n) ≡ 0
-whole-counts n w e = ap (λ m. count (inline m)) e ∙ ap count (inline-Whole w) ∙ plain-count (tree w.expr) w.cites_none
+whole-counts n w e = ap (λ m. count (inline m)) e ∙ ap count (inline-Whole w) ∙ plain-count (tree w.expr.value) w.cites_none
 
 pub whole-defines : (n : Node) (w : Whole) → n ≡ nodes.Whole w → trees.definitions (inline n) ≡ 0
-whole-defines n w e = ap (λ m. trees.definitions (inline m)) e ∙ ap trees.definitions (inline-Whole w) ∙ plain-definitions (tree w.expr) w.cites_none
+whole-defines n w e = ap (λ m. trees.definitions (inline m)) e ∙ ap trees.definitions (inline-Whole w) ∙ plain-definitions (tree w.expr.value) w.cites_none
 
 -- of a list only the trees behind the front count
 pub rest-counts : (l : Nodes) → count_all (pack (inlines l)) ≡ count_all (pack (map inline l.rest.items))

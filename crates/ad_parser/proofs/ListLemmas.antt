@@ -5,9 +5,11 @@ use Rattle.ad_tree.specs.Inline.{Inline, next, def, height, highest, highest_def
 use Rattle.ad_tree.proofs.InlineLemmas.{next_last, def_last}
 use Rattle.ad_parser.specs.declared.node.Node.{Node}
 use Rattle.ad_parser.specs.declared.node.Nodes.{Nodes, fold_out-Nodes}
-use Rattle.ad_parser.specs.declared.node.Definition.{Definition, fold_out-Definition}
+use Rattle.ad_parser.specs.declared.node.Definition.{Definition, fold-Definition}
+use Rattle.ad_parser.specs.declared.node.Definition.TheVariants as held
+use Rattle.ad_parser.specs.declared.node.Definition.TheFolds.{fold-roll-Definition}
 use Rattle.ad_parser.specs.declared.node.Definitions.{Definitions, out-Definitions, fold_out-Definitions}
-use Rattle.ad_parser.specs.Nodes.{inline, inlines, definitions, layer, open_layer, pack, pack_definitions}
+use Rattle.ad_parser.specs.Nodes.{inline, inlines, named, definitions, layer, open_layer, definition_layer, pack, pack_definitions}
 use Rattle.ad_parser.specs.Wholes.{wholes}
 
 -- equal functions map alike
@@ -17,16 +19,17 @@ map-same f g h (x ∷ xs) = ap (λ y. y ∷ map f xs) (h x) ∙ ap (λ ys. g x �
 
 -- lists are seen item by item
 pub inlines-items : (l : Nodes) → inlines l ≡ wholes l.front ++ map inline l.rest.items
-inlines-items l = fold_out-Nodes Inline Inline (List ℕ × Inline) (List (List ℕ × Inline)) (List Inline) layer open_layer (λ d. (d.name, d.node)) (λ l. l.items.items) (λ l. wholes l.front ++ l.rest.items) l
+inlines-items l = fold_out-Nodes (List ℕ × Inline) Inline Inline (List (List ℕ × Inline)) (List Inline) definition_layer layer open_layer (λ l. l.items.items) (λ l. wholes l.front ++ l.rest.items) l
 
--- a definition as contracts see it
-abbrev pub named : Definition → List ℕ × Inline
-named d = (d.name, inline d.node)
+-- a definition is seen by its parts
+definition-item : (d : Definition) → fold-Definition (List ℕ × Inline) Inline Inline (List (List ℕ × Inline)) (List Inline) definition_layer layer open_layer (λ l. l.items.items) (λ l. wholes l.front ++ l.rest.items) d ≡ named d
+definition-item (held.Literal text lit) = ap (fold-Definition (List ℕ × Inline) Inline Inline (List (List ℕ × Inline)) (List Inline) definition_layer layer open_layer (λ l. l.items.items) (λ l. wholes l.front ++ l.rest.items)) (sym (held.rolls-Literal text lit)) ∙ fold-roll-Definition (List ℕ × Inline) Inline Inline (List (List ℕ × Inline)) (List Inline) definition_layer layer open_layer (λ l. l.items.items) (λ l. wholes l.front ++ l.rest.items) _
+definition-item (held.Tree text node) = ap (fold-Definition (List ℕ × Inline) Inline Inline (List (List ℕ × Inline)) (List Inline) definition_layer layer open_layer (λ l. l.items.items) (λ l. wholes l.front ++ l.rest.items)) (sym (held.rolls-Tree text node)) ∙ fold-roll-Definition (List ℕ × Inline) Inline Inline (List (List ℕ × Inline)) (List Inline) definition_layer layer open_layer (λ l. l.items.items) (λ l. wholes l.front ++ l.rest.items) _
 
 pub definitions-items : (l : Definitions) → definitions l ≡ map named (out-Definitions l).items.items
 definitions-items l =
-    fold_out-Definitions Inline Inline (List ℕ × Inline) (List (List ℕ × Inline)) (List Inline) layer open_layer (λ d. (d.name, d.node)) (λ l. l.items.items) (λ l. wholes l.front ++ l.rest.items) l
-    ∙ map-same _ named (λ d. fold_out-Definition Inline Inline (List ℕ × Inline) (List (List ℕ × Inline)) (List Inline) layer open_layer (λ d. (d.name, d.node)) (λ l. l.items.items) (λ l. wholes l.front ++ l.rest.items) d) (out-Definitions l).items.items
+    fold_out-Definitions (List ℕ × Inline) Inline Inline (List (List ℕ × Inline)) (List Inline) definition_layer layer open_layer (λ l. l.items.items) (λ l. wholes l.front ++ l.rest.items) l
+    ∙ map-same _ named definition-item (out-Definitions l).items.items
 
 -- one item more from the front
 pub take-next : {A : Type 0} (xs : List A) (j : ℕ) (x : A) → slice_get xs j ≡ Some x → take (j + 1) xs ≡ take j xs ++ x ∷ []
@@ -70,11 +73,11 @@ pub height-taken : (l : Nodes) (j : ℕ) (n : Node) → j < length l.rest.items 
 height-taken l j n within e = subst (λ is. height (inline n) ≤ highest (pack is)) (sym (inlines-items l))
     (omega (arith, height-item l.rest.items j n within e, height-behind (wholes l.front) (map inline l.rest.items)))
 
-height-defined : (ds : List Definition) (j : ℕ) (d : Definition) → j < length ds → d ≡ get_or ds j d → height (inline d.node) ≤ highest_def (pack_definitions (map named ds))
+height-defined : (ds : List Definition) (j : ℕ) (d : Definition) → j < length ds → d ≡ get_or ds j d → height (named d).1 ≤ highest_def (pack_definitions (map named ds))
 height-defined [] j d within e = absurd (omega arith)
-height-defined (c ∷ cs) zero d within e = omega (arith, ap (λ x. height (inline x.node)) e)
+height-defined (c ∷ cs) zero d within e = omega (arith, ap (λ x. height (named x).1) e)
 height-defined (c ∷ cs) (suc j) d within e = omega (arith, height-defined cs j d (omega arith) e)
 
 pub height-defined_taken : (l : Definitions) (j : ℕ) (d : Definition) → j < length (out-Definitions l).items.items → d ≡ get_or (out-Definitions l).items.items j d
-    → height (inline d.node) ≤ highest_def (pack_definitions (definitions l))
-height-defined_taken l j d within e = subst (λ ds. height (inline d.node) ≤ highest_def (pack_definitions ds)) (sym (definitions-items l)) (height-defined (out-Definitions l).items.items j d within e)
+    → height (named d).1 ≤ highest_def (pack_definitions (definitions l))
+height-defined_taken l j d within e = subst (λ ds. height (named d).1 ≤ highest_def (pack_definitions ds)) (sym (definitions-items l)) (height-defined (out-Definitions l).items.items j d within e)

@@ -1,5 +1,5 @@
 -- Steps of the loop that counts open constructs.
-use Rattle.std.proofs.Common.{arith, refl, ◌≡◌, ℕ, zero, suc, ◌+◌, ◌<◌, ◌≤◌, ◌||◌, true, false, nat_lt, List, [], ◌∷◌, map, drop, length, get_or, Option, None, ap, sym, ◌∙◌, add-one}
+use Rattle.std.proofs.Common.{arith, ◌≡◌, ℕ, zero, suc, ◌+◌, ◌<◌, ◌≤◌, ◌||◌, true, false, nat_lt, List, [], ◌∷◌, map, drop, length, get_or, Option, None, ap, sym, ◌∙◌, add-one}
 use Rattle.std.proofs.lemmas.Bool.Decides.{nat_tests}
 use Rattle.ad_parser.specs.declared.mark.Mark.{Mark}
 use Rattle.ad_parser.specs.Limits.{nests_deeper, opening, closing}

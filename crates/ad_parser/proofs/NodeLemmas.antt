@@ -14,7 +14,7 @@ use Rattle.ad_parser.specs.declared.node.Open.TheVariants as opens
 use Rattle.ad_parser.specs.declared.node.Nodes.{Nodes}
 use Rattle.ad_parser.specs.declared.node.Definitions.{Definitions}
 use Rattle.ad_parser.specs.declared.whole.Whole.{Whole}
-use Rattle.ad_parser.specs.Nodes.{inline, opened, inlines, definitions, layer, open_layer, before, pack, defined_before, pack_definitions}
+use Rattle.ad_parser.specs.Nodes.{inline, opened, inlines, definitions, definition_layer, layer, open_layer, before, pack, defined_before, pack_definitions}
 use Rattle.ad_parser.specs.Limits.{height_limit}
 use Rattle.ad_parser.specs.Parts.{extends, joined_height}
 use Rattle.ad_parser.specs.Rules.{cut_one, cut_two, cut_three}
@@ -74,40 +74,40 @@ height-joined (operator op) x y = omega arith
 -- ---- the spelled tree of each kind of node ----
 
 pub inline-Whole : (w : Whole) → inline (nodes.Whole w) ≡ whole w
-inline-Whole w = ap inline (sym (nodes.rolls-Whole w)) ∙ fold-roll-Node Inline Inline (List ℕ × Inline) (List (List ℕ × Inline)) (List Inline) layer open_layer (λ d. (d.name, d.node)) (λ l. l.items.items) (λ l. wholes l.front ++ l.rest.items) _
+inline-Whole w = ap inline (sym (nodes.rolls-Whole w)) ∙ fold-roll-Node (List ℕ × Inline) Inline Inline (List (List ℕ × Inline)) (List Inline) definition_layer layer open_layer (λ l. l.items.items) (λ l. wholes l.front ++ l.rest.items) _
 
 pub inline-Open : (tree : Box Open Global) → inline (nodes.Open tree) ≡ opened tree.value
-inline-Open tree = ap inline (sym (nodes.rolls-Open tree)) ∙ fold-roll-Node Inline Inline (List ℕ × Inline) (List (List ℕ × Inline)) (List Inline) layer open_layer (λ d. (d.name, d.node)) (λ l. l.items.items) (λ l. wholes l.front ++ l.rest.items) _
+inline-Open tree = ap inline (sym (nodes.rolls-Open tree)) ∙ fold-roll-Node (List ℕ × Inline) Inline Inline (List (List ℕ × Inline)) (List Inline) definition_layer layer open_layer (λ l. l.items.items) (λ l. wholes l.front ++ l.rest.items) _
 
 pub opened-Unary : (op : UnOp) (a : Node) → opened (opens.Unary op a) ≡ over_one (unary op) (inline a)
-opened-Unary op a = ap opened (sym (opens.rolls-Unary op a)) ∙ fold-roll-Open Inline Inline (List ℕ × Inline) (List (List ℕ × Inline)) (List Inline) layer open_layer (λ d. (d.name, d.node)) (λ l. l.items.items) (λ l. wholes l.front ++ l.rest.items) _
+opened-Unary op a = ap opened (sym (opens.rolls-Unary op a)) ∙ fold-roll-Open (List ℕ × Inline) Inline Inline (List (List ℕ × Inline)) (List Inline) definition_layer layer open_layer (λ l. l.items.items) (λ l. wholes l.front ++ l.rest.items) _
 
 pub opened-Binary : (op : BinOp) (a b : Node) → opened (opens.Binary op a b) ≡ over_two (binary op) (inline a) (inline b)
-opened-Binary op a b = ap opened (sym (opens.rolls-Binary op a b)) ∙ fold-roll-Open Inline Inline (List ℕ × Inline) (List (List ℕ × Inline)) (List Inline) layer open_layer (λ d. (d.name, d.node)) (λ l. l.items.items) (λ l. wholes l.front ++ l.rest.items) _
+opened-Binary op a b = ap opened (sym (opens.rolls-Binary op a b)) ∙ fold-roll-Open (List ℕ × Inline) Inline Inline (List (List ℕ × Inline)) (List Inline) definition_layer layer open_layer (λ l. l.items.items) (λ l. wholes l.front ++ l.rest.items) _
 
 pub opened-And : (items : Nodes) → opened (opens.And items) ≡ shape all (pack (inlines items))
-opened-And items = ap opened (sym (opens.rolls-And items)) ∙ fold-roll-Open Inline Inline (List ℕ × Inline) (List (List ℕ × Inline)) (List Inline) layer open_layer (λ d. (d.name, d.node)) (λ l. l.items.items) (λ l. wholes l.front ++ l.rest.items) _
+opened-And items = ap opened (sym (opens.rolls-And items)) ∙ fold-roll-Open (List ℕ × Inline) Inline Inline (List (List ℕ × Inline)) (List Inline) definition_layer layer open_layer (λ l. l.items.items) (λ l. wholes l.front ++ l.rest.items) _
 
 pub opened-Or : (items : Nodes) → opened (opens.Or items) ≡ shape any (pack (inlines items))
-opened-Or items = ap opened (sym (opens.rolls-Or items)) ∙ fold-roll-Open Inline Inline (List ℕ × Inline) (List (List ℕ × Inline)) (List Inline) layer open_layer (λ d. (d.name, d.node)) (λ l. l.items.items) (λ l. wholes l.front ++ l.rest.items) _
+opened-Or items = ap opened (sym (opens.rolls-Or items)) ∙ fold-roll-Open (List ℕ × Inline) Inline Inline (List (List ℕ × Inline)) (List Inline) definition_layer layer open_layer (λ l. l.items.items) (λ l. wholes l.front ++ l.rest.items) _
 
 pub opened-Choice : (a b c : Node) → opened (opens.Choice a b c) ≡ over_three choice (inline a) (inline b) (inline c)
-opened-Choice a b c = ap opened (sym (opens.rolls-Choice a b c)) ∙ fold-roll-Open Inline Inline (List ℕ × Inline) (List (List ℕ × Inline)) (List Inline) layer open_layer (λ d. (d.name, d.node)) (λ l. l.items.items) (λ l. wholes l.front ++ l.rest.items) _
+opened-Choice a b c = ap opened (sym (opens.rolls-Choice a b c)) ∙ fold-roll-Open (List ℕ × Inline) Inline Inline (List (List ℕ × Inline)) (List Inline) definition_layer layer open_layer (λ l. l.items.items) (λ l. wholes l.front ++ l.rest.items) _
 
 pub opened-Select : (a : Node) (text : List ℕ) → opened (opens.Select a text) ≡ over_one (select text) (inline a)
-opened-Select a text = ap opened (sym (opens.rolls-Select a text)) ∙ fold-roll-Open Inline Inline (List ℕ × Inline) (List (List ℕ × Inline)) (List Inline) layer open_layer (λ d. (d.name, d.node)) (λ l. l.items.items) (λ l. wholes l.front ++ l.rest.items) _
+opened-Select a text = ap opened (sym (opens.rolls-Select a text)) ∙ fold-roll-Open (List ℕ × Inline) Inline Inline (List (List ℕ × Inline)) (List Inline) definition_layer layer open_layer (λ l. l.items.items) (λ l. wholes l.front ++ l.rest.items) _
 
 pub opened-Subscript : (a b : Node) → opened (opens.Subscript a b) ≡ over_two subscript (inline a) (inline b)
-opened-Subscript a b = ap opened (sym (opens.rolls-Subscript a b)) ∙ fold-roll-Open Inline Inline (List ℕ × Inline) (List (List ℕ × Inline)) (List Inline) layer open_layer (λ d. (d.name, d.node)) (λ l. l.items.items) (λ l. wholes l.front ++ l.rest.items) _
+opened-Subscript a b = ap opened (sym (opens.rolls-Subscript a b)) ∙ fold-roll-Open (List ℕ × Inline) Inline Inline (List (List ℕ × Inline)) (List Inline) definition_layer layer open_layer (λ l. l.items.items) (λ l. wholes l.front ++ l.rest.items) _
 
 pub opened-Call : (text : List ℕ) (items : Nodes) → opened (opens.Call text items) ≡ shape (call text) (pack (inlines items))
-opened-Call text items = ap opened (sym (opens.rolls-Call text items)) ∙ fold-roll-Open Inline Inline (List ℕ × Inline) (List (List ℕ × Inline)) (List Inline) layer open_layer (λ d. (d.name, d.node)) (λ l. l.items.items) (λ l. wholes l.front ++ l.rest.items) _
+opened-Call text items = ap opened (sym (opens.rolls-Call text items)) ∙ fold-roll-Open (List ℕ × Inline) Inline Inline (List (List ℕ × Inline)) (List Inline) definition_layer layer open_layer (λ l. l.items.items) (λ l. wholes l.front ++ l.rest.items) _
 
 pub opened-List : (items : Nodes) → opened (opens.List items) ≡ shape list (pack (inlines items))
-opened-List items = ap opened (sym (opens.rolls-List items)) ∙ fold-roll-Open Inline Inline (List ℕ × Inline) (List (List ℕ × Inline)) (List Inline) layer open_layer (λ d. (d.name, d.node)) (λ l. l.items.items) (λ l. wholes l.front ++ l.rest.items) _
+opened-List items = ap opened (sym (opens.rolls-List items)) ∙ fold-roll-Open (List ℕ × Inline) Inline Inline (List (List ℕ × Inline)) (List Inline) definition_layer layer open_layer (λ l. l.items.items) (λ l. wholes l.front ++ l.rest.items) _
 
 pub opened-Ad : (items : Definitions) → opened (opens.Ad items) ≡ inner (pack_definitions (definitions items))
-opened-Ad items = ap opened (sym (opens.rolls-Ad items)) ∙ fold-roll-Open Inline Inline (List ℕ × Inline) (List (List ℕ × Inline)) (List Inline) layer open_layer (λ d. (d.name, d.node)) (λ l. l.items.items) (λ l. wholes l.front ++ l.rest.items) _
+opened-Ad items = ap opened (sym (opens.rolls-Ad items)) ∙ fold-roll-Open (List ℕ × Inline) Inline Inline (List (List ℕ × Inline)) (List Inline) definition_layer layer open_layer (λ l. l.items.items) (λ l. wholes l.front ++ l.rest.items) _
 
 -- ---- nothing is made of nothing ----
 

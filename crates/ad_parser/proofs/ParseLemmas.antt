@@ -1,22 +1,21 @@
 -- From what the rules read to what a parse answers.
-use Rattle.std.proofs.Common.{◌≡◌, ℕ, suc, ◌+◌, ◌<◌, ◌≤◌, min, Bool, true, false, nat_le, List, [], ◌∷◌, length, Option, None, Some, Result, Ok, Err, IsErr, IsErrAnd, refl, sym, subst, ap, ◌∙◌, arith}
+use Rattle.std.proofs.Common.{◌≡◌, ℕ, suc, ◌+◌, ◌<◌, ◌≤◌, min, List, [], ◌∷◌, length, Option, None, Some, Result, Ok, Err, IsErr, IsErrAnd, refl, sym, subst, ap, ◌∙◌, arith}
 use Rattle.ad_lexer.specs.Lexeme.{Lexeme}
 use Rattle.ad_lexer.specs.Slices.{AreTokensOf}
 use Rattle.ad_tree.specs.Inline.{Inline, Defs, inner, height, definitions}
 use Rattle.ad_parser.specs.declared.fault.ParseFault.{ParseFault}
 use Rattle.ad_parser.specs.declared.fault.ParseFault.TheVariants as faults
-use Rattle.ad_parser.specs.declared.mark.Mark.TheVariants.{OpenBracket}
 use Rattle.ad_parser.specs.declared.stop.Stop.{Stop}
 use Rattle.ad_parser.specs.declared.stop.Stop.TheVariants as stops
 use Rattle.ad_parser.specs.Answers.{IsRoot, Spells, IsWithin, IsFault, frames_of_expr, frames_of_ad}
 use Rattle.ad_parser.specs.Counts.{counting_limit}
 use Rattle.ad_parser.specs.Faults.{of_stop}
 use Rattle.ad_parser.specs.Grammar.{IsExpr, IsAd}
-use Rattle.ad_parser.specs.Limits.{height_limit, frame_limit, definition_limit}
+use Rattle.ad_parser.specs.Limits.{height_limit}
 use Rattle.ad_parser.specs.Meaning.{AreSpelled}
-use Rattle.ad_parser.specs.Rules.{cut, cut_ad, Reading, and_then, ad_behind, expression, whole, parsed_expr, parsed_ad}
+use Rattle.ad_parser.specs.Rules.{cut, expression, whole, parsed_expr, parsed_ad}
 use Rattle.ad_parser.specs.Taking.{IsShallow, IsEarlyFault, IsRead, IsCounted}
-use Rattle.ad_parser.specs.Words.{Word, mark}
+use Rattle.ad_parser.specs.Words.{Word}
 use Rattle.ad_parser.proofs.CutLemmas.{Cuts, fits, high, cuts}
 use Rattle.ad_parser.proofs.GrammarLaws.{parsed_expr-complete, parsed_expr-sound, parsed_ad-complete, parsed_ad-sound}
 

@@ -1,15 +1,15 @@
 -- Steps of the loop that reads the letters between quotes.
-use Rattle.std.proofs.Common.{refl, arith, ◌≡◌, ◌⊎◌, inl, inr, ℕ, zero, suc, ◌+◌, ◌<◌, true, false, eqb, List, [], ◌∷◌, ◌++◌, length, map, take, drop, slice_index, Bool, ◌||◌, ◌==◌, ◌-◌, ◌≤◌, Some, ap, subst, sym, ◌∙◌, length-append, append_assoc}
+use Rattle.std.proofs.Common.{refl, arith, ◌≡◌, inl, inr, ℕ, ◌<◌, true, false, eqb, List, [], ◌∷◌, ◌++◌, length, map, take, drop, slice_index, ◌==◌, ◌-◌, Some, ap, subst, sym, ◌∙◌, length-append, append_assoc}
 use Rattle.std.specs.List.{list_any}
 use Rattle.std.proofs.Math.Seq.{take-append_seam}
 use Rattle.std.proofs.lemmas.List.Folds.{list_any-append}
-use Rattle.std.proofs.lemmas.Bool.{and_parts, or_parts, not-true, eq-eqb}
+use Rattle.std.proofs.lemmas.Bool.{or_parts, not-true}
 use Rattle.std.proofs.lemmas.Bool.Decides.{nat_tests}
 use Rattle.std.proofs.lemmas.List.{drop_at, append-nil}
 use Rattle.ad_lexer.specs.Content.{meaning_at, letter_len, content}
-use Rattle.ad_lexer.specs.Quoted.{Letter, plain, escape, octal, spelling, spellings, meaning, is_plain, escaped, IsLetter, AreLetters, IsQuoted}
-use Rattle.ad_lexer.proofs.ContentLemmas.{letter_meaning, letter_length, letter_some, quoted_content}
-use Rattle.ad_lexer.proofs.LetterLemmas.{is_quote, spelling_some}
+use Rattle.ad_lexer.specs.Quoted.{Letter, plain, escape, octal, spelling, spellings, meaning, escaped, IsLetter, AreLetters, IsQuoted}
+use Rattle.ad_lexer.proofs.ContentLemmas.{letter_meaning, letter_length, quoted_content}
+use Rattle.ad_lexer.proofs.LetterLemmas.{is_quote}
 use Rattle.ad_lexer.proofs.QuotedLemmas.{letter_first}
 use Rattle.ad_parser.specs.Quotes.{IsQuotation}
 

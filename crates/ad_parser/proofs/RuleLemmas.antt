@@ -1,12 +1,12 @@
 -- Steps of the rules, each for the branch of the code that takes it.
-use Rattle.std.proofs.Common.{refl, arith, ◌≡◌, ℕ, zero, suc, ◌+◌, ◌-◌, ◌<◌, List, [], true, ◌∷◌, ◌++◌, length, map, Option, None, Some, Result, Ok, Err, ap, subst, sym, ◌∙◌}
+use Rattle.std.proofs.Common.{refl, arith, ◌≡◌, ℕ, suc, ◌+◌, ◌-◌, ◌<◌, List, [], true, ◌∷◌, ◌++◌, length, map, Option, None, Some, Result, Ok, Err, ap, sym, ◌∙◌}
 use Rattle.std.specs.Prelude.{IsErr, IsErrAnd}
 use Rattle.pool_text.specs.declared.language.Lit.{Lit}
 use Rattle.ad_tree.specs.Inline.{Inline, Inlines, Defs, end, no_defs}
 use Rattle.ad_tree.specs.Tree.{literal, select, subscript, choice}
 use Rattle.ad_parser.specs.declared.chains.Choice.{Choice}
 use Rattle.ad_parser.specs.declared.mark.Mark.{Mark}
-use Rattle.ad_parser.specs.declared.mark.Mark.TheVariants.{OpenParen, CloseParen, OpenBracket, CloseBracket, OpenBrace, CloseBrace, Comma, Semicolon, Dot, Assign, Question, Colon}
+use Rattle.ad_parser.specs.declared.mark.Mark.TheVariants.{CloseParen, OpenBracket, CloseBracket, CloseBrace, Comma, Semicolon, Dot, Assign, Question, Colon}
 use Rattle.ad_parser.specs.declared.stop.Stop.{Stop}
 use Rattle.ad_parser.specs.declared.stop.Stop.TheVariants as stops
 use Rattle.ad_parser.specs.Chains.{held}
@@ -14,7 +14,7 @@ use Rattle.ad_parser.specs.Limits.{height_limit}
 use Rattle.ad_parser.specs.Parts.{cut_last, cut_last_def, cut_before, cut_defined_before}
 use Rattle.ad_parser.specs.Rules.{Rule, Reading, and_then, name_at, close_paren, close_bracket, close_brace, several_behind, several, arguments, elements, assigned, definitions_behind, definitions_at, suffixes, infix_at, operation_or, operations, level_at, expression, colon, choice_behind, conditionals, cut_one, cut_two, cut_three, cut_next, cut_def}
 use Rattle.ad_parser.specs.Shapes.{leaf, over_one, over_two, over_three, Infix, joined}
-use Rattle.ad_parser.specs.Steps.{Gives, IsLone, chosen, choices, collected, collected_definitions}
+use Rattle.ad_parser.specs.Steps.{Gives, IsLone, valued, chosen, choices, collected, collected_definitions}
 use Rattle.ad_parser.specs.Words.{Word, plain, quoted, constant, mark, ends, ends_at}
 use Rattle.ad_parser.proofs.ChainLemmas.{choices-nil, choices-push, collected-push, cut_before-push, collected_definitions-push, cut_defined_before-push}
 
@@ -220,6 +220,16 @@ module _ (e : Rule) (w : Reading (Option Inlines)) (xs ys : Option (List Inline)
 
 -- ---- definitions ----
 
+-- the value of a definition that was added
+pub valued-read : (xs : Option (List (List ℕ × Inline))) (text : List ℕ) (r : Reading (Option Inline)) (ys : Option (List (List ℕ × Inline))) (rest : List Word)
+    → valued xs text r ≡ Some (ys, rest) → (x : Option Inline) × (r ≡ Some (x, rest)) × (ys ≡ cut_last_def xs text x)
+valued-read xs text None ys rest h = absurd (cc)
+valued-read xs text (Some read) ys rest h =
+    let found : Option (List (List ℕ × Inline)) × List Word = (cut_last_def xs text read.0, read.1) in
+    let wanted : Option (List (List ℕ × Inline)) × List Word = (ys, rest) in
+    let both : found ≡ wanted = cc in
+    (read.0, ap (λ p. Some (read.0, p.1)) both, sym (ap (λ p. p.0) both))
+
 module _ (e : Rule) (w : Reading (Option Defs)) (xs : Option (List (List ℕ × Inline))) (n : ℕ) (ws rest : List Word) (text : List ℕ) (inv : w ≡ collected_definitions xs (definitions_at e n ws)) (some : 0 < n) (read : name_at ws ≡ Some (text, rest)) where
   named_turn : definitions_at e n ws ≡ assigned (λ more. and_then (e more) (definitions_behind (definitions_at e (n - 1)) text)) rest
   named_turn =
@@ -233,6 +243,9 @@ module _ (e : Rule) (w : Reading (Option Defs)) (xs : Option (List (List ℕ × 
   value_turn more behind x stood value =
       named_turn ∙ ap (assigned (λ us. and_then (e us) (definitions_behind (definitions_at e (n - 1)) text))) stood
       ∙ ap (λ r. and_then r (definitions_behind (definitions_at e (n - 1)) text)) value
+
+  pub definitions-stopped : (more behind : List Word) (x : Option Inline) → rest ≡ mark Assign ∷ more → e more ≡ Some (x, behind) → definitions_behind (definitions_at e (n - 1)) text x behind ≡ None → w ≡ None
+  definitions-stopped more behind x stood value none = inv ∙ ap (collected_definitions xs) (value_turn more behind x stood value ∙ none)
 
   pub definitions-end : (more behind now : List Word) (x : Option Inline) (ys : Option (List (List ℕ × Inline))) → rest ≡ mark Assign ∷ more → e more ≡ Some (x, behind) → ys ≡ cut_last_def xs text x
       → definitions_behind (definitions_at e (n - 1)) text x behind ≡ Some (cut_def text x (Some no_defs), now) → w ≡ Some (cut_defined_before ys (Some no_defs), now)

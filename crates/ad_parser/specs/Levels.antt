@@ -1,5 +1,5 @@
 -- The levels of operators between operands, climbed from the tightest.
-use Rattle.std.specs.Prelude.{ℕ, zero, suc, List, length, Option, None, Some, option_map}
+use Rattle.std.specs.Prelude.{ℕ, zero, suc, List, length, Option, Some, option_map}
 use Rattle.std.specs.Option.{option_and_then}
 use Rattle.ad_tree.specs.Inline.{Inline}
 use Rattle.ad_parser.specs.Rules.{Rule, Reading, and_then, operations, level_at}

@@ -1,7 +1,7 @@
 -- What contracts see of the parts of a tree that a rule holds: a tree, or nothing in the place of one that is too high.
-use Rattle.std.specs.Prelude.{◌≡◌, ℕ, ◌≤◌, List, [], ◌∷◌, ◌++◌, Option, None, Some, option_map, ◌+◌, max, Bool, true, false, suc, if◌then◌else◌}
+use Rattle.std.specs.Prelude.{ℕ, List, [], ◌∷◌, ◌++◌, Option, option_map, max, Bool, true, false, suc, if◌then◌else◌}
 use Rattle.std.specs.Option.{option_and_then}
-use Rattle.ad_tree.specs.Inline.{Inline, Inlines, Defs, shape, height}
+use Rattle.ad_tree.specs.Inline.{Inline, Inlines, Defs, shape}
 use Rattle.ad_tree.specs.Tree.{all, any}
 use Rattle.ad_parser.specs.declared.part.Part.{Part}
 use Rattle.ad_parser.specs.declared.part.Parts.{Parts}

@@ -1,5 +1,5 @@
 -- What the code asks of a string or a quoted name before it reads its letters.
-use Rattle.std.specs.Prelude.{◌≡◌, ◌⊎◌, ℕ, List, slice_index}
+use Rattle.std.specs.Prelude.{◌⊎◌, ℕ, List}
 use Rattle.ad_lexer.specs.Quoted.{IsQuoted}
 
 -- the bytes are a string or a quoted name

@@ -1,5 +1,5 @@
 -- What contracts see of the parser's place in its words, and what its rules answer.
-use Rattle.std.specs.Prelude.{◌≡◌, ℕ, Bool, true, false, List, [], ◌∷◌, ◌++◌, drop, Option, None, Some, option_map, Result, Ok, Err}
+use Rattle.std.specs.Prelude.{◌≡◌, ℕ, Bool, true, false, List, [], ◌∷◌, drop, Option, None, Some, option_map, Result, Ok, Err}
 use Rattle.pool_text.specs.declared.language.Lit.{Lit}
 use Rattle.pool_text.specs.declared.language.UnOp.{UnOp}
 use Rattle.ad_tree.specs.Inline.{Inline, Inlines, Defs, no_defs}
@@ -11,7 +11,7 @@ use Rattle.ad_parser.specs.declared.reader.Reader.{Reader}
 use Rattle.ad_parser.specs.declared.stop.Stop.{Stop}
 use Rattle.ad_parser.specs.declared.stop.Stop.TheVariants as stops
 use Rattle.ad_parser.specs.Limits.{height_limit}
-use Rattle.ad_parser.specs.Parts.{cut_before, cut_defined_before}
+use Rattle.ad_parser.specs.Parts.{cut_last_def, cut_before, cut_defined_before}
 use Rattle.ad_parser.specs.Rules.{Reading, and_then, prefix_word, cut_one, cut_three, cut_def, named_in, definitions_behind}
 use Rattle.ad_parser.specs.Shapes.{leaf, over_one, over_three}
 use Rattle.ad_parser.specs.Words.{Word, constant, mark, known_words, ends_at, scope_of}
@@ -69,6 +69,10 @@ collected xs r = and_then r (λ ys rest. Some (cut_before xs ys, rest))
 
 abbrev pub collected_definitions : Option (List (List ℕ × Inline)) → Reading (Option Defs) → Reading (Option Defs)
 collected_definitions xs r = and_then r (λ ys rest. Some (cut_defined_before xs ys, rest))
+
+-- a definition more, of a value that is read
+abbrev pub valued : Option (List (List ℕ × Inline)) → List ℕ → Reading (Option Inline) → Reading (Option (List (List ℕ × Inline)))
+valued ds text r = and_then r (λ x rest. Some (cut_last_def ds text x, rest))
 
 -- a plain name or a name in a scope, where no call begins
 abbrev pub reference : List ℕ → List Word → Reading (Option Inline)

@@ -1,5 +1,5 @@
 -- What the steps of a parse answer.
-use Rattle.std.specs.Prelude.{◌≡◌, ℕ, suc, ◌≤◌, ◌<◌, true, false, List, Option, Some, None, option_map, Result, Ok, Err}
+use Rattle.std.specs.Prelude.{◌≡◌, ℕ, ◌≤◌, ◌<◌, true, false, List, Option, Some, None, option_map, Result, Ok, Err}
 use Rattle.ad_lexer.specs.Tokens.{Fault}
 use Rattle.ad_tree.specs.Inline.{Inline, inner}
 use Rattle.ad_parser.specs.declared.fault.ParseFault.{ParseFault}

@@ -11,7 +11,7 @@ plain t = inlined (λ f. no_defs) t
 
 -- the spelled tree of an expression
 abbrev pub whole : Whole → Inline
-whole w = plain (tree w.expr)
+whole w = plain (tree w.expr.value)
 
 -- the spelled trees of expressions
 abbrev pub wholes : Wholes → List Inline

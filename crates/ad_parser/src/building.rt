@@ -12,16 +12,16 @@ use ad_tree::{Expr, Scope};
 use pool_text::{BinOp, Lit, OutOfMemory, Text, UnOp};
 use std::alloc::Global;
 
-pub fn literal_node(literal: Lit) -> Node
-    ensures { inline result ≡ leaf (labels.literal literal) }
+pub fn literal_node(alloc: Global, literal: Lit) -> Result<Node, OutOfMemory>
+    ensures { IfOk result (λ node. inline node ≡ leaf (labels.literal literal)) }
 {
-    Node::Whole(Whole::literal(literal))
+    Ok(Node::Whole(Whole::literal(alloc, literal)?))
 }
 
-pub fn name_node(scope: Scope, name: Text) -> Node
-    ensures { inline result ≡ leaf (labels.name scope name) }
+pub fn name_node(alloc: Global, scope: Scope, name: Text) -> Result<Node, OutOfMemory>
+    ensures { IfOk result (λ node. inline node ≡ leaf (labels.name scope name)) }
 {
-    Node::Whole(Whole::name(scope, name))
+    Ok(Node::Whole(Whole::name(alloc, scope, name)?))
 }
 
 pub fn unary_node(alloc: Global, op: UnOp, operand: Node) -> Result<Node, OutOfMemory>
@@ -80,7 +80,7 @@ pub fn call_node(alloc: Global, name: Text, arguments: Nodes) -> Result<Node, Ou
     ensures { IfOk result (λ node. inline node ≡ shape (labels.call name) (pack (inlines arguments))) }
 {
     match arguments.whole() {
-        Ok(list) => Ok(Node::Whole(Whole::call(name, list))),
+        Ok(list) => Ok(Node::Whole(Whole::call(alloc, name, list)?)),
         Err(nodes) => open_node(alloc, Open::Call(name, nodes)),
     }
 }
@@ -89,7 +89,7 @@ pub fn list_node(alloc: Global, elements: Nodes) -> Result<Node, OutOfMemory>
     ensures { IfOk result (λ node. inline node ≡ shape labels.list (pack (inlines elements))) }
 {
     match elements.whole() {
-        Ok(list) => Ok(Node::Whole(Whole::list(list))),
+        Ok(list) => Ok(Node::Whole(Whole::list(alloc, list)?)),
         Err(nodes) => open_node(alloc, Open::List(nodes)),
     }
 }
@@ -107,7 +107,7 @@ pub fn conjunction_node(alloc: Global, left: Node, right: Node) -> Result<Node, 
     let mut operands = conjuncts(alloc, left)?;
     operands.push(right)?;
     match operands.whole() {
-        Ok(list) => Ok(Node::Whole(Whole::all(list))),
+        Ok(list) => Ok(Node::Whole(Whole::all(alloc, list)?)),
         Err(nodes) => open_node(alloc, Open::And(nodes)),
     }
 }
@@ -119,7 +119,7 @@ pub fn disjunction_node(alloc: Global, left: Node, right: Node) -> Result<Node, 
     let mut operands = disjuncts(alloc, left)?;
     operands.push(right)?;
     match operands.whole() {
-        Ok(list) => Ok(Node::Whole(Whole::any(list))),
+        Ok(list) => Ok(Node::Whole(Whole::any(alloc, list)?)),
         Err(nodes) => open_node(alloc, Open::Or(nodes)),
     }
 }
@@ -140,13 +140,22 @@ fn conjuncts(alloc: Global, node: Node) -> Result<Nodes, OutOfMemory>
     }
 }
 
+/// Only a chain is taken out of its box.
 fn whole_conjuncts(alloc: Global, item: Whole) -> Result<Nodes, OutOfMemory>
     ensures { IfOk result (λ nodes. (y : Inline) → shape labels.all (followed_by (pack (inlines nodes)) y) ≡ joined conjunction (whole item) y) }
 {
     let Whole { expr } = item;
-    match expr {
-        Expr::And(list) => Ok(Nodes::wholes(alloc, Wholes { list })),
-        expr => Nodes::one(alloc, Node::Whole(Whole { expr })),
+    match &*expr {
+        Expr::And(_) => match Box::into_inner(expr) {
+            Expr::And(list) => Ok(Nodes::wholes(alloc, Wholes { list })),
+            other => Nodes::one(
+                alloc,
+                Node::Whole(Whole {
+                    expr: Box::new(alloc, other)?,
+                }),
+            ),
+        },
+        _ => Nodes::one(alloc, Node::Whole(Whole { expr })),
     }
 }
 
@@ -176,9 +185,17 @@ fn whole_disjuncts(alloc: Global, item: Whole) -> Result<Nodes, OutOfMemory>
     ensures { IfOk result (λ nodes. (y : Inline) → shape labels.any (followed_by (pack (inlines nodes)) y) ≡ joined disjunction (whole item) y) }
 {
     let Whole { expr } = item;
-    match expr {
-        Expr::Or(list) => Ok(Nodes::wholes(alloc, Wholes { list })),
-        expr => Nodes::one(alloc, Node::Whole(Whole { expr })),
+    match &*expr {
+        Expr::Or(_) => match Box::into_inner(expr) {
+            Expr::Or(list) => Ok(Nodes::wholes(alloc, Wholes { list })),
+            other => Nodes::one(
+                alloc,
+                Node::Whole(Whole {
+                    expr: Box::new(alloc, other)?,
+                }),
+            ),
+        },
+        _ => Nodes::one(alloc, Node::Whole(Whole { expr })),
     }
 }
 

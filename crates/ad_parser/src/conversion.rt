@@ -41,7 +41,7 @@ fn convert(alloc: Global, draft: &mut Draft, parent: u32, node: Node) -> Result<
     ensures { IfOk result (λ expr. IsPlaced parent (inline node) (tree expr) (draft_frames draft.old) (draft_frames draft.new)) }
 {
     match node {
-        Node::Whole(item) => Ok(item.expr),
+        Node::Whole(item) => Ok(Box::into_inner(item.expr)),
         Node::Open(tree) => convert_open(alloc, draft, parent, Box::into_inner(tree)),
     }
 }
@@ -56,8 +56,13 @@ fn convert_boxed(
     requires { parent < length (draft_frames draft.old) }
     ensures { IfOk result (λ expr. IsPlaced parent (inline node) (tree expr.value) (draft_frames draft.old) (draft_frames draft.new)) }
 {
-    let expr = convert(alloc, draft, parent, node)?;
-    Ok(Box::new(alloc, expr)?)
+    match node {
+        Node::Whole(item) => Ok(item.expr),
+        Node::Open(tree) => {
+            let expr = convert_open(alloc, draft, parent, Box::into_inner(tree))?;
+            Ok(Box::new(alloc, expr)?)
+        }
+    }
 }
 
 #[cycle(converting)]
@@ -186,9 +191,15 @@ fn define_all(
 {
     draft.reserve(frame, list.len())?;
     for definition in list.items {
-        let Definition { name, node } = definition;
-        let expr = convert(alloc, draft, frame, node)?;
-        draft.define(frame, name, expr)?;
+        match definition {
+            Definition::Literal(name, literal) => {
+                draft.define(frame, name, Expr::Literal(literal))?;
+            }
+            Definition::Tree(name, node) => {
+                let expr = convert(alloc, draft, frame, node)?;
+                draft.define(frame, name, expr)?;
+            }
+        }
     }
     Ok(())
 }

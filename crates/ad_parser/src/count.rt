@@ -1,10 +1,10 @@
 // How many ad literals and definitions a tree spells.
 ghost use Rattle.std.specs.Prelude.{◌≡◌, ◌≤◌, ◌+◌, min};
 ghost use Rattle.ad_tree.specs.Inline as trees;
-ghost use Rattle.ad_parser.specs.Nodes.{inline, opened, inlines, definitions as definitions_of, pack, pack_definitions};
+ghost use Rattle.ad_parser.specs.Nodes.{inline, opened, inlines, named, definitions as definitions_of, pack, pack_definitions};
 ghost use Rattle.ad_parser.specs.Counts.{counting_limit};
 
-use crate::node::{Definitions, Node, Nodes, Open};
+use crate::node::{Definition, Definitions, Node, Nodes, Open};
 
 /// Counts are exact up to here, far above the limits of a parse, and stop there.
 const COUNTING_LIMIT: u32 = 4_096;
@@ -133,7 +133,19 @@ pub fn tally_definitions(list: &Definitions) -> Counts
 {
     let mut total = Counts::nothing();
     for i in 0..list.len() {
-        total = total.plus(tally(&list.at(i).node).and_definition());
+        total = total.plus(tally_value(list.at(i)).and_definition());
     }
     total
+}
+
+/// Both counts of what one definition defines.
+#[cycle(tallying)]
+fn tally_value(definition: &Definition) -> Counts
+    ensures frames { result.frames ≡ min counting_limit (trees.count (named definition.now).1) }
+    ensures definitions { result.definitions ≡ min counting_limit (trees.definitions (named definition.now).1) }
+{
+    match definition {
+        Definition::Literal(_, _) => Counts::nothing(),
+        Definition::Tree(_, node) => tally(node),
+    }
 }

@@ -1,19 +1,22 @@
 // The rules of the grammar, each a function that reads what stands at the front of the words that are left (ClassAd
 // Language Reference Manual 2.4, grammar). `fuel` bounds how many expressions stand within one another; the number of words
 // and one more is enough. Chains are read by loops, so that only brackets take stack.
-ghost use Rattle.std.specs.Prelude.{◌≡◌, ◌-◌, ◌≤◌, ◌∷◌, suc, length, Some};
+ghost use Rattle.std.specs.Prelude.{◌≡◌, ◌-◌, ◌≤◌, ◌∷◌, suc, length, None, Some, Ok};
+ghost use Rattle.pool_text.specs.declared.language.Lit.{Lit as MeantLit};
+ghost use Rattle.ad_tree.specs.Tree.{literal};
 ghost use Rattle.ad_tree.specs.Inline.{end, no_defs};
 ghost use Rattle.ad_parser.specs.Levels.{climb};
 ghost use Rattle.ad_parser.specs.Limits.{height_limit};
 ghost use Rattle.ad_parser.specs.Parts.{part, parts, definition_parts, cut_before, cut_defined_before};
 ghost use Rattle.ad_parser.specs.Rules as rules;
-ghost use Rattle.ad_parser.specs.Steps.{left, Gives, reference};
+ghost use Rattle.ad_parser.specs.Steps.{left, Gives, reference, valued};
+ghost use Rattle.ad_parser.specs.Shapes.{leaf};
 ghost use Rattle.ad_parser.specs.Words.{mark as mark_word, scope_of};
 
 use crate::chains::{Choice, apply, choose, hold, read_operators};
 use crate::joining::{
-    ad, add_definition, add_part, call, join, list, literal_part, name_part, no_definitions,
-    no_parts, selection, subscript,
+    ad, add_definition, add_literal, add_part, call, join, list, literal_part, name_part,
+    no_definitions, no_parts, selection, subscript,
 };
 use crate::mark::Mark;
 use crate::part::{DefinitionParts, Part, Parts};
@@ -21,22 +24,19 @@ use crate::reader::Reader;
 use crate::stop::Stop;
 use crate::word::Word;
 use ad_tree::Scope;
-use pool_text::Text;
+use pool_text::{Lit, OutOfMemory, Text};
 use std::alloc::Global;
 
 /// How loosely `||` binds, the loosest of the operators between two operands.
 const LOOSEST: usize = 10;
 
-/// An expression. One of a literal alone, as most definitions have, is told by the mark behind it, and read at once.
+/// An expression.
 #[cycle(grammar)]
 pub fn expression(alloc: Global, reader: &mut Reader<'_>, fuel: usize) -> Result<Part, Stop>
     ensures { Gives part (rules.expression height_limit fuel (left reader.old)) result (left reader.new) }
 {
     if fuel == 0 {
         return Err(Stop::Grammar);
-    }
-    if let Some(literal) = reader.lone_literal(alloc)? {
-        return Ok(literal_part(literal));
     }
     conditionals(alloc, reader, fuel - 1)
 }
@@ -178,9 +178,9 @@ fn primary(alloc: Global, reader: &mut Reader<'_>, fuel: usize) -> Result<Part, 
         result (left reader.new) }
 {
     match reader.take(alloc)? {
-        Some(Word::Constant(literal)) => Ok(literal_part(literal)),
+        Some(Word::Constant(literal)) => Ok(literal_part(alloc, literal)?),
         Some(Word::Plain(text)) => plain(alloc, reader, fuel, text),
-        Some(Word::Quoted(text)) => Ok(name_part(Scope::Bare, text)),
+        Some(Word::Quoted(text)) => Ok(name_part(alloc, Scope::Bare, text)?),
         Some(Word::Mark(mark)) => marked(alloc, reader, fuel, mark),
         None => Err(Stop::Grammar),
     }
@@ -193,7 +193,7 @@ fn marked(alloc: Global, reader: &mut Reader<'_>, fuel: usize, mark: Mark) -> Re
         result (left reader.new) }
 {
     match mark {
-        Mark::Dot => Ok(name_part(Scope::My, reader.name(alloc)?)),
+        Mark::Dot => Ok(name_part(alloc, Scope::My, reader.name(alloc)?)?),
         Mark::OpenBrace => Ok(list(alloc, elements(alloc, reader, fuel)?)?),
         Mark::OpenBracket => Ok(ad(alloc, definitions(alloc, reader, fuel)?)?),
         Mark::OpenParen => {
@@ -298,8 +298,7 @@ fn some_definitions(
         turns -= 1;
         let name = reader.name(alloc)?;
         reader.expect(Mark::Assign)?;
-        let value = expression(alloc, reader, fuel)?;
-        list = add_definition(list, name, value)?;
+        list = add_value(alloc, reader, fuel, list, name)?;
         if !reader.goes_on()? {
             return Ok(list);
         }
@@ -307,17 +306,53 @@ fn some_definitions(
     Err(Stop::Grammar)
 }
 
+/// The value of a definition, which is added to those before it. A literal alone, as most definitions have, is told by the
+/// mark behind it, and read at once.
+#[cycle(grammar)]
+fn add_value(
+    alloc: Global,
+    reader: &mut Reader<'_>,
+    fuel: usize,
+    list: DefinitionParts,
+    name: Text,
+) -> Result<DefinitionParts, Stop>
+    ensures { Gives definition_parts (valued (definition_parts list) name (rules.expression height_limit fuel (left reader.old)))
+        result (left reader.new) }
+{
+    if let Some(literal) = lone_literal(alloc, reader, fuel)? {
+        return Ok(add_literal(list, name, literal)?);
+    }
+    let value = expression(alloc, reader, fuel)?;
+    Ok(add_definition(list, name, value)?)
+}
+
+/// A literal alone, where an expression may still stand.
+fn lone_literal(
+    alloc: Global,
+    reader: &mut Reader<'_>,
+    fuel: usize,
+) -> Result<Option<Lit>, OutOfMemory>
+    ensures some { (lit : MeantLit) → result ≡ Ok (Some lit)
+        → rules.expression height_limit fuel (left reader.old) ≡ Some (Some (leaf (literal lit)), left reader.new) }
+    ensures none { result ≡ Ok None → left reader.new ≡ left reader.old }
+{
+    if fuel == 0 {
+        return Ok(None);
+    }
+    reader.lone_literal(alloc)
+}
+
 /// A plain name, where no call begins, or a name in a scope.
 fn named(alloc: Global, reader: &mut Reader<'_>, text: &[u8]) -> Result<Part, Stop>
     ensures { Gives part (reference text.now (left reader.old)) result (left reader.new) }
 {
     let Some(scope) = scope_of(text) else {
-        return Ok(name_part(Scope::Bare, Text::from_bytes(alloc, text)?));
+        return Ok(name_part(alloc, Scope::Bare, Text::from_bytes(alloc, text)?)?);
     };
     if reader.takes(Mark::Dot) {
-        return Ok(name_part(scope, reader.name(alloc)?));
+        return Ok(name_part(alloc, scope, reader.name(alloc)?)?);
     }
-    Ok(name_part(Scope::Bare, Text::from_bytes(alloc, text)?))
+    Ok(name_part(alloc, Scope::Bare, Text::from_bytes(alloc, text)?)?)
 }
 
 /// The scope that a plain name is in front of a dot, in any case.

@@ -67,19 +67,17 @@ fn leaf(node: Node) -> Part
 }
 
 /// A literal.
-#[inline(always)]
-pub fn literal_part(literal: Lit) -> Part
-    ensures { part result ≡ Some (shapes.leaf (labels.literal literal)) }
+pub fn literal_part(alloc: Global, literal: Lit) -> Result<Part, OutOfMemory>
+    ensures { IfOk result (λ p. part p ≡ Some (shapes.leaf (labels.literal literal))) }
 {
-    leaf(literal_node(literal))
+    Ok(leaf(literal_node(alloc, literal)?))
 }
 
 /// A name in a scope.
-#[inline(always)]
-pub fn name_part(scope: Scope, name: Text) -> Part
-    ensures { part result ≡ Some (shapes.leaf (labels.name scope name)) }
+pub fn name_part(alloc: Global, scope: Scope, name: Text) -> Result<Part, OutOfMemory>
+    ensures { IfOk result (λ p. part p ≡ Some (shapes.leaf (labels.name scope name))) }
 {
-    leaf(name_node(scope, name))
+    Ok(leaf(name_node(alloc, scope, name)?))
 }
 
 /// An operator before an operand.
@@ -170,7 +168,7 @@ fn extends(joint: Joint, node: &Node) -> bool
 fn whole_extends(joint: Joint, item: &Whole) -> bool
     ensures { result ≡ extends (as_infix joint) (whole item.now) }
 {
-    match (joint, &item.expr) {
+    match (joint, &*item.expr) {
         (Joint::Conjunction, Expr::And(_)) => true,
         (Joint::Disjunction, Expr::Or(_)) => true,
         _ => false,
@@ -278,6 +276,34 @@ pub fn add_definition(
             })
         }
         _ => Ok(DefinitionParts {
+            definitions: None,
+            highest: 0,
+        }),
+    }
+}
+
+/// One definition more, of a literal.
+#[inline(always)]
+pub fn add_literal(
+    list: DefinitionParts,
+    name: Text,
+    literal: Lit,
+) -> Result<DefinitionParts, OutOfMemory>
+    ensures { IfOk result (λ p. definition_parts p ≡ cut_last_def (definition_parts list) name (Some (shapes.leaf (labels.literal literal)))) }
+{
+    let DefinitionParts {
+        definitions,
+        highest,
+    } = list;
+    match definitions {
+        Some(mut definitions) => {
+            definitions.push_literal(name, literal)?;
+            Ok(DefinitionParts {
+                definitions: Some(definitions),
+                highest: highest.max(1),
+            })
+        }
+        None => Ok(DefinitionParts {
             definitions: None,
             highest: 0,
         }),

@@ -1,6 +1,6 @@
 // The parser's own trees, in which ad literals stand in place.
 use crate::whole::{Whole, Wholes};
-use pool_text::{BinOp, OutOfMemory, Text, UnOp};
+use pool_text::{BinOp, Lit, OutOfMemory, Text, UnOp};
 use std::alloc::Global;
 
 /// An expression as it is spelled, in a box: built as it stays where no ad literal stands in it.
@@ -41,11 +41,12 @@ pub struct Definitions {
     pub items: Vec<Definition>,
 }
 
+/// A name with the tree that it is defined as. A literal, which most definitions have, needs no box.
 #[cycle(node)]
 #[derive(Debug, Drop)]
-pub struct Definition {
-    pub name: Text,
-    pub node: Node,
+pub enum Definition {
+    Literal(Text, Lit),
+    Tree(Text, Node),
 }
 
 impl Nodes {
@@ -114,7 +115,9 @@ impl Nodes {
 
 impl Definitions {
     ghost use Rattle.std.specs.Prelude.{◌≡◌, ◌<◌, ◌++◌, ◌∷◌, [], length, slice_get, Some, OnOk};
-    ghost use Rattle.ad_parser.specs.Nodes.{inline, definitions};
+    ghost use Rattle.ad_tree.specs.Tree as labels;
+    ghost use Rattle.ad_parser.specs.Nodes.{inline, named, definitions};
+    ghost use Rattle.ad_parser.specs.Shapes.{leaf};
 
     pub fn new(alloc: Global) -> Definitions
         ensures { definitions result ≡ [] }
@@ -127,7 +130,14 @@ impl Definitions {
     pub fn push(&mut self, name: Text, node: Node) -> Result<(), OutOfMemory>
         ensures { OnOk result (definitions self.new ≡ definitions self.old ++ (name, inline node) ∷ []) }
     {
-        self.items.push(Definition { name, node })?;
+        self.items.push(Definition::Tree(name, node))?;
+        Ok(())
+    }
+
+    pub fn push_literal(&mut self, name: Text, literal: Lit) -> Result<(), OutOfMemory>
+        ensures { OnOk result (definitions self.new ≡ definitions self.old ++ (name, leaf (labels.literal literal)) ∷ []) }
+    {
+        self.items.push(Definition::Literal(name, literal))?;
         Ok(())
     }
 
@@ -139,7 +149,7 @@ impl Definitions {
 
     pub fn at(&self, i: usize) -> &Definition
         requires { i < length (definitions self.now) }
-        ensures { slice_get (definitions self.now) i ≡ Some (result.now.name, inline result.now.node) }
+        ensures { slice_get (definitions self.now) i ≡ Some (named result.now) }
     {
         &self.items[i]
     }

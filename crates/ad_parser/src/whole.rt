@@ -1,5 +1,5 @@
-// Expressions in which no ad literal stands. They wait for no frame's number, so that they are built as they stay. One is
-// put into a box where it becomes an operand.
+// Expressions in which no ad literal stands. They wait for no frame's number, so that they are built as they stay, each in a
+// box from its making on: that is small to hand on, and an operand needs no other.
 ghost use Rattle.std.specs.Prelude.{◌≡◌, []};
 ghost use Rattle.ad_tree.specs.Tree.{tree, trees, cited, cited_all, pack as pack_trees};
 
@@ -10,8 +10,8 @@ use std::alloc::Global;
 /// An expression without ad literals.
 #[derive(Debug, Drop)]
 pub struct Whole {
-    pub expr: Expr,
-    pub ghost cites_none: { cited (tree expr) ≡ [] },
+    pub expr: Box<Expr>,
+    pub ghost cites_none: { cited (tree expr.value) ≡ [] },
 }
 
 /// Expressions without ad literals.
@@ -29,48 +29,43 @@ impl Whole {
     ghost use Rattle.ad_parser.specs.Shapes.{leaf, over_one, over_two, over_three};
     ghost use Rattle.ad_parser.specs.Wholes.{whole, wholes};
 
-    pub fn literal(literal: Lit) -> Whole
-        ensures { whole result ≡ leaf (labels.literal literal) }
+    pub fn literal(alloc: Global, literal: Lit) -> Result<Whole, OutOfMemory>
+        ensures { IfOk result (λ w. whole w ≡ leaf (labels.literal literal)) }
     {
-        Whole {
-            expr: Expr::Literal(literal),
-        }
+        Ok(Whole {
+            expr: Box::new(alloc, Expr::Literal(literal))?,
+        })
     }
 
-    pub fn name(scope: Scope, name: Text) -> Whole
-        ensures { whole result ≡ leaf (labels.name scope name) }
+    pub fn name(alloc: Global, scope: Scope, name: Text) -> Result<Whole, OutOfMemory>
+        ensures { IfOk result (λ w. whole w ≡ leaf (labels.name scope name)) }
     {
-        Whole {
-            expr: Expr::Name(scope, name),
-        }
+        Ok(Whole {
+            expr: Box::new(alloc, Expr::Name(scope, name))?,
+        })
     }
 
     pub fn unary(alloc: Global, op: UnOp, a: Whole) -> Result<Whole, OutOfMemory>
         ensures { IfOk result (λ w. whole w ≡ over_one (labels.unary op) (whole a)) }
     {
         Ok(Whole {
-            expr: Expr::Unary(op, Box::new(alloc, a.expr)?),
+            expr: Box::new(alloc, Expr::Unary(op, a.expr))?,
         })
     }
 
     pub fn binary(alloc: Global, op: BinOp, a: Whole, b: Whole) -> Result<Whole, OutOfMemory>
         ensures { IfOk result (λ w. whole w ≡ over_two (labels.binary op) (whole a) (whole b)) }
     {
-        let a = Box::new(alloc, a.expr)?;
-        let b = Box::new(alloc, b.expr)?;
         Ok(Whole {
-            expr: Expr::Binary(op, a, b),
+            expr: Box::new(alloc, Expr::Binary(op, a.expr, b.expr))?,
         })
     }
 
     pub fn choice(alloc: Global, a: Whole, b: Whole, c: Whole) -> Result<Whole, OutOfMemory>
         ensures { IfOk result (λ w. whole w ≡ over_three labels.choice (whole a) (whole b) (whole c)) }
     {
-        let a = Box::new(alloc, a.expr)?;
-        let b = Box::new(alloc, b.expr)?;
-        let c = Box::new(alloc, c.expr)?;
         Ok(Whole {
-            expr: Expr::Cond(a, b, c),
+            expr: Box::new(alloc, Expr::Cond(a.expr, b.expr, c.expr))?,
         })
     }
 
@@ -78,52 +73,50 @@ impl Whole {
         ensures { IfOk result (λ w. whole w ≡ over_one (labels.select name) (whole a)) }
     {
         Ok(Whole {
-            expr: Expr::Select(Box::new(alloc, a.expr)?, name),
+            expr: Box::new(alloc, Expr::Select(a.expr, name))?,
         })
     }
 
     pub fn subscript(alloc: Global, a: Whole, b: Whole) -> Result<Whole, OutOfMemory>
         ensures { IfOk result (λ w. whole w ≡ over_two labels.subscript (whole a) (whole b)) }
     {
-        let a = Box::new(alloc, a.expr)?;
-        let b = Box::new(alloc, b.expr)?;
         Ok(Whole {
-            expr: Expr::Subscript(a, b),
+            expr: Box::new(alloc, Expr::Subscript(a.expr, b.expr))?,
         })
     }
 
-    pub fn call(name: Text, arguments: Wholes) -> Whole
-        ensures { whole result ≡ shape (labels.call name) (pack (wholes arguments)) }
+    pub fn call(alloc: Global, name: Text, arguments: Wholes) -> Result<Whole, OutOfMemory>
+        ensures { IfOk result (λ w. whole w ≡ shape (labels.call name) (pack (wholes arguments))) }
     {
-        Whole {
-            expr: Expr::Call(name, arguments.list),
-        }
+        Ok(Whole {
+            expr: Box::new(alloc, Expr::Call(name, arguments.list))?,
+        })
     }
 
-    pub fn list(elements: Wholes) -> Whole
-        ensures { whole result ≡ shape labels.list (pack (wholes elements)) }
+    pub fn list(alloc: Global, elements: Wholes) -> Result<Whole, OutOfMemory>
+        ensures { IfOk result (λ w. whole w ≡ shape labels.list (pack (wholes elements))) }
     {
-        Whole {
-            expr: Expr::List(elements.list),
-        }
+        Ok(Whole {
+            expr: Box::new(alloc, Expr::List(elements.list))?,
+        })
     }
 
     /// A chain of `&&`.
-    pub fn all(operands: Wholes) -> Whole
-        ensures { whole result ≡ shape labels.all (pack (wholes operands)) }
+    pub fn all(alloc: Global, operands: Wholes) -> Result<Whole, OutOfMemory>
+        ensures { IfOk result (λ w. whole w ≡ shape labels.all (pack (wholes operands))) }
     {
-        Whole {
-            expr: Expr::And(operands.list),
-        }
+        Ok(Whole {
+            expr: Box::new(alloc, Expr::And(operands.list))?,
+        })
     }
 
     /// A chain of `||`.
-    pub fn any(operands: Wholes) -> Whole
-        ensures { whole result ≡ shape labels.any (pack (wholes operands)) }
+    pub fn any(alloc: Global, operands: Wholes) -> Result<Whole, OutOfMemory>
+        ensures { IfOk result (λ w. whole w ≡ shape labels.any (pack (wholes operands))) }
     {
-        Whole {
-            expr: Expr::Or(operands.list),
-        }
+        Ok(Whole {
+            expr: Box::new(alloc, Expr::Or(operands.list))?,
+        })
     }
 }
 
@@ -142,6 +135,6 @@ impl Wholes {
     pub fn push(&mut self, item: Whole) -> Result<(), OutOfMemory>
         ensures { OnOk result (wholes self.new ≡ wholes self.old ++ whole item ∷ []) }
     {
-        self.list.push(item.expr)
+        self.list.push(Box::into_inner(item.expr))
     }
 }

@@ -5,9 +5,9 @@ use Rattle.ad_parser.proofs.ConversionLemmas.{if_ok}
 use Rattle.ad_parser.proofs.NodeLemmas.{chained, inline-Whole, opened-Or}
 use Rattle.ad_parser.proofs.building.disjunction_node.Goals as goal
 
-pub returns-in-Ok : goal.returns-in-Ok
-returns-in-Ok c =
-    inline-Whole c.any.result ∙ c.any.ensures
+pub returns-in_ok-any-in-Ok : goal.returns-in_ok-any-in-Ok
+returns-in_ok-any-in-Ok c =
+    inline-Whole c.in_ok-any-in-Ok.field-0 ∙ c.in_ok-any-in-Ok.ensures
     ∙ chained any _ (inlines c.in_ok-operands.operands) (inline c.args.right) _ (c.in-Ok.ensures.ok ∙ c.in_ok-push.ensures) (c.in_ok-operands.ensures (inline c.args.right))
 
 pub returns-in-Err : goal.returns-in-Err

@@ -7,7 +7,7 @@ use Rattle.ad_parser.specs.Shapes.{followed_by, joined, disjunction}
 use Rattle.ad_parser.proofs.WholeLemmas.{plain-node}
 use Rattle.ad_parser.proofs.building.whole_disjuncts.Goals as goal
 
-pub returns-in-Or : goal.returns-in-Or
-returns-in-Or c = λ y.
+pub returns-in-Or-into_inner : goal.returns-in-Or-into_inner
+returns-in-Or-into_inner c = λ y.
     ap (λ is. shape any (followed_by (pack is) y)) c.wholes.ensures
-    ∙ ap (λ i. joined disjunction i y) (sym (plain-node any (trees c.in-Or.list) _ (ap tree (c.in-Or.is) ∙ tree-Or c.in-Or.list)))
+    ∙ ap (λ i. joined disjunction i y) (sym (plain-node any (trees c.in-Or-into_inner.list) _ (ap tree (sym c.into_inner.ensures ∙ c.in-Or-into_inner.is) ∙ tree-Or c.in-Or-into_inner.list)))

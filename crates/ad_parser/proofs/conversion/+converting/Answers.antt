@@ -2,19 +2,26 @@ use Rattle.std.proofs.Common.{arith, rules, ◌++◌, map, map-id, ap, sym, subs
 use Rattle.std.proofs.lemmas.Iterator.Adapters.{YieldsList-from_vec}
 use Rattle.std.proofs.lemmas.Iterator.Consumers.{YieldsList-turn, YieldsList-end}
 use Rattle.ad_tree.specs.Draft.{draft_frames}
+use Rattle.ad_tree.specs.Inline.{height}
 use Rattle.ad_tree.specs.Placed.{IsPlaced, AreAllPlaced}
 use Rattle.ad_tree.specs.Tree.{tree, trees, pack as pack_trees}
 use Rattle.ad_tree.proofs.PlacedLemmas.{next-placed, one-placed}
 use Rattle.ad_parser.specs.Converted.{Completes}
-use Rattle.ad_parser.specs.Nodes.{inline, pack, pack_definitions}
+use Rattle.ad_parser.specs.Nodes.{inline, named, pack, pack_definitions}
 use Rattle.ad_parser.specs.declared.node.Definitions.{out-Definitions}
 use Rattle.ad_parser.specs.Wholes.{wholes}
-use Rattle.ad_parser.proofs.ConversionLemmas.{whole-converted, front-converted, list-converted, definition-converted, frame-converted, stays-there}
-use Rattle.ad_parser.proofs.ListLemmas.{named, inlines-items, definitions-items, height-taken, height-defined_taken}
+use Rattle.ad_parser.proofs.ConversionLemmas.{whole-converted, front-converted, list-converted, literal-converted, tree-converted, frame-converted, stays-there}
+use Rattle.ad_parser.proofs.ListLemmas.{inlines-items, definitions-items, height-taken, height-defined_taken}
 use Rattle.ad_parser.proofs.conversion.+converting.Goals as goal
 
 pub convert-returns-in-Whole : goal.convert-returns-in-Whole
-convert-returns-in-Whole t c = whole-converted c.args.parent c.args.node c.in-Whole.item (draft_frames c.args.draft.now) c.in-Whole.is
+convert-returns-in-Whole t c =
+    let fs = draft_frames c.args.draft.now in
+    subst (λ e. IsPlaced c.args.parent (inline c.args.node) (tree e) fs fs) (sym c.into_inner.ensures)
+    (whole-converted c.args.parent c.args.node c.in-Whole.item fs c.in-Whole.is)
+
+pub convert_boxed-returns-in-Whole : goal.convert_boxed-returns-in-Whole
+convert_boxed-returns-in-Whole t c = whole-converted c.args.parent c.args.node c.in-Whole.item (draft_frames c.args.draft.now) c.in-Whole.is
 
 pub convert_all-loop-node-init : goal.convert_all-loop-node-init
 convert_all-loop-node-init t c = front-converted c.args.parent c.args.nodes.front (draft_frames c.args.draft.now)
@@ -53,14 +60,19 @@ pub define_all-convert-requires : goal.define_all-convert-requires
 define_all-convert-requires t c =
     let turn = YieldsList-turn (YieldsList-from_vec {s = c.into_iter-definition-iterator.result} (out-Definitions c.args.list).items.items (search rules) (search rules))
     c.loop-definition.yielded c.loop-definition.definition-iterator c.loop-definition.yielded_by c.next.result c.next.new.self c.in-Some.definition c.in-Some.is c.next.ensures.steps in (
-      omega (arith, c.decreases, height-defined_taken c.args.list _ c.in-Some.definition turn.0 turn.1),
+      omega (arith, c.decreases, height-defined_taken c.args.list _ c.in-Some.definition turn.0 turn.1, ap (λ d. height (named d).1) c.in-Tree.is),
       c.loop-definition.invariant.there,
     )
 
+pub define_all-loop-definition-preserved-in-Continue-branch-2 : goal.define_all-loop-definition-preserved-in-Continue-branch-2
+define_all-loop-definition-preserved-in-Continue-branch-2 t c =
+    literal-converted c.loop-definition.yielded c.in-Some.definition c.in-Literal.name c.in-Literal.literal c.in-Literal.is
+    c.loop-definition.invariant c.in_ok-define-in-Literal.ensures.ok c.in_ok-define-in-Literal.ensures.len
+
 pub define_all-loop-definition-preserved : goal.define_all-loop-definition-preserved
 define_all-loop-definition-preserved t c =
-    definition-converted c.loop-definition.yielded c.in-Some.definition (tree c.in_ok-expr.expr)
-    c.loop-definition.invariant c.in_ok-expr.ensures c.in_ok-define.ensures.ok c.in_ok-define.ensures.len
+    tree-converted c.loop-definition.yielded c.in-Some.definition c.in-Tree.name c.in-Tree.node (tree c.in_ok-expr-in-Tree.expr) c.in-Tree.is
+    c.loop-definition.invariant c.in_ok-expr-in-Tree.ensures c.in_ok-define-in-Tree.ensures.ok c.in_ok-define-in-Tree.ensures.len
 
 pub define_all-returns : goal.define_all-returns
 define_all-returns t c =

@@ -4,9 +4,8 @@ use Rattle.ad_tree.specs.Inline.{height, highest, highest_def}
 use Rattle.ad_tree.specs.Placed.{AreAllPlaced}
 use Rattle.ad_tree.specs.Tree.{trees, pack as pack_trees}
 use Rattle.ad_parser.specs.Converted.{Completes}
-use Rattle.ad_parser.specs.Nodes.{inline, opened, inlines, definitions, pack, pack_definitions}
+use Rattle.ad_parser.specs.Nodes.{inline, opened, inlines, named, definitions, pack, pack_definitions}
 use Rattle.ad_parser.specs.Wholes.{wholes}
-use Rattle.ad_parser.proofs.ListLemmas.{named}
 use Rattle.ad_parser.proofs.conversion.+converting.Given as goal
 
 abbrev pub decreases-convert : goal.decreases-convert
@@ -16,13 +15,13 @@ abbrev pub decreases-convert_open : goal.decreases-convert_open
 decreases-convert_open l = 5 * height (opened l.node)
 
 abbrev pub decreases-convert_boxed : goal.decreases-convert_boxed
-decreases-convert_boxed l = 5 * height (inline l.node) + 2
+decreases-convert_boxed l = 5 * height (inline l.node) + 1
 
 abbrev pub decreases-convert_two : goal.decreases-convert_two
-decreases-convert_two l = 5 * max (height (inline l.nodes.0)) (height (inline l.nodes.1)) + 3
+decreases-convert_two l = 5 * max (height (inline l.nodes.0)) (height (inline l.nodes.1)) + 2
 
 abbrev pub decreases-convert_three : goal.decreases-convert_three
-decreases-convert_three l = 5 * max (height (inline l.nodes.0)) (max (height (inline l.nodes.1)) (height (inline l.nodes.2))) + 4
+decreases-convert_three l = 5 * max (height (inline l.nodes.0)) (max (height (inline l.nodes.1)) (height (inline l.nodes.2))) + 3
 
 abbrev pub decreases-convert_all : goal.decreases-convert_all
 decreases-convert_all l = 5 * highest (pack (inlines l.nodes)) + 2

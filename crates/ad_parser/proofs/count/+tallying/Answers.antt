@@ -36,11 +36,11 @@ tally_all-returns t c =
       definitions = c.loop-i.invariant.1 ∙ ap (min counting_limit) (ap (λ is. definitions_all (pack is)) (take_all c.loop-i.i items far) ∙ sym (rest-defines c.args.nodes.now));
     }
 
-pub tally_definitions-tally-requires : goal.tally_definitions-tally-requires
-tally_definitions-tally-requires t c = (omega (arith, c.decreases, height-defined_at (definitions_of c.args.list.now) c.loop-i.i _ c.at.ensures), tt)
+pub tally_definitions-tally_value-requires : goal.tally_definitions-tally_value-requires
+tally_definitions-tally_value-requires t c = (omega (arith, c.decreases, height-defined_at (definitions_of c.args.list.now) c.loop-i.i _ c.at.ensures), tt)
 
 pub tally_definitions-loop-i-preserved : goal.tally_definitions-loop-i-preserved
 tally_definitions-loop-i-preserved t c = (
-  omega (arith, c.plus-total.ensures.frames, c.and_definition.ensures.frames, c.tally.ensures.frames, c.loop-i.invariant.0, count_defs-next (definitions_of c.args.list.now) c.loop-i.i _ c.at.ensures),
-  omega (arith, c.plus-total.ensures.definitions, c.and_definition.ensures.definitions, c.tally.ensures.definitions, c.loop-i.invariant.1, definitions_in-next (definitions_of c.args.list.now) c.loop-i.i _ c.at.ensures),
+  omega (arith, c.plus-total.ensures.frames, c.and_definition.ensures.frames, c.tally_value.ensures.frames, c.loop-i.invariant.0, count_defs-next (definitions_of c.args.list.now) c.loop-i.i _ c.at.ensures),
+  omega (arith, c.plus-total.ensures.definitions, c.and_definition.ensures.definitions, c.tally_value.ensures.definitions, c.loop-i.invariant.1, definitions_in-next (definitions_of c.args.list.now) c.loop-i.i _ c.at.ensures),
 )

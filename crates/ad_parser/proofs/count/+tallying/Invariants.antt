@@ -1,7 +1,7 @@
 use Rattle.std.proofs.Common.{◌≡◌, ◌+◌, ◌*◌, max, min, map, take}
 use Rattle.ad_tree.specs.Inline.{height, highest, highest_def, count_all, count_defs, definitions_all, definitions_in}
 use Rattle.ad_parser.specs.Counts.{counting_limit}
-use Rattle.ad_parser.specs.Nodes.{inline, opened, inlines, definitions, pack, pack_definitions}
+use Rattle.ad_parser.specs.Nodes.{inline, opened, inlines, named, definitions, pack, pack_definitions}
 use Rattle.ad_parser.proofs.count.+tallying.Given as goal
 
 abbrev pub decreases-tally : goal.decreases-tally
@@ -17,7 +17,10 @@ abbrev pub decreases-tally_all : goal.decreases-tally_all
 decreases-tally_all l = 4 * highest (pack (inlines l.nodes.now)) + 2
 
 abbrev pub decreases-tally_definitions : goal.decreases-tally_definitions
-decreases-tally_definitions l = 4 * highest_def (pack_definitions (definitions l.list.now)) + 2
+decreases-tally_definitions l = 4 * highest_def (pack_definitions (definitions l.list.now)) + 3
+
+abbrev pub decreases-tally_value : goal.decreases-tally_value
+decreases-tally_value l = 4 * height (named l.definition.now).1 + 2
 
 abbrev pub invariant-tally_all-loop-i : goal.invariant-tally_all-loop-i
 invariant-tally_all-loop-i l =

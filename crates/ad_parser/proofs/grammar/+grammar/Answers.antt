@@ -1,33 +1,53 @@
-use Rattle.std.proofs.Common.{refl, arith, ◌≡◌, ◌-◌, suc, true, false, ◌∷◌, length, subst, map, Option, Some, Ok, Err, ap, sym, ◌∙◌}
-use Rattle.ad_tree.specs.Inline.{Inline, Inlines, Defs, end, no_defs}
-use Rattle.ad_parser.specs.declared.mark.Mark.TheVariants.{OpenParen}
+use Rattle.std.proofs.Common.{refl, arith, ◌-◌, suc, true, false, ◌∷◌, length, subst, map, Some, Ok, Err, ap, sym, ◌∙◌}
+use Rattle.ad_tree.specs.Inline.{end, no_defs}
 use Rattle.ad_parser.specs.Chains.{held}
 use Rattle.ad_parser.specs.Levels.{climb}
 use Rattle.ad_parser.specs.Limits.{height_limit}
 use Rattle.ad_parser.specs.Parts.{part, parts, definition_parts, as_infix, cut_before, cut_defined_before}
 use Rattle.ad_parser.specs.Rules as rules
 use Rattle.ad_parser.specs.Rules.{Reading}
-use Rattle.ad_parser.specs.Steps.{left, ContinuesOk}
+use Rattle.ad_parser.specs.Steps.{left, valued, ContinuesOk}
 use Rattle.ad_parser.specs.Words.{mark as mark_word}
-use Rattle.ad_parser.proofs.RuleLemmas.{less, lone-literal, gives-ok, regives, stops-here, stops-by, arguments-broken, elements-broken, group-broken, conditionals-init, conditionals-end, conditionals-broken, conditionals-unclosed, conditionals-more, operations-broken, operations-more, several-end, several-more, definitions-broken, definitions-end, definitions-more, suffixes-end, suffixes-selection, suffixes-broken, suffixes-subscript}
+use Rattle.ad_parser.proofs.RuleLemmas.{less, valued-read, gives-ok, regives, stops-here, stops-by, arguments-broken, elements-broken, group-broken, conditionals-init, conditionals-end, conditionals-broken, conditionals-unclosed, conditionals-more, operations-broken, operations-more, several-end, several-more, definitions-broken, definitions-stopped, definitions-end, definitions-more, suffixes-end, suffixes-broken, suffixes-subscript}
 use Rattle.ad_parser.proofs.LevelLemmas.{level-climbed, level-none, climb-end, climb-broken, climb-more}
 use Rattle.ad_parser.proofs.grammar.+grammar.Goals as goal
-
-pub expression-returns-in-Some : goal.expression-returns-in-Some
-expression-returns-in-Some t c =
-    let ws = left c.args.reader.now in
-    let behind = left c.lone_literal.new.self in
-    gives-ok part c.literal_part.result (rules.expression height_limit c.args.fuel ws) behind
-    (lone-literal c.args.fuel c.in-Some.literal ws behind (omega (arith, c.if-fuel-eq0.false)) (c.in_ok-literal.ensures.some c.in-Some.literal (ap Ok c.in-Some.is))
-    ∙ ap (λ x. Some (x, behind)) (sym c.literal_part.ensures))
 
 pub expression-returns : goal.expression-returns
 expression-returns t c =
     let ws = left c.args.reader.now in
-    let e = rules.expression height_limit (c.args.fuel - 1) in
-    let kept = c.in_ok-literal.ensures.none (ap Ok c.in_default.is) in
-    regives part (rules.expression height_limit c.args.fuel ws) (rules.conditionals height_limit e (suc (length (left c.lone_literal.new.self))) (left c.lone_literal.new.self)) c.conditionals.result (left c.conditionals.new.reader)
-    (ap (λ n. rules.expression height_limit n ws) (less c.args.fuel (omega (arith, c.if-fuel-eq0.false))) ∙ ap (λ us. rules.conditionals height_limit e (suc (length us)) us) (sym kept)) c.conditionals.ensures
+    regives part (rules.expression height_limit c.args.fuel ws) (rules.conditionals height_limit (rules.expression height_limit (c.args.fuel - 1)) (suc (length ws)) ws) c.conditionals.result (left c.conditionals.new.reader)
+    (ap (λ n. rules.expression height_limit n ws) (less c.args.fuel (omega (arith, c.if-fuel-eq0.false)))) c.conditionals.ensures
+
+pub add_value-returns-in-Some : goal.add_value-returns-in-Some
+add_value-returns-in-Some t c =
+    let e = rules.expression height_limit c.args.fuel in
+    let xs = definition_parts c.args.list in
+    let behind = left c.lone_literal.new.reader in
+    gives-ok definition_parts c.in_ok-add_literal.field-0 (valued xs c.args.name (e (left c.args.reader.now))) behind
+    (ap (valued xs c.args.name) (c.in_ok-literal.ensures.some c.in-Some.literal (ap Ok c.in-Some.is)) ∙ ap (λ ys. Some (ys, behind)) (sym c.in_ok-add_literal.ensures))
+
+pub add_value-returns : goal.add_value-returns
+add_value-returns t c =
+    let e = rules.expression height_limit c.args.fuel in
+    let xs = definition_parts c.args.list in
+    let behind = left c.expression.new.reader in
+    gives-ok definition_parts c.in_ok-add_definition.field-0 (valued xs c.args.name (e (left c.args.reader.now))) behind
+    (ap (λ us. valued xs c.args.name (e us)) (sym (c.in_ok-literal.ensures.none (ap Ok c.in_default.is)))
+    ∙ ap (valued xs c.args.name) (c.in_ok-value.ensures.ok c.in_ok-value.value refl) ∙ ap (λ ys. Some (ys, behind)) (sym c.in_ok-add_definition.ensures))
+
+pub some_definitions-returns-in_err-goes_on : goal.some_definitions-returns-in_err-goes_on
+some_definitions-returns-in_err-goes_on t c =
+    let e = rules.expression height_limit c.args.fuel in
+    let ws = left c.args.reader.now in
+    let w = rules.definitions_at e (length ws) ws in
+    let n = c.loop-turns.turns in
+    let value = valued-read (definition_parts c.loop-turns.list) c.in_ok-name.name (e (left c.expect.new.self)) (definition_parts c.in_ok-list.list) (left c.add_value.new.reader) (c.in_ok-list.ensures.ok c.in_ok-list.list refl) in
+    stops-by (λ p. cut_defined_before (definition_parts p) (Some no_defs)) w c.from_residual-in_err-goes_on.result (left c.goes_on.new.self) c.in_err-goes_on.field-0.0
+    c.from_residual-in_err-goes_on.ensures.0 c.from_residual-in_err-goes_on.ensures.1
+    (λ stop. definitions-stopped e w (definition_parts c.loop-turns.list) n (left c.loop-turns.reader) (left c.name.new.self) c.in_ok-name.name
+    c.loop-turns.invariant c.loop-turns-test.true (c.in_ok-name.ensures.ok c.in_ok-name.name refl)
+    (left c.expect.new.self) (left c.add_value.new.reader) value.0 (c.in_ok-expect.ensures.ok _ refl) value.1
+    (c.in_err-goes_on.ensures.none (ap Err stop) (rules.definitions_at e (n - 1)) c.in_ok-name.name value.0))
 
 pub arguments-returns-in_err-expect : goal.arguments-returns-in_err-expect
 arguments-returns-in_err-expect t c =
@@ -192,14 +212,15 @@ some_definitions-returns-then-not-branch t c =
     let ws = left c.args.reader.now in
     let w = rules.definitions_at e (length ws) ws in
     let n = c.loop-turns.turns in
-    let closes : ContinuesOk (left c.expression.new.reader) false (left c.goes_on.new.self) =
-    subst (λ g. ContinuesOk (left c.expression.new.reader) g (left c.goes_on.new.self)) c.if-not-branch.true (c.in_ok-goes_on.ensures.ok c.in_ok-goes_on.field-0 refl) in
+    let closes : ContinuesOk (left c.add_value.new.reader) false (left c.goes_on.new.self) =
+    subst (λ g. ContinuesOk (left c.add_value.new.reader) g (left c.goes_on.new.self)) c.if-not-branch.true (c.in_ok-goes_on.ensures.ok c.in_ok-goes_on.field-0 refl) in
+    let value = valued-read (definition_parts c.loop-turns.list) c.in_ok-name.name (e (left c.expect.new.self)) (definition_parts c.in_ok-list.list) (left c.add_value.new.reader) (c.in_ok-list.ensures.ok c.in_ok-list.list refl) in
     gives-ok (λ p. cut_defined_before (definition_parts p) (Some no_defs)) c.in_ok-list.list w (left c.goes_on.new.self)
     (definitions-end e w (definition_parts c.loop-turns.list) n (left c.loop-turns.reader) (left c.name.new.self) c.in_ok-name.name
     c.loop-turns.invariant c.loop-turns-test.true (c.in_ok-name.ensures.ok c.in_ok-name.name refl)
-    (left c.expect.new.self) (left c.expression.new.reader) (left c.goes_on.new.self) (part c.in_ok-value.value) (definition_parts c.in_ok-list.list)
-    (c.in_ok-expect.ensures.ok _ refl) (c.in_ok-value.ensures.ok c.in_ok-value.value refl) c.in_ok-list.ensures
-    (closes (rules.definitions_at e (n - 1)) c.in_ok-name.name (part c.in_ok-value.value)))
+    (left c.expect.new.self) (left c.add_value.new.reader) (left c.goes_on.new.self) value.0 (definition_parts c.in_ok-list.list)
+    (c.in_ok-expect.ensures.ok _ refl) value.1 value.2
+    (closes (rules.definitions_at e (n - 1)) c.in_ok-name.name value.0))
 
 pub some_definitions-loop-turns-preserved : goal.some_definitions-loop-turns-preserved
 some_definitions-loop-turns-preserved t c =
@@ -207,13 +228,14 @@ some_definitions-loop-turns-preserved t c =
     let ws = left c.args.reader.now in
     let w = rules.definitions_at e (length ws) ws in
     let n = c.loop-turns.turns in
-    let goes : ContinuesOk (left c.expression.new.reader) true (left c.goes_on.new.self) =
-    subst (λ g. ContinuesOk (left c.expression.new.reader) g (left c.goes_on.new.self)) c.if-not-branch.false (c.in_ok-goes_on.ensures.ok c.in_ok-goes_on.field-0 refl) in
+    let goes : ContinuesOk (left c.add_value.new.reader) true (left c.goes_on.new.self) =
+    subst (λ g. ContinuesOk (left c.add_value.new.reader) g (left c.goes_on.new.self)) c.if-not-branch.false (c.in_ok-goes_on.ensures.ok c.in_ok-goes_on.field-0 refl) in
+    let value = valued-read (definition_parts c.loop-turns.list) c.in_ok-name.name (e (left c.expect.new.self)) (definition_parts c.in_ok-list.list) (left c.add_value.new.reader) (c.in_ok-list.ensures.ok c.in_ok-list.list refl) in
     definitions-more e w (definition_parts c.loop-turns.list) n (left c.loop-turns.reader) (left c.name.new.self) c.in_ok-name.name
     c.loop-turns.invariant c.loop-turns-test.true (c.in_ok-name.ensures.ok c.in_ok-name.name refl)
-    (left c.expect.new.self) (left c.expression.new.reader) (left c.goes_on.new.self) (part c.in_ok-value.value) (definition_parts c.in_ok-list.list)
-    (c.in_ok-expect.ensures.ok _ refl) (c.in_ok-value.ensures.ok c.in_ok-value.value refl) c.in_ok-list.ensures
-    (goes (rules.definitions_at e (n - 1)) c.in_ok-name.name (part c.in_ok-value.value))
+    (left c.expect.new.self) (left c.add_value.new.reader) (left c.goes_on.new.self) value.0 (definition_parts c.in_ok-list.list)
+    (c.in_ok-expect.ensures.ok _ refl) value.1 value.2
+    (goes (rules.definitions_at e (n - 1)) c.in_ok-name.name value.0)
 
 pub suffixes-returns-else-takes-2 : goal.suffixes-returns-else-takes-2
 suffixes-returns-else-takes-2 t c =

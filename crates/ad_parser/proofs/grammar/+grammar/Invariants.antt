@@ -1,4 +1,4 @@
-use Rattle.std.proofs.Common.{◌≡◌, ◌≤◌, ℕ, ◌+◌, ◌*◌, ◌-◌, suc, length, map}
+use Rattle.std.proofs.Common.{◌≡◌, ◌≤◌, ◌+◌, ◌*◌, ◌-◌, suc, length, map}
 use Rattle.ad_parser.specs.Chains.{held}
 use Rattle.ad_parser.specs.Levels.{climb}
 use Rattle.ad_parser.specs.Limits.{height_limit}
@@ -54,6 +54,9 @@ decreases-definitions l = 60 * l.fuel + 6
 
 abbrev pub decreases-some_definitions : goal.decreases-some_definitions
 decreases-some_definitions l = 60 * l.fuel + 5
+
+abbrev pub decreases-add_value : goal.decreases-add_value
+decreases-add_value l = 60 * l.fuel + 4
 
 abbrev pub invariant-conditionals-loop-turns : goal.invariant-conditionals-loop-turns
 invariant-conditionals-loop-turns l =

@@ -1,7 +1,6 @@
-use Rattle.std.proofs.Common.{◌+◌, length, map, ap, sym, ◌∙◌, refl, arith}
+use Rattle.std.proofs.Common.{◌+◌, ap, refl, arith}
 use Rattle.ad_parser.specs.declared.stop.Stop.TheVariants as stops
 use Rattle.ad_parser.specs.Limits.{height_limit}
-use Rattle.ad_parser.specs.Meaning.{meaning}
 use Rattle.ad_parser.specs.Parts.{part}
 use Rattle.ad_parser.specs.Rules.{parsed_expr}
 use Rattle.ad_parser.specs.Steps.{left}

@@ -1,9 +1,8 @@
-use Rattle.std.proofs.Common.{arith, ◌≡◌, ◌<◌, List, ℕ, ◌∷◌, [], ◌++◌, ◌-◌, length, drop, slice_index, ap, subst, sym, ◌∙◌, length-drop, add-zero}
+use Rattle.std.proofs.Common.{arith, ◌≡◌, ◌<◌, List, ℕ, ◌-◌, length, ap, sym, ◌∙◌, length-drop}
 use Rattle.std.proofs.Math.Logic.{∥∥₁_map}
-use Rattle.ad_lexer.specs.Content.{meaning_at, letter_len}
 use Rattle.ad_lexer.proofs.ContentLemmas.{letter_some}
 use Rattle.ad_parser.proofs.MerelyLemmas.{equal-when, less-when}
-use Rattle.ad_parser.proofs.QuoteLemmas.{Unread, unread-first, unread-turn, unread-small, unread-some, unread-end}
+use Rattle.ad_parser.proofs.QuoteLemmas.{unread-first, unread-turn, unread-small, unread-some, unread-end}
 use Rattle.ad_parser.proofs.quoted.unescaped.Goals as goal
 
 pub loop-rest-init : goal.loop-rest-init

@@ -5,4 +5,4 @@ use Rattle.ad_parser.proofs.WholeLemmas.{plain-node}
 use Rattle.ad_parser.proofs.whole.Whole.all.Goals as goal
 
 pub returns : goal.returns
-returns c = plain-node all (trees c.args.operands.list) _ (tree-And c.args.operands.list)
+returns c = plain-node all (trees c.args.operands.list) _ (ap tree c.in_ok-new.ensures.ok ∙ tree-And c.args.operands.list)

@@ -5,4 +5,4 @@ use Rattle.ad_parser.proofs.WholeLemmas.{plain-node}
 use Rattle.ad_parser.proofs.whole.Whole.any.Goals as goal
 
 pub returns : goal.returns
-returns c = plain-node any (trees c.args.operands.list) _ (tree-Or c.args.operands.list)
+returns c = plain-node any (trees c.args.operands.list) _ (ap tree c.in_ok-new.ensures.ok ∙ tree-Or c.args.operands.list)

@@ -5,4 +5,4 @@ use Rattle.ad_parser.proofs.WholeLemmas.{plain-node}
 use Rattle.ad_parser.proofs.whole.Whole.call.Goals as goal
 
 pub returns : goal.returns
-returns c = plain-node (call c.args.name) (trees c.args.arguments.list) _ (tree-Call c.args.name c.args.arguments.list)
+returns c = plain-node (call c.args.name) (trees c.args.arguments.list) _ (ap tree c.in_ok-new.ensures.ok ∙ tree-Call c.args.name c.args.arguments.list)

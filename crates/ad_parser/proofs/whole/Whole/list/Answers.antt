@@ -5,4 +5,4 @@ use Rattle.ad_parser.proofs.WholeLemmas.{plain-node}
 use Rattle.ad_parser.proofs.whole.Whole.list.Goals as goal
 
 pub returns : goal.returns
-returns c = plain-node list (trees c.args.elements.list) _ (tree-List c.args.elements.list)
+returns c = plain-node list (trees c.args.elements.list) _ (ap tree c.in_ok-new.ensures.ok ∙ tree-List c.args.elements.list)

@@ -22,4 +22,4 @@ pub use literal::from_lit;
 pub use logic::{and_ends, and_step, or_ends, or_step};
 pub use operators::{binary, unary};
 pub use value::{Value, Values};
-pub use weighing::weight;
+pub use weighing::{bounded, weight};

@@ -2,8 +2,12 @@
 ghost use Rattle.std.specs.Prelude.{◌≡◌, ◌-◌, ◌^◌, min};
 ghost use Rattle.ad_value.specs.Plain.{plain, plains, plains_of};
 ghost use Rattle.ad_value.specs.Operators.{weight_of, weights_of};
+ghost use Rattle.ad_value.specs.Limits.{bounded};
 
 use crate::{Value, Values};
+
+// The greatest weight of a list literal and of a function's result.
+const WEIGHT_LIMIT: u64 = 65536;
 
 /// The weight of a value: 1, and the bytes of a text, and the weights of a list's elements; 2^64 - 1 where that is more.
 #[cycle(weight)]
@@ -27,4 +31,14 @@ fn weight_of_items(values: &Values) -> u64
         total = total.saturating_add(weight(item));
     }
     total
+}
+
+/// The value, or Error in its place where it weighs more than 65,536, as the results of functions and list literals do.
+pub fn bounded(value: Value) -> Value
+    ensures { plain result ≡ bounded (plain value) }
+{
+    if weight(&value) > WEIGHT_LIMIT {
+        return Value::Error;
+    }
+    value
 }

@@ -4,6 +4,8 @@ pub mod Entries
 pub mod Frames
 pub mod Inline
 pub mod Names
+pub mod Phrases
 pub mod Placed
+pub mod Requests
 pub mod Table
 pub mod Tree

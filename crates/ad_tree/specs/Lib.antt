@@ -7,5 +7,6 @@ pub mod Names
 pub mod Phrases
 pub mod Placed
 pub mod Requests
+pub mod Special
 pub mod Table
 pub mod Tree

@@ -1,5 +1,6 @@
 pub mod Ad
 pub mod Draft
+pub mod Enclosing
 pub mod Entries
 pub mod Frames
 pub mod Inline

@@ -28,3 +28,25 @@ pub(crate) fn compares(op: BinOp, a: &Lit, b: &Lit) -> bool
         _ => values_compare(op, a, b),
     }
 }
+
+// Two texts, which the comparisons take without their case, and `is` with it.
+fn texts_compare(op: BinOp, a: &[u8], b: &[u8]) -> bool
+    ensures { result ≡ is_true (binary_value op (plain_of_lit (Lit.Str a.now)) (plain_of_lit (Lit.Str b.now))) }
+{
+    match op {
+        BinOp::Same => a == b,
+        BinOp::NotSame => a != b,
+        BinOp::Equal => order_folded(a, b).is_eq(),
+        BinOp::Unequal => order_folded(a, b).is_ne(),
+        BinOp::Less => order_folded(a, b).is_lt(),
+        BinOp::AtMost => order_folded(a, b).is_le(),
+        BinOp::Greater => order_folded(a, b).is_gt(),
+        BinOp::AtLeast => order_folded(a, b).is_ge(),
+        _ => false,
+    }
+}
+
+// A text and a literal of another kind, of which only `isnt` is true.
+fn is_unlike(op: BinOp) -> bool {
+    matches!(op, BinOp::NotSame)
+}

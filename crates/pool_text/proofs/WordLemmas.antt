@@ -2,7 +2,7 @@
 use Rattle.std.proofs.Common.{◌≡◌, ℕ, ◌-◌, ◌≤◌, List, [], ◌∷◌, ◌++◌, length, take, refl, sym, ◌∙◌, ap, inl, inr, arith, length-append}
 use Rattle.std.proofs.Math.Seq.{take-append_seam}
 use Rattle.std.proofs.lemmas.Bool.{cases_Bool}
-use Rattle.pool_script.specs.Words.{is_blank, past_word, word_of}
+use Rattle.pool_text.specs.Words.{is_blank, past_word, word_of}
 
 -- the word and what follows it are the bytes
 pub word_of-past_word : (bytes : List ℕ) → word_of bytes ++ past_word bytes ≡ bytes

@@ -36,6 +36,7 @@ module _ (fs : List Frame) (lower : (f parent : ℕ) → parent_of fs f ≡ Some
       none-above : (n : ℕ) → first_expr fs name (upward n fs None) ≡ None
       none-above zero = refl
       none-above (suc n) = refl
+
       by : (parent : Option ℕ) → parent_of fs f ≡ parent → first_expr fs name (upward f fs parent) ≡ enclosed_any fs name parent
       by None is = none-above f
       by (Some p) is = ap (first_expr fs name) (upward-more f (suc p) p (lower f p is) (omega arith))

@@ -2,15 +2,15 @@
 //! without an evaluation.
 #![tactic(auto)]
 
-mod decided;
 mod enclosed;
-mod plan;
+mod planning;
 mod probe;
+mod ruling;
 mod side;
 mod test;
 #[cfg(test)]
 mod tests;
 
-pub use decided::{decided, rules_out};
-pub use plan::plan;
+pub use planning::plan;
+pub use ruling::{decided, rules_out};
 pub use test::{Test, Tests};

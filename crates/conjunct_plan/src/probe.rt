@@ -47,7 +47,7 @@ impl<'a> Probe<'a> {
 
     /// The name of the attribute that it asks for.
     pub(crate) fn asked(self) -> &'a Text
-        ensures { result.now ≡ asked (test_seen self) }
+        ensures { result.now ≡ asked (test_seen self.entry) }
     {
         match self {
             Probe::Truth(name) => name,
@@ -57,7 +57,7 @@ impl<'a> Probe<'a> {
 
     /// The same test with a name and a literal of its own.
     pub(crate) fn to_test(self) -> Result<Test, OutOfMemory>
-        ensures { IfOk result (λ test. test ≡ test_seen self) }
+        ensures { IfOk result (λ test. test ≡ test_seen self.entry) }
     {
         match self {
             Probe::Truth(name) => Ok(Test::Truth { name: name.copy()? }),
@@ -111,7 +111,7 @@ pub(crate) fn probe_of<'a>(
 
 // An attribute of the other side alone.
 fn truth_of<'a>(side: Side<'a>) -> Option<Probe<'a>>
-    ensures { option_map test_seen result ≡ truth_of (side_seen side) }
+    ensures { option_map test_seen result ≡ truth_of (side_seen side.entry) }
 {
     match side {
         Side::Named(name) => Some(Probe::Truth(name)),
@@ -121,7 +121,7 @@ fn truth_of<'a>(side: Side<'a>) -> Option<Probe<'a>>
 
 // An attribute of the other side compared with a literal.
 fn comparison_of<'a>(op: BinOp, left: Side<'a>, right: Side<'a>) -> Option<Probe<'a>>
-    ensures { option_map test_seen result ≡ comparison_of op (side_seen left) (side_seen right) }
+    ensures { option_map test_seen result ≡ comparison_of op (side_seen left.entry) (side_seen right.entry) }
 {
     if !is_comparison(op) {
         return None;

@@ -8,8 +8,9 @@ ghost use Rattle.conjunct_plan.specs.Seen.{side_seen};
 ghost use Rattle.conjunct_plan.specs.Tests.{bare_side, labels_of, own_side, side_of};
 
 use crate::enclosed::{enclosed, own};
-use ad_tree::{Ad, Expr, Ports, Scope};
+use ad_tree::{Ad, Expr, Port, Ports, Scope};
 use pool_text::{Lit, Text, same_folded};
+use std::convert::AsSlice;
 
 /// An attribute of the other side, a literal, or anything else.
 #[derive(Clone, Copy)]
@@ -37,7 +38,7 @@ pub(crate) fn side_of<'a>(ad: &'a Ad, frame: u32, ports: &Ports, expr: &'a Expr)
 
 // An own attribute whose expression is a literal.
 fn own_side<'a>(found: Option<&'a Expr>) -> Side<'a>
-    ensures { side_seen result ≡ own_side (option_map (λ e. tree e.now) found) }
+    ensures { side_seen result ≡ own_side (option_map (λ e. tree e.now) found.entry) }
 {
     match found {
         Some(Expr::Literal(lit)) => Side::Constant(lit),
@@ -47,25 +48,27 @@ fn own_side<'a>(found: Option<&'a Expr>) -> Side<'a>
 
 // A bare name, by what it has in the own frames.
 fn bare_side<'a>(ports: &Ports, name: &'a Text, found: Option<&'a Expr>) -> Side<'a>
-    ensures { side_seen result ≡ bare_side (labels_of ports.now) name.now (option_map (λ e. tree e.now) found) }
+    ensures { side_seen result ≡ bare_side (labels_of ports.now) name.now (option_map (λ e. tree e.now) found.entry) }
 {
     if found.is_some() {
         return own_side(found);
     }
-    if has_label(ports, name.bytes()) {
+    if has_label(ports.as_slice(), name.bytes()) {
         return Side::Neither;
     }
     Side::Named(name)
 }
 
 // Whether one of the ports has the name as its label.
-fn has_label(ports: &Ports, name: &[u8]) -> bool
+fn has_label(ports: &[Port], name: &[u8]) -> bool
     ensures { result ≡ has_name name.now (labels_of ports.now) }
 {
-    for i in 0..ports.len() {
-        if same_folded(ports.at(i).label.bytes(), name) {
+    let mut rest = ports;
+    while let [port, others @ ..] = rest {
+        if same_folded(port.label.bytes(), name) {
             return true;
         }
+        rest = others;
     }
     false
 }

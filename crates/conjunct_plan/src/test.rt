@@ -6,7 +6,9 @@ use pool_text::{BinOp, Items, Lit, Text};
 #[derive(Debug, Drop)]
 pub enum Test {
     /// The attribute itself has to be true.
-    Truth { name: Text },
+    Truth {
+        name: Text,
+    },
     /// The attribute is compared with a literal; `attr_left` says that the attribute stands to the left of the operator.
     Compare {
         name: Text,

@@ -13,7 +13,7 @@ ghost use Rattle.conjunct_plan.specs.Tests.{conjuncts, conjuncts_of_all, labels_
 
 use crate::Test;
 use crate::enclosed::enclosed;
-use crate::plan::requirement;
+use crate::planning::requirement;
 use crate::probe::{Probe, probe_of};
 use ad_tree::{Ad, Expr, Exprs, Ports};
 use ad_value::{Value, binary_of_literals};
@@ -83,7 +83,7 @@ fn one_of_all_rules_out(
 // Whether a test is decided against.
 fn is_ruled_out(probe: Probe<'_>, ad: &Ad, frame: u32) -> bool
     requires { frame < length (ad_frames ad.now) }
-    ensures { result ≡ is_decided (test_seen probe) (ad_frames ad.now) frame }
+    ensures { result ≡ is_decided (test_seen probe.entry) (ad_frames ad.now) frame }
 {
     match enclosed(ad, frame, probe.asked().bytes()) {
         None => !holds(probe, &Lit::Undefined),
@@ -94,7 +94,7 @@ fn is_ruled_out(probe: Probe<'_>, ad: &Ad, frame: u32) -> bool
 
 // Whether the test is true where its attribute is this literal.
 fn holds(probe: Probe<'_>, found: &Lit) -> bool
-    ensures { result ≡ is_true (value_with (test_seen probe) (plain_of_lit found.now)) }
+    ensures { result ≡ is_true (value_with (test_seen probe.entry) (plain_of_lit found.now)) }
 {
     match probe {
         Probe::Truth(_) => matches!(found, Lit::Boolean(true)),

@@ -1,0 +1,2 @@
+// Tests worked out by hand.
+use crate::*;

@@ -1,1 +1,2 @@
 mod EnclosedLemmas
+mod TestLemmas

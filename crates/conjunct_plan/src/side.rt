@@ -2,7 +2,7 @@
 ghost use Rattle.std.specs.Prelude.{◌≡◌, ◌<◌, length, map};
 ghost use Rattle.std.specs.Option.{option_map};
 ghost use Rattle.ad_tree.specs.Ad.{ad_frames};
-ghost use Rattle.ad_tree.specs.Names.{has_name};
+ghost use Rattle.ad_tree.specs.Names.{has_name, same_name};
 ghost use Rattle.ad_tree.specs.Tree.{tree};
 ghost use Rattle.conjunct_plan.specs.Seen.{side_seen};
 ghost use Rattle.conjunct_plan.specs.Tests.{bare_side, labels_of, own_side, side_of};
@@ -63,12 +63,17 @@ fn bare_side<'a>(ports: &Ports, name: &'a Text, found: Option<&'a Expr>) -> Side
 fn has_label(ports: &[Port], name: &[u8]) -> bool
     ensures { result ≡ has_name name.now (labels_of ports.now) }
 {
-    let mut rest = ports;
-    while let [port, others @ ..] = rest {
-        if same_folded(port.label.bytes(), name) {
+    for i in 0..ports.len() {
+        if is_label(&ports[i], name) {
             return true;
         }
-        rest = others;
     }
     false
+}
+
+// Whether the port has the name as its label.
+fn is_label(port: &Port, name: &[u8]) -> bool
+    ensures { result ≡ same_name port.now.label name.now }
+{
+    same_folded(port.label.bytes(), name)
 }

@@ -2,3 +2,4 @@ pub mod Pieces
 pub mod Printed
 pub mod Quotes
 pub mod Values
+pub mod Writing

@@ -1,0 +1,7 @@
+mod NestTrees
+mod QuoteLemmas
+mod ReadLemmas
+mod ReadTrees
+mod StandLemmas
+mod StandTrees
+mod WordLemmas

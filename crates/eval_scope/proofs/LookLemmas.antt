@@ -7,11 +7,12 @@ use Rattle.pool_text.specs.declared.language.Pos.{Pos}
 use Rattle.ad_tree.specs.declared.ad.Ad.{Ad}
 use Rattle.ad_tree.specs.declared.request.Port.{Port}
 use Rattle.ad_tree.specs.Ad.{ad_frames}
+use Rattle.ad_tree.specs.Enclosing.{upward}
 use Rattle.ad_tree.specs.Names.{same_name}
 use Rattle.ad_tree.specs.Frames.{Frame, attributes_at, names_in, parent_of}
 use Rattle.eval_scope.specs.declared.found.Found.{Found}
 use Rattle.eval_scope.specs.declared.world.World.{World}
-use Rattle.eval_scope.specs.Look.{Candidate, in_frame, label_of, IsThere, attribute_in, enclosing, enclosing_any, first_found, found_at, found_attribute, labels_from, or_else, upward}
+use Rattle.eval_scope.specs.Look.{Candidate, in_frame, label_of, IsThere, attribute_in, enclosing, enclosing_any, first_found, found_at, found_attribute, labels_from, or_else}
 use Rattle.eval_scope.specs.Shown.{world_of}
 use Rattle.eval_scope.specs.World.{PlainWorld, expr_of, frames_of_ad}
 

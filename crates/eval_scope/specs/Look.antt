@@ -4,6 +4,8 @@ use Rattle.pool_text.specs.declared.language.AdPlace.{AdPlace}
 use Rattle.pool_text.specs.declared.language.Pos.{Pos}
 use Rattle.ad_tree.specs.declared.tree.Scope.{Scope}
 use Rattle.ad_tree.specs.declared.request.Port.{Port}
+use Rattle.ad_tree.specs.Enclosing.{enclosing_frames}
+use Rattle.ad_tree.specs.Special.{attribute_named}
 use Rattle.ad_tree.specs.Names.{same_name}
 use Rattle.ad_tree.specs.Frames.{Frame, names_in, parent_of}
 use Rattle.eval_scope.specs.declared.found.Found.{Found}
@@ -17,7 +19,7 @@ pub data Candidate : Type 0 where
 -- the attribute of that name in the frame at a place, none where that frame has no such name
 abbrev pub attribute_in : PlainWorld → AdPlace → List ℕ → Option Pos
 attribute_in w p name =
-    option_map (λ k. record { ad = p.ad; frame = p.frame; attr = k }) (position (same_name name) (names_in (frames_of_ad w p.ad) p.frame))
+    option_map (λ k. record { ad = p.ad; frame = p.frame; attr = k }) (attribute_named (frames_of_ad w p.ad) p.frame name)
 
 -- what a name finds where an attribute of that name may be
 abbrev pub found_attribute : Option Pos → Found
@@ -39,15 +41,9 @@ abbrev pub first_found : PlainWorld → List ℕ → List Candidate → Found
 first_found w name [] = Found.Nothing
 first_found w name (c ∷ cs) = or_else (found_at w name c) (first_found w name cs)
 
--- the frames of an ad from one on, each followed by its parent, n at most
-abbrev pub upward : ℕ → List Frame → Option ℕ → List ℕ
-upward zero fs f = []
-upward (suc n) fs None = []
-upward (suc n) fs (Some f) = f ∷ upward n fs (parent_of fs f)
-
--- the frame at a place, its parent, and so on up to the root; parents are lower, so there are at most f + 1 of them
+-- the frame at a place, its parent, and so on up to the root
 abbrev pub enclosing : PlainWorld → AdPlace → List Candidate
-enclosing w p = map (λ f. in_frame (record { ad = p.ad; frame = f })) (upward (suc p.frame) (frames_of_ad w p.ad) (Some p.frame))
+enclosing w p = map (λ f. in_frame (record { ad = p.ad; frame = f })) (enclosing_frames (frames_of_ad w p.ad) p.frame)
 
 -- the labels of the ports at which ads are docked, for the ads from k on
 abbrev pub labels_from : ℕ → List Port → List (List Frame) → List Candidate

@@ -1,5 +1,5 @@
 -- What a name finds: the first of its candidates that has it.
-use Rattle.std.specs.Prelude.{ℕ, zero, suc, List, [], ◌∷◌, ◌++◌, map, Option, Some, None, option_map, position, cond, IsSome}
+use Rattle.std.specs.Prelude.{ℕ, zero, suc, List, [], ◌∷◌, ◌++◌, map, Option, Some, None, option_map, cond, IsSome}
 use Rattle.pool_text.specs.declared.language.AdPlace.{AdPlace}
 use Rattle.pool_text.specs.declared.language.Pos.{Pos}
 use Rattle.ad_tree.specs.declared.tree.Scope.{Scope}
@@ -7,7 +7,7 @@ use Rattle.ad_tree.specs.declared.request.Port.{Port}
 use Rattle.ad_tree.specs.Enclosing.{enclosing_frames}
 use Rattle.ad_tree.specs.Special.{attribute_named}
 use Rattle.ad_tree.specs.Names.{same_name}
-use Rattle.ad_tree.specs.Frames.{Frame, names_in, parent_of}
+use Rattle.ad_tree.specs.Frames.{Frame}
 use Rattle.eval_scope.specs.declared.found.Found.{Found}
 use Rattle.eval_scope.specs.World.{PlainWorld, expr_of, frames_of_ad, target}
 

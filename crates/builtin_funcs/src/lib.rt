@@ -1,0 +1,4 @@
+//! The functions of the ClassAd language over values.
+#![tactic(auto)]
+
+mod function;

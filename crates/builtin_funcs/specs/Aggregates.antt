@@ -1,5 +1,5 @@
 -- The rows for lists of numbers. A Boolean counts as 1 or 0.
-use Rattle.std.specs.Prelude.{Bool, true, false, not, ℤ, pos, ◌+ℤ◌, List, [], ◌∷◌, if◌then◌else◌}
+use Rattle.std.specs.Prelude.{Bool, true, false, not, ℤ, pos, ◌+ℤ◌, List, [], ◌∷◌, Option, None, Some, if◌then◌else◌}
 use Rattle.std.specs.Int.{int_max, int_min}
 use Rattle.std.specs.List.{filter_map, fold, list_all, list_any}
 use Rattle.ad_value.specs.Plain.{Plain, undefined, error, boolean, integer, list, elements}
@@ -31,6 +31,12 @@ least (n ∷ ns) = integer (fold int_min n ns)
 abbrev pub greatest : List ℤ → Plain
 greatest [] = undefined
 greatest (n ∷ ns) = integer (fold int_max n ns)
+
+-- a number so far and one more, where each may be absent
+abbrev pub with_number : (ℤ → ℤ → ℤ) → Option ℤ → Option ℤ → Option ℤ
+with_number choose (Some m) (Some n) = Some (choose m n)
+with_number choose None number = number
+with_number choose so_far None = so_far
 
 -- a row for a list alone
 abbrev pub on_list : (List Plain → Plain) → Plain → Plain

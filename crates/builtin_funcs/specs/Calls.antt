@@ -1,5 +1,5 @@
 -- Calls: the rules that hold for the whole table.
-use Rattle.std.specs.Prelude.{ℕ, Bool, false, ◌&&◌, List, [], ◌∷◌, length, Option, if◌then◌else◌}
+use Rattle.std.specs.Prelude.{ℕ, Bool, false, ◌&&◌, List, [], length, drop, take, if◌then◌else◌}
 use Rattle.std.specs.List.{list_any}
 use Rattle.std.specs.Option.{option_map_or}
 use Rattle.ad_value.specs.Plain.{Plain, undefined, error}
@@ -19,9 +19,9 @@ strict_arguments Function.IsBoolean args = []
 strict_arguments Function.IsList args = []
 strict_arguments Function.IsClassad args = []
 strict_arguments Function.IfThenElse args = []
-strict_arguments Function.IdenticalMember (x ∷ l ∷ []) = l ∷ []
-strict_arguments Function.AnyCompare (op ∷ l ∷ x ∷ []) = op ∷ l ∷ []
-strict_arguments Function.AllCompare (op ∷ l ∷ x ∷ []) = op ∷ l ∷ []
+strict_arguments Function.IdenticalMember args = drop 1 args
+strict_arguments Function.AnyCompare args = take 2 args
+strict_arguments Function.AllCompare args = take 2 args
 strict_arguments function args = args
 
 -- Error wins over Undefined, and Undefined over the row

@@ -4,28 +4,28 @@ use Rattle.std.specs.Str.{bytes_eq}
 use Rattle.pool_text.specs.Folding.{folded}
 use Rattle.builtin_funcs.specs.declared.function.Function.{Function}
 
--- the first function of a table that has the name
+-- the first function of a table whose name is the same, in capital or small letters
 abbrev pub function_in : List (List ℕ × Function) → List ℕ → Option Function
 function_in [] name = None
-function_in (entry ∷ table) name = if bytes_eq entry.0 name then Some entry.1 else function_in table name
+function_in (entry ∷ table) name = if bytes_eq (folded entry.0) (folded name) then Some entry.1 else function_in table name
 
--- the functions by their names, folded
+-- the functions by their names
 abbrev pub function_names : List (List ℕ × Function)
 function_names =
     (codes "sum", Function.Sum) ∷ (codes "min", Function.Min) ∷ (codes "max", Function.Max) ∷ (codes "int", Function.Int)
     ∷ (codes "size", Function.Size) ∷ (codes "bool", Function.Bool) ∷ (codes "time", Function.Time)
-    ∷ (codes "islist", Function.IsList) ∷ (codes "member", Function.Member) ∷ (codes "strcat", Function.Strcat)
+    ∷ (codes "isList", Function.IsList) ∷ (codes "member", Function.Member) ∷ (codes "strcat", Function.Strcat)
     ∷ (codes "substr", Function.Substr) ∷ (codes "strcmp", Function.Strcmp) ∷ (codes "string", Function.String)
-    ∷ (codes "iserror", Function.IsError) ∷ (codes "stricmp", Function.Stricmp) ∷ (codes "toupper", Function.ToUpper)
-    ∷ (codes "tolower", Function.ToLower) ∷ (codes "isstring", Function.IsString) ∷ (codes "isinteger", Function.IsInteger)
-    ∷ (codes "isboolean", Function.IsBoolean) ∷ (codes "isclassad", Function.IsClassad) ∷ (codes "ifthenelse", Function.IfThenElse)
-    ∷ (codes "anycompare", Function.AnyCompare) ∷ (codes "allcompare", Function.AllCompare) ∷ (codes "isundefined", Function.IsUndefined)
-    ∷ (codes "stringlistsize", Function.StringListSize) ∷ (codes "identicalmember", Function.IdenticalMember)
-    ∷ (codes "stringlistmember", Function.StringListMember) ∷ []
+    ∷ (codes "isError", Function.IsError) ∷ (codes "stricmp", Function.Stricmp) ∷ (codes "toUpper", Function.ToUpper)
+    ∷ (codes "toLower", Function.ToLower) ∷ (codes "isString", Function.IsString) ∷ (codes "isInteger", Function.IsInteger)
+    ∷ (codes "isBoolean", Function.IsBoolean) ∷ (codes "isClassad", Function.IsClassad) ∷ (codes "ifThenElse", Function.IfThenElse)
+    ∷ (codes "anyCompare", Function.AnyCompare) ∷ (codes "allCompare", Function.AllCompare) ∷ (codes "isUndefined", Function.IsUndefined)
+    ∷ (codes "stringListSize", Function.StringListSize) ∷ (codes "identicalMember", Function.IdenticalMember)
+    ∷ (codes "stringListMember", Function.StringListMember) ∷ []
 
--- the function of a name, in which capital and small letters are the same
+-- the function of a name
 unfoldable pub function_named : List ℕ → Option Function
-function_named name = function_in function_names (folded name)
+function_named name = function_in function_names name
 
 -- the function takes so many arguments
 abbrev pub takes : Function → ℕ → Bool

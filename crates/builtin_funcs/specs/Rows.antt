@@ -13,7 +13,7 @@ use Rattle.builtin_funcs.specs.Texts.{bool_value, int_value, on_text, part_value
 -- the bytes of a String or the elements of a List; the attributes of an Ad aren't in its value
 abbrev pub size_value : Plain → Plain
 size_value (text bytes) = integer (pos (length bytes))
-size_value (list items) = integer (pos (length (elements items)))
+size_value (list items) = integer_or_error (pos (length (elements items)))
 size_value other = error
 
 -- the value of `c ? a : b`

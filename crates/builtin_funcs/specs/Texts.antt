@@ -37,12 +37,16 @@ abbrev pub int_value : Plain → Plain
 int_value (text bytes) = integer_in bytes
 int_value x = on_number integer (number_of x)
 
--- a Boolean, an Integer or one of the Strings `true` and `false` as a Boolean
+-- the Boolean that `true` or `false` names, in capital or small letters
+abbrev pub boolean_in : List ℕ → Plain
+boolean_in bytes =
+    if bytes_eq (folded bytes) (codes "true") then boolean true else if bytes_eq (folded bytes) (codes "false") then boolean false else error
+
+-- a Boolean, whether an Integer isn't 0, or the Boolean that a String names
 abbrev pub bool_value : Plain → Plain
 bool_value (boolean b) = boolean b
 bool_value (integer n) = boolean (not (int_eq n (pos 0)))
-bool_value (text bytes) =
-    if bytes_eq (folded bytes) (codes "true") then boolean true else if bytes_eq (folded bytes) (codes "false") then boolean false else error
+bool_value (text bytes) = boolean_in bytes
 bool_value other = error
 
 -- ---- texts

@@ -1,6 +1,7 @@
 pub mod Alone
 pub mod Blanks
 pub mod Content
+pub mod FaultNumbers
 pub mod Faults
 pub mod Lexeme
 pub mod Numbers

@@ -6,26 +6,45 @@ use pool_text::OutOfMemory;
 use std::alloc::{AllocError, AllocFailed};
 use thiserror::Error;
 
-/// The kinds of lexical faults, with their numbers.
+/// The kinds of lexical faults.
 #[derive(Clone, Copy, Debug, PartialEq, Eq)]
 pub enum LexKind {
     /// A byte that begins no token, white space or comment, at that byte; byte 0 in a string or quoted name, at that
     /// byte; or an empty quoted name, at its opening quote.
-    Character = 1,
+    Character,
     /// A line feed or the end of the text before the closing quote, at the opening quote.
-    StringEnd = 2,
+    StringEnd,
     /// A backslash that no escape follows, or an octal escape of 0 or over 127, at the backslash.
-    Escape = 3,
+    Escape,
     /// No hexadecimal digit behind `0x`, an octal number with 8 or 9, a value over 9223372036854775807, or a letter,
     /// digit or `_` directly behind the number, at its first digit.
-    Number = 4,
+    Number,
     /// `.`, `e` or `E` directly behind a number that isn't hexadecimal, at its first digit, or a digit directly behind
     /// `.`, at the dot.
-    Decimal = 5,
+    Decimal,
     /// `/*` with no `*/` behind it, at the slash.
-    CommentEnd = 6,
+    CommentEnd,
     /// The text isn't UTF-8, at the first byte of the ill-formed part.
-    Encoding = 7,
+    Encoding,
+}
+
+impl LexKind {
+    ghost use Rattle.ad_lexer.specs.FaultNumbers.{kind_number};
+
+    /// The number by which replies name the kind, from 1 to 7.
+    pub fn number(&self) -> u8
+        ensures { result ≡ kind_number self.now }
+    {
+        match self {
+            LexKind::Character => 1,
+            LexKind::StringEnd => 2,
+            LexKind::Escape => 3,
+            LexKind::Number => 4,
+            LexKind::Decimal => 5,
+            LexKind::CommentEnd => 6,
+            LexKind::Encoding => 7,
+        }
+    }
 }
 
 /// Why `lex` gives no tokens.

@@ -23,7 +23,7 @@ fn told(alloc: Global, text: &[u8]) -> Result<String, Fail>
             }
         }
         Err(LexFault::At { kind, place }) => {
-            let one = format!(in alloc; "fault {} at {place}", kind as u8)?;
+            let one = format!(in alloc; "fault {} at {place}", kind.number())?;
             out.push_str(one.as_str())?;
         }
         Err(LexFault::OutOfMemory) => out.push_str("out of memory")?,

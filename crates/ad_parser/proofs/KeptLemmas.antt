@@ -1,7 +1,7 @@
 -- What a text spells keeps what every parsed tree keeps, and so does what a parse answers, as it is spelled.
 use Rattle.std.proofs.Common.{◌≡◌, ℕ, List, ◌∷◌, Ok, sym, ◌∙◌, ap, subst}
 use Rattle.ad_tree.specs.declared.ad.Ad.{Ad}
-use Rattle.ad_tree.specs.declared.ad.Phrase.{Phrase}
+use Rattle.ad_tree.specs.declared.phrase.Phrase.{Phrase}
 use Rattle.ad_tree.specs.Ad.{ad_frames}
 use Rattle.ad_tree.specs.Frames.{Frame, empty_frame}
 use Rattle.ad_tree.specs.Inline.{Inline, Defs, inner, no_defs, frames, spelled, spelled_tree, settled, settled_defs}

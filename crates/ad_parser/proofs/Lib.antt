@@ -14,6 +14,7 @@ pub mod MerelyLemmas
 pub mod MadeWordLemmas
 mod NestingLemmas
 mod NodeLemmas
+pub mod Outcomes
 mod ParseLemmas
 mod QuoteLemmas
 mod Readings
@@ -21,5 +22,6 @@ mod RuleLemmas
 pub mod SettledLemmas
 mod SoundLemmas
 pub mod UniqueLemmas
+mod TableLemmas
 mod WholeLemmas
 mod WordLemmas

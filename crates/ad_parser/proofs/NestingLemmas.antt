@@ -3,7 +3,8 @@ use Rattle.std.proofs.Common.{arith, ◌≡◌, ℕ, zero, suc, ◌+◌, ◌<◌
 use Rattle.std.proofs.lemmas.Bool.Decides.{nat_tests}
 use Rattle.ad_parser.specs.declared.mark.Mark.{Mark}
 use Rattle.ad_parser.specs.Limits.{nests_deeper, opening, closing}
-use Rattle.ad_parser.specs.Words.{Word, mark_in}
+use Rattle.ad_parser.specs.HeldMarks.{mark_in}
+use Rattle.ad_parser.specs.Words.{Word}
 
 module _ (opened closed : ℕ) where
   next-by : (i : ℕ) (ws : List Word) (ms : List (Option Mark)) (opens closes : ℕ) → map mark_in ws ≡ ms → i < length ms

@@ -15,7 +15,8 @@ use Rattle.ad_parser.specs.Parts.{cut_last, cut_last_def, cut_before, cut_define
 use Rattle.ad_parser.specs.Rules.{Rule, Reading, and_then, name_at, close_paren, close_bracket, close_brace, several_behind, several, arguments, elements, assigned, definitions_behind, definitions_at, suffixes, infix_at, operation_or, operations, level_at, expression, colon, choice_behind, conditionals, cut_one, cut_two, cut_three, cut_next, cut_def}
 use Rattle.ad_parser.specs.Shapes.{leaf, over_one, over_two, over_three, Infix, joined}
 use Rattle.ad_parser.specs.Steps.{Gives, IsLone, valued, chosen, choices, collected, collected_definitions}
-use Rattle.ad_parser.specs.Words.{Word, plain, quoted, constant, mark, ends, ends_at}
+use Rattle.ad_parser.specs.HeldMarks.{ends, ends_at}
+use Rattle.ad_parser.specs.Words.{Word, plain, quoted, constant, mark}
 use Rattle.ad_parser.proofs.ChainLemmas.{choices-nil, choices-push, collected-push, cut_before-push, collected_definitions-push, cut_defined_before-push}
 
 -- a mark doesn't stand in front of words

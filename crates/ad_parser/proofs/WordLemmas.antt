@@ -12,7 +12,8 @@ use Rattle.ad_lexer.specs.declared.token.TokenKind.TheVariants as kinds
 use Rattle.ad_parser.specs.declared.mark.Mark.{Mark}
 use Rattle.ad_parser.specs.Meaning.{AreSpelled}
 use Rattle.ad_parser.specs.Quotes.{IsQuotation}
-use Rattle.ad_parser.specs.Words.{Word, plain, quoted, constant, mark, word, words, front, front_mark, mark_in, unmarked, known_words}
+use Rattle.ad_parser.specs.HeldMarks.{front, front_mark, mark_in, unmarked, known_words}
+use Rattle.ad_parser.specs.Words.{Word, plain, quoted, constant, mark, word, words}
 
 -- digits only add to a value
 pub digits_grow : (radix n : ℕ) (cs : List ℕ) → 1 ≤ radix → n ≤ digits_value_after radix n cs

@@ -3,7 +3,7 @@ use Rattle.std.specs.Prelude.{◌≡◌, ℕ, suc, ◌≤◌, ◌<◌, true, fal
 use Rattle.ad_lexer.specs.Lexeme.{Lexeme}
 use Rattle.ad_lexer.specs.Tokens.{Tokens, Fault}
 use Rattle.ad_tree.specs.declared.ad.Ad.{Ad}
-use Rattle.ad_tree.specs.declared.ad.Phrase.{Phrase}
+use Rattle.ad_tree.specs.declared.phrase.Phrase.{Phrase}
 use Rattle.ad_tree.specs.Ad.{ad_frames}
 use Rattle.ad_tree.specs.Inline.{Inline, Defs, inner, count, height, definitions, ad_of, phrase_of, phrase_tree}
 use Rattle.ad_tree.specs.Tree.{tree}

@@ -4,7 +4,8 @@ use Rattle.std.specs.Option.{option_and_then}
 use Rattle.ad_tree.specs.Inline.{Inline}
 use Rattle.ad_parser.specs.Rules.{Rule, Reading, and_then, operations, level_at}
 use Rattle.ad_parser.specs.Shapes.{infix_of}
-use Rattle.ad_parser.specs.Words.{Word, front_mark}
+use Rattle.ad_parser.specs.HeldMarks.{front_mark}
+use Rattle.ad_parser.specs.Words.{Word}
 
 -- how loosely the operator between operands binds that is the first word
 abbrev pub looseness_at : List Word → Option ℕ

@@ -5,12 +5,14 @@ pub mod Counts
 pub mod Faults
 pub mod Grammar
 pub mod Heights
+pub mod HeldMarks
 pub mod Levels
 pub mod Limits
 pub mod Made
 pub mod Meaning
 pub mod Nodes
 pub mod OneAnswer
+pub mod Outcomes
 pub mod Parts
 pub mod Quotes
 pub mod Rules

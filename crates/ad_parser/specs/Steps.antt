@@ -14,7 +14,8 @@ use Rattle.ad_parser.specs.Limits.{height_limit}
 use Rattle.ad_parser.specs.Parts.{cut_last_def, cut_before, cut_defined_before}
 use Rattle.ad_parser.specs.Rules.{Reading, and_then, prefix_word, cut_one, cut_three, cut_def, named_in, definitions_behind}
 use Rattle.ad_parser.specs.Shapes.{leaf, over_one, over_three}
-use Rattle.ad_parser.specs.Words.{Word, constant, mark, known_words, ends_at, scope_of}
+use Rattle.ad_parser.specs.HeldMarks.{known_words, ends_at}
+use Rattle.ad_parser.specs.Words.{Word, constant, mark, scope_of}
 
 -- the words that are left
 abbrev pub left : Reader → List Word

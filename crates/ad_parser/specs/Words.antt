@@ -1,6 +1,5 @@
 -- The words of the grammar: what a token means to the parser.
-use Rattle.std.specs.Prelude.{ℕ, Bool, true, false, pos, List, [], ◌∷◌, map, codes, Option, None, Some, if◌then◌else◌}
-use Rattle.std.specs.Option.{option_and_then}
+use Rattle.std.specs.Prelude.{ℕ, true, false, pos, List, [], ◌∷◌, map, codes, Option, None, Some, if◌then◌else◌}
 use Rattle.std.specs.Str.{bytes_eq}
 use Rattle.pool_text.specs.Folding.{folded}
 use Rattle.pool_text.specs.declared.language.BinOp.TheVariants.{BitOr, BitXor, BitAnd, Equal, Unequal, Same, NotSame, Less, AtMost, Greater, AtLeast, ShiftLeft, ShiftRight, ShiftZero, Add, Sub, Mul, Div, Rem}
@@ -78,38 +77,3 @@ word token = word_of_kind token.kind token.text
 -- the words of tokens
 abbrev pub words : List Lexeme → List Word
 words tokens = map word tokens
-
--- the first word, and the mark that a word is
-abbrev pub front : List Word → Option Word
-front [] = None
-front (w ∷ ws) = Some w
-
-abbrev pub mark_in : Word → Option Mark
-mark_in (mark m) = Some m
-mark_in w = None
-
-abbrev pub front_mark : List Word → Option Mark
-front_mark ws = option_and_then mark_in (front ws)
-
--- a mark behind an expression, with which no expression goes on
-abbrev pub ends : Option Mark → Bool
-ends (Some Semicolon) = true
-ends (Some Comma) = true
-ends (Some CloseBracket) = true
-ends (Some CloseBrace) = true
-ends (Some CloseParen) = true
-ends m = false
-
-abbrev pub ends_at : List Word → Bool
-ends_at ws = ends (front_mark ws)
-
--- the word of a token that is known to be no mark
-abbrev pub unmarked : Word → Word
-unmarked (mark m) = constant Undefined
-unmarked w = w
-
--- the words of tokens of which it is known which marks they are
-abbrev pub known_words : List (Option Mark) → List Lexeme → List Word
-known_words (Some m ∷ ms) (token ∷ tokens) = mark m ∷ known_words ms tokens
-known_words (None ∷ ms) (token ∷ tokens) = unmarked (word token) ∷ known_words ms tokens
-known_words ms tokens = []

@@ -1,5 +1,8 @@
 // Laws of the definitions, each on a function that does nothing.
-ghost use Rattle.std.specs.Prelude.{◌≡◌, ◌<◌, ℕ, List, Option, Some, Ok};
+ghost use Rattle.std.specs.Prelude.{◌≡◌, ◌<◌, ℕ, true, List, Option, Some, Result, Ok, IsSome};
+ghost use Rattle.pool_text.specs.Folding.{folded};
+ghost use Rattle.ad_lexer.specs.Symbols.{is_symbol};
+ghost use Rattle.ad_lexer.specs.Words.{is_reserved};
 ghost use Rattle.ad_tree.specs.Ad.{ad_frames};
 ghost use Rattle.ad_tree.specs.Inline.{Inline, Defs, inner, spelled, spelled_tree};
 ghost use Rattle.ad_tree.specs.Tree.{tree};
@@ -7,8 +10,10 @@ ghost use Rattle.ad_parser.specs.Answers.{IsRoot, Spells, IsWithin, frames_of_ex
 ghost use Rattle.ad_parser.specs.Grammar.{IsExpr, IsAd};
 ghost use Rattle.ad_parser.specs.Made.{IsMade, AreMade};
 ghost use Rattle.ad_parser.specs.OneAnswer.{HasOneAnswer};
+ghost use Rattle.ad_parser.specs.Outcomes.{HasAdOutcome, HasExprOutcome};
+ghost use Rattle.ad_parser.specs.declared.fault.ParseFault.{ParseFault};
 ghost use Rattle.ad_parser.specs.Rules.{cut, parsed_expr, parsed_ad};
-ghost use Rattle.ad_parser.specs.Words.{Word};
+ghost use Rattle.ad_parser.specs.Words.{Word, marks, meaning_of, reserved_words};
 
 use ad_tree::{Ad, Phrase};
 
@@ -35,6 +40,20 @@ pub fn words_are_read_by_the_grammar()
 pub fn texts_have_one_answer(text: &[u8])
     ensures expression { HasOneAnswer IsExpr frames_of_expr text.now }
     ensures ad { HasOneAnswer IsRoot frames_of_ad text.now }
+{}
+
+/// So each text has exactly one outcome of a parse: its tree where that is within the limits, and else its fault.
+pub fn texts_have_one_outcome(text: &[u8])
+    ensures expression { (outcome : Result Inline ParseFault) × HasExprOutcome text.now outcome }
+    ensures one_expression { (outcome other : Result Inline ParseFault) → HasExprOutcome text.now outcome → HasExprOutcome text.now other → outcome ≡ other }
+    ensures ad { (outcome : Result Inline ParseFault) × HasAdOutcome text.now outcome }
+    ensures one_ad { (outcome other : Result Inline ParseFault) → HasAdOutcome text.now outcome → HasAdOutcome text.now other → outcome ≡ other }
+{}
+
+/// Each symbol of the lexer is a mark, and each reserved word in any case is a literal or an operator.
+pub fn symbols_and_reserved_words_have_meanings(bytes: &[u8])
+    ensures symbol { is_symbol bytes.now ≡ true → IsSome (meaning_of marks bytes.now) }
+    ensures reserved_word { is_reserved bytes.now ≡ true → IsSome (meaning_of reserved_words (folded bytes.now)) }
 {}
 
 /// The tree of words that can stand in a text has the form that every parsed tree has.

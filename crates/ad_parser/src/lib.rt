@@ -29,7 +29,9 @@ mod word;
 
 pub use fault::ParseFault;
 pub use laws::{
-    parsed_ads_are_kept, parsed_phrases_are_kept, texts_have_one_answer, texts_spell_parsed_trees,
+    parsed_ads_are_kept, parsed_phrases_are_kept, symbols_and_reserved_words_have_meanings,
+    texts_have_one_answer, texts_have_one_outcome, texts_spell_parsed_trees,
     words_are_read_by_the_grammar, words_make_parsed_trees, words_spell_one_tree,
 };
+pub use mark::Mark;
 pub use parse::{parse_ad, parse_expr};

@@ -1,10 +1,10 @@
 // What the parser reads in a token that is a symbol or an operator's word.
 use pool_text::BinOp;
 
-/// A symbol, or one of the words `is` and `isnt`. A `Binary` mark stands between two operands; `+` and `-` may also stand
+/// A symbol of the grammar, or one of the words `is` and `isnt`. A `Binary` mark stands between two operands; `+` and `-` may also stand
 /// before one.
 #[derive(Clone, Copy, Debug, PartialEq, Eq)]
-pub(crate) enum Mark {
+pub enum Mark {
     OpenParen,
     CloseParen,
     OpenBracket,

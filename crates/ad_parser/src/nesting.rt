@@ -1,7 +1,8 @@
 // How many constructs are open at once.
 ghost use Rattle.std.specs.Prelude.{◌≡◌, ◌≤◌, List, map};
 ghost use Rattle.ad_parser.specs.Limits.{nests_too_deep, opening, closing};
-ghost use Rattle.ad_parser.specs.Words.{Word as MeantWord, mark_in};
+ghost use Rattle.ad_parser.specs.HeldMarks.{mark_in};
+ghost use Rattle.ad_parser.specs.Words.{Word as MeantWord};
 
 use crate::mark::Mark;
 

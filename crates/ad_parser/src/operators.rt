@@ -2,7 +2,7 @@
 ghost use Rattle.std.specs.Prelude.{◌≡◌, option_map};
 ghost use Rattle.ad_parser.specs.Parts.{as_infix};
 ghost use Rattle.ad_parser.specs.Shapes.{infix_of, looseness, prefix_of};
-ghost use Rattle.ad_parser.specs.Words.{ends};
+ghost use Rattle.ad_parser.specs.HeldMarks.{ends};
 
 use crate::joining::Joint;
 use crate::mark::Mark;

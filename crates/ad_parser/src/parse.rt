@@ -1,8 +1,10 @@
 // Parsing a text: its tokens, their words, the tree that these spell, and the ad of the tree.
-ghost use Rattle.std.specs.Prelude.{◌≡◌, ◌<◌, ◌+◌, ◌^◌, length, min, Some, IfOk, IfErr};
-ghost use Rattle.ad_tree.specs.Inline.{no_defs};
+ghost use Rattle.std.specs.Prelude.{◌≡◌, ◌<◌, ◌+◌, ◌^◌, length, min, Some, Result, IfOk, IfErr};
+ghost use Rattle.ad_tree.specs.Inline.{Inline, no_defs};
+ghost use Rattle.ad_parser.specs.declared.fault.ParseFault.{ParseFault};
 ghost use Rattle.ad_parser.specs.Answers.{AnswersAd, AnswersExpr};
 ghost use Rattle.ad_parser.specs.Limits.{height_limit};
+ghost use Rattle.ad_parser.specs.Outcomes.{HasAdOutcome, HasExprOutcome, IsAdAnswer, IsExprAnswer};
 ghost use Rattle.ad_parser.specs.Parts.{part, definition_parts, cut_defined_before};
 ghost use Rattle.ad_parser.specs.Rules.{cut_ad, parsed_ad, parsed_expr};
 ghost use Rattle.ad_parser.specs.Steps.{left};
@@ -32,6 +34,25 @@ const DEFINITION_LIMIT: u32 = 1_024;
 /// The ad that a text spells, as `[name = expression; ..]` (ClassAd Language Reference Manual 2.4).
 pub fn parse_ad(alloc: Global, text: &[u8]) -> Result<Ad, ParseFault>
     requires { length text.now < 2 ^ 32 }
+    // The ad of the text's tree, its fault, or want of memory.
+    ensures answer { AnswersAd text.now result }
+    // The same by the outcome of the text, of which there is exactly one.
+    ensures outcome { (outcome : Result Inline ParseFault) → HasAdOutcome text.now outcome → IsAdAnswer outcome result }
+{
+    ad_in(alloc, text)
+}
+
+/// The expression that a text spells, with the ad of its ad literals.
+pub fn parse_expr(alloc: Global, text: &[u8]) -> Result<Phrase, ParseFault>
+    requires { length text.now < 2 ^ 32 }
+    ensures answer { AnswersExpr text.now result }
+    ensures outcome { (outcome : Result Inline ParseFault) → HasExprOutcome text.now outcome → IsExprAnswer outcome result }
+{
+    phrase_in(alloc, text)
+}
+
+fn ad_in(alloc: Global, text: &[u8]) -> Result<Ad, ParseFault>
+    requires { length text.now < 2 ^ 32 }
     ensures { AnswersAd text.now result }
 {
     let reader = shallow_reader(alloc, text)?;
@@ -42,8 +63,7 @@ pub fn parse_ad(alloc: Global, text: &[u8]) -> Result<Ad, ParseFault>
     Ok(convert_ad(alloc, list)?)
 }
 
-/// The expression that a text spells, with the ad of its ad literals.
-pub fn parse_expr(alloc: Global, text: &[u8]) -> Result<Phrase, ParseFault>
+fn phrase_in(alloc: Global, text: &[u8]) -> Result<Phrase, ParseFault>
     requires { length text.now < 2 ^ 32 }
     ensures { AnswersExpr text.now result }
 {

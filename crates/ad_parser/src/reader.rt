@@ -31,7 +31,8 @@ impl<'a> Reader<'a> {
     ghost use Rattle.ad_parser.specs.Parts.{as_infix};
     ghost use Rattle.ad_parser.specs.Rules.{name_at, infix_at};
     ghost use Rattle.ad_parser.specs.Steps.{left, prefix_at, IsLone, Takes, Gives, Finds, Continues};
-    ghost use Rattle.ad_parser.specs.Words.{Word as MeantWord, front, front_mark, mark as mark_word, mark_in, words, ends_at};
+    ghost use Rattle.ad_parser.specs.HeldMarks.{front, front_mark, mark_in, ends_at};
+    ghost use Rattle.ad_parser.specs.Words.{Word as MeantWord, mark as mark_word, words};
     ghost use Rattle.pool_text.specs.declared.language.Lit.{Lit as MeantLit};
     ghost use Rattle.ad_parser.specs.declared.stop.Stop.{Stop};
 

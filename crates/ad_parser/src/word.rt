@@ -3,7 +3,8 @@ ghost use Rattle.std.specs.Prelude.{◌≡◌, map, IfOk};
 ghost use Rattle.ad_lexer.specs.Spelling.{Spells};
 ghost use Rattle.ad_lexer.specs.Lexeme.{lexeme};
 ghost use Rattle.ad_parser.specs.Meaning.{meaning};
-ghost use Rattle.ad_parser.specs.Words.{or_undefined, constant, mark_in, meaning_of, reserved_words, unmarked, word, words};
+ghost use Rattle.ad_parser.specs.HeldMarks.{mark_in, unmarked};
+ghost use Rattle.ad_parser.specs.Words.{or_undefined, constant, meaning_of, reserved_words, word, words};
 ghost use Rattle.pool_text.specs.Folding.{folded};
 
 use crate::mark::Mark;

@@ -1,11 +1,11 @@
 -- Laws of attributes: defining them in turn, and names that stay apart.
-use Rattle.std.proofs.Common.{refl, ◌≡◌, ℕ, List, [], ◌∷◌, ◌++◌, Bool, true, false, not, ◌||◌, ap, sym, ◌∙◌, cond, append_assoc}
+use Rattle.std.proofs.Common.{refl, ◌≡◌, ℕ, List, [], ◌∷◌, ◌++◌, Bool, true, false, not, ◌||◌, ap, sym, ◌∙◌, cond, append_assoc, true≢false}
 use Rattle.std.proofs.lemmas.List.{append-nil}
 use Rattle.ad_tree.specs.Tree.{Tree}
 use Rattle.ad_tree.specs.Names.{same_name, has_name, are_apart}
 use Rattle.ad_tree.specs.Frames.{put_attribute, put_all, names_of}
 use Rattle.ad_tree.specs.Inline.{Inline, Defs, no_defs, def, put, def_names}
-use Rattle.ad_tree.proofs.NameLemmas.{both_left, both_right, both, not_true, neither_left, neither_right, neither, same_name-along}
+use Rattle.ad_tree.proofs.NameLemmas.{both_left, both_right, both, not_true, neither_left, neither_right, neither, same_name-along, same_name-along_left}
 
 -- names after one is defined
 abbrev pub put_name : List ℕ → List (List ℕ) → List (List ℕ)
@@ -82,3 +82,28 @@ put_all-apart_from done (a ∷ rest) h =
 
 pub put_all-apart : (attributes : List (List ℕ × Tree)) → are_apart (names_of attributes) ≡ true → put_all [] attributes ≡ attributes
 put_all-apart attributes h = put_all-apart_from [] attributes h
+
+-- a name equal to the first of others
+same_name-first : (name other : List ℕ) (b : Bool) → (same_name other name || b) ≡ false → same_name name other ≡ false
+same_name-first name other b away = by (same_name name other) refl
+  where
+    by : (c : Bool) → same_name name other ≡ c → same_name name other ≡ false
+    by false e = e
+    by true e = absurd (true≢false (sym (same_name-along name other other e ∙ sym (same_name-along_left name other other e) ∙ e) ∙ neither_left _ _ away))
+
+-- a name that is there keeps its place
+pub put_attribute-known : (name : List ℕ) (t : Tree) (front behind : List (List ℕ × Tree)) (old : List ℕ × Tree)
+    → has_name name (names_of front) ≡ false → same_name name old.0 ≡ true
+    → put_attribute name t (front ++ old ∷ behind) ≡ front ++ (name, t) ∷ behind
+put_attribute-known name t [] behind old away same = ap (λ b. cond b ((name, t) ∷ behind) (old ∷ put_attribute name t behind)) same
+put_attribute-known name t (a ∷ front) behind old away same =
+    ap (λ b. cond b ((name, t) ∷ (front ++ old ∷ behind)) (a ∷ put_attribute name t (front ++ old ∷ behind))) (same_name-first name a.0 _ away)
+    ∙ ap (λ rest. a ∷ rest) (put_attribute-known name t front behind old (neither_right _ _ away) same)
+
+-- a new name goes last
+pub put_attribute-unknown : (name : List ℕ) (t : Tree) (attributes : List (List ℕ × Tree)) → has_name name (names_of attributes) ≡ false
+    → put_attribute name t attributes ≡ attributes ++ (name, t) ∷ []
+put_attribute-unknown name t [] away = refl
+put_attribute-unknown name t (a ∷ rest) away =
+    ap (λ b. cond b ((name, t) ∷ rest) (a ∷ put_attribute name t rest)) (same_name-first name a.0 _ away)
+    ∙ ap (λ more. a ∷ more) (put_attribute-unknown name t rest (neither_right _ _ away))

@@ -4,12 +4,13 @@ use Rattle.ad_tree.specs.declared.frame.AdFrame.{AdFrame}
 use Rattle.ad_tree.specs.Tree.{Tree}
 use Rattle.ad_tree.specs.Names.{are_apart}
 use Rattle.ad_tree.specs.Frames.{Frame, empty_frame, names_in, settled_frame, IsAd}
-use Rattle.ad_tree.specs.Inline.{frames, number, inlined, inside, opened, spelled, spelled_tree}
+use Rattle.ad_tree.specs.Inline.{Inline, frames, number, inlined, inside, opened, spelled, spelled_tree}
+use Rattle.ad_tree.specs.Phrases.{IsPhrase}
 use Rattle.ad_tree.specs.Placed.{IsPlaced}
 use Rattle.ad_tree.specs.Table.{frame_of, frames_of}
 use Rattle.ad_tree.proofs.AdLemmas.{IsAd-frames, IsAd-phrase, inside-apart, spelled_tree-apart}
 use Rattle.ad_tree.proofs.EntryLemmas.{apart-frames}
-use Rattle.ad_tree.proofs.SpellingLemmas.{settled_frame-frames}
+use Rattle.ad_tree.proofs.SpellingLemmas.{settled_frame-frames, spelled_tree-frames}
 
 -- the names of each frame of a draft are apart
 pub apart-draft : (root : AdFrame) (fs : List AdFrame) (f : ℕ) → IsTrue (are_apart (names_in (frame_of root ∷ frames_of fs) f))
@@ -39,6 +40,13 @@ module _ (fs : List Frame) (apart : (f : ℕ) → IsTrue (are_apart (names_in fs
       placed.copied
       ∙ ap (λ gs. number (length gs) (inlined (inside fs n) t)) new
       ∙ ap (λ m. number 1 (inlined (inside fs m) t)) all
+
+-- an expression and an ad that are numbered together are an expression that stands alone
+pub numbered_phrase : (x : Inline) {fs : List Frame} {t : Tree} → fs ≡ empty_frame 0 ∷ frames 0 1 x → t ≡ number 1 x → IsPhrase fs t
+numbered_phrase x {fs} {t} opened numbered =
+    let same : spelled_tree fs t ≡ x =
+    ap (λ gs. spelled_tree gs t) opened ∙ ap (spelled_tree (empty_frame 0 ∷ frames 0 1 x)) numbered ∙ spelled_tree-frames x in
+    record { opened = opened ∙ ap (λ y. empty_frame 0 ∷ frames 0 1 y) (sym same); numbered = numbered ∙ ap (number 1) (sym same) }
 
 -- those frames are an ad
 module _ (fs : List Frame) (apart : (f : ℕ) → IsTrue (are_apart (names_in fs f))) where

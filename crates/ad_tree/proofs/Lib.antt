@@ -4,7 +4,7 @@ mod DraftLemmas
 mod EntryLemmas
 mod FinishLemmas
 pub mod InlineLemmas
-mod Measures
+pub mod Measures
 mod NameLemmas
 mod OrderLemmas
 pub mod PlacedLemmas

@@ -45,7 +45,7 @@ Stand-behind h before (g ∷ gs) = (
     longer = omega (arith, length-append before (h g ∷ []))
 
 -- a definition is put among attributes as among definitions
-defs_of-put : (k : ℕ → Defs) (name : List ℕ) (t : Tree) (attributes : List (List ℕ × Tree)) → defs_of k (put_attribute name t attributes) ≡ put name (inlined k t) (defs_of k attributes)
+pub defs_of-put : (k : ℕ → Defs) (name : List ℕ) (t : Tree) (attributes : List (List ℕ × Tree)) → defs_of k (put_attribute name t attributes) ≡ put name (inlined k t) (defs_of k attributes)
 defs_of-put k name t [] = refl
 defs_of-put k name t (a ∷ rest) = by (same_name name a.0) (defs_of-put k name t rest)
   where
@@ -233,6 +233,19 @@ inside-literals ds k es e =
   where
     at_start : (m : ℕ) → m ≡ 0 + m
     at_start m = omega arith
+
+-- frame k + 1 of an expression that stands alone is the ad literal with the opening bracket k
+pub inside-phrase_literals : (i : Inline) (k : ℕ) (es : Defs) → slice_get (literals i) k ≡ Some es
+    → inside (empty_frame 0 ∷ frames 0 1 i) (length (empty_frame 0 ∷ frames 0 1 i)) (suc k) ≡ es
+inside-phrase_literals i k es e =
+    let fs : List Frame = empty_frame 0 ∷ frames 0 1 i in
+    ap (inside fs (length fs)) (one_on k)
+    ∙ AllStand-at fs (length fs) 1 (literals i) k es
+    (literals-stand fs (length fs) 0 1 i (omega (arith, length-frames 0 1 i))
+    (subst (λ gs. Stand as_it_is (empty_frame 0 ∷ gs) 1 (frames 0 1 i)) (map-as_it_is (frames 0 1 i)) (Stand-behind as_it_is (empty_frame 0 ∷ []) (frames 0 1 i)))) e
+  where
+    one_on : (m : ℕ) → suc m ≡ 1 + m
+    one_on m = omega arith
 
 -- ---- trees without repeated names ----
 

@@ -1,9 +1,13 @@
 pub mod Ad
 pub mod Draft
+pub mod Enclosing
 pub mod Entries
 pub mod Frames
 pub mod Inline
 pub mod Names
+pub mod Phrases
 pub mod Placed
+pub mod Requests
+pub mod Special
 pub mod Table
 pub mod Tree

@@ -19,13 +19,6 @@ pub struct Ad {
     ghost few: { length frames.items < 2 ^ 32 },
 }
 
-/// An expression with an ad whose root is empty and whose other frames are the ad literals of the expression.
-#[derive(Debug, Drop)]
-pub struct Phrase {
-    pub ad: Ad,
-    pub expr: Expr,
-}
-
 impl Ad {
     ghost use Rattle.ad_tree.specs.Ad.{ad_frames};
 

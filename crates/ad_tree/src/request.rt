@@ -1,4 +1,7 @@
 // Requests: ads with the ports of a gang.
+ghost use Rattle.ad_tree.specs.Ad.{ad_frames};
+ghost use Rattle.ad_tree.specs.Requests.{ArePorts};
+
 use crate::Ad;
 use pool_text::{OutOfMemory, Text};
 use std::alloc::Global;
@@ -17,11 +20,13 @@ pub struct Ports {
     items: Vec<Port>,
 }
 
-/// The request of a match. A single request has no ports, a gang 1 to 8.
+/// The request of a match: its ad, and the ports that ask for resources, each at a frame of the ad. A single request has
+/// no ports, a gang 1 to 8 (Raman, Livny and Solomon 2003).
 #[derive(Debug, Drop)]
 pub struct Request {
     pub ad: Ad,
     pub ports: Ports,
+    pub ghost are_ports: { ArePorts (ad_frames ad) ports },
 }
 
 impl Model for Ports {

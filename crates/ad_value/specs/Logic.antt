@@ -38,3 +38,8 @@ or_is_decided left = true
 abbrev pub mirrored : Plain → Plain
 mirrored (boolean b) = boolean (not b)
 mirrored value = value
+
+-- the Boolean true, and no other value
+abbrev pub is_true : Plain → Bool
+is_true (boolean b) = b
+is_true other = false

@@ -1,12 +1,10 @@
 -- The operators as tables over plain values.
 use Rattle.std.specs.Prelude.{ℕ, ◌+◌, ◌/◌, ◌^◌, Bool, true, false, not, ◌&&◌, ◌==◌, nat_lt, ℤ, pos, negsuc, ◌+ℤ◌, ◌-ℤ◌, ◌*ℤ◌, neg_ℤ, int_lt, int_le, int_div, int_rem, List, length, Option, Some, None, if◌then◌else◌}
 use Rattle.std.specs.Int.{w64, cast_signed, cast_unsigned, int_bit_and, int_bit_not, int_bit_or, int_bit_xor, int_shl, int_shr}
-use Rattle.std.specs.declared.cmp.Ordering.{Ordering}
-use Rattle.std.specs.Ordering.{int_eq, nat_cmp, is_eq, is_ge, is_gt, is_le, is_lt, is_ne}
-use Rattle.std.specs.Cmp.Lexicographic.{slice_cmp}
+use Rattle.std.specs.Ordering.{int_eq, is_eq, is_ge, is_gt, is_le, is_lt, is_ne}
 use Rattle.std.specs.Bool.{beq}
 use Rattle.std.specs.Str.{bytes_eq}
-use Rattle.pool_text.specs.Folding.{folded}
+use Rattle.pool_text.specs.Folding.{text_order}
 use Rattle.pool_text.specs.declared.language.BinOp.{BinOp}
 use Rattle.pool_text.specs.declared.language.UnOp.{UnOp}
 use Rattle.ad_value.specs.Plain.{Plain, undefined, error, boolean, integer, text, list, ad_at, Plains, no_plains, plain_then}
@@ -90,10 +88,6 @@ number_row BinOp.Mul x y = integer_or_error (x *ℤ y)
 number_row BinOp.Div x y = divided (integer_or_error (int_div x y)) y
 number_row BinOp.Rem x y = divided (integer (int_rem x y)) y
 number_row op x y = error
-
--- how two texts compare, byte by byte after A to Z are made small
-abbrev pub text_order : List ℕ → List ℕ → Ordering
-text_order a b = slice_cmp nat_cmp (folded a) (folded b)
 
 -- two texts, which only the comparisons take
 abbrev pub text_row : BinOp → List ℕ → List ℕ → Plain

@@ -11,8 +11,8 @@ list_any-drop p (y ∷ xs) zero x is = let same : y ≡ x = cc in rw same refl
 list_any-drop p (y ∷ xs) (suc i) x is = list_any-drop p xs i x is
 
 -- a copy from the front of what is left is a read
-pub Reads-copy : {E : Type 0} (text buf copied : List ℕ) (at most count faults : ℕ) (sure : Bool) → at ≤ length text → 1 ≤ most → count ≡ min (min (length text - at) most) (length buf) → copied ≡ take count (drop at text) → Reads {E = E} (record { left = Some (drop at text); faults = faults; sure = sure }) (record { left = Some (drop (at + count) text); faults = faults; sure = sure }) (Ok count) (copied ++ drop count buf)
-Reads-copy text buf copied at most count faults sure inside some is same =
+pub Reads-copy : {E : Type 0} (text buf copied : List ℕ) (at latest most count faults : ℕ) (sure : Bool) → at ≤ length text → 1 ≤ most → count ≡ min (min (length text - at) most) (length buf) → copied ≡ take count (drop at text) → Reads {E = E} (record { left = Some (drop at text); latest = latest; faults = faults; sure = sure }) (record { left = Some (drop (at + count) text); latest = count; faults = faults; sure = sure }) (Ok count) (copied ++ drop count buf)
+Reads-copy text buf copied at latest most count faults sure inside some is same =
     let copied_length : length copied ≡ count = omega (arith, ap length same, length-take count (drop at text), length-drop at text) in
     let left = take-append-drop count (drop at text) in
     record {
@@ -21,9 +21,9 @@ Reads-copy text buf copied at most count faults sure inside some is same =
         sym left ∙ ap (λ (l : List ℕ). l ++ drop count (drop at text)) (sym same ∙ sym (take_at copied (drop count buf) count copied_length)) ∙ ap (λ (l : List ℕ). take count (copied ++ drop count buf) ++ l) (drop-drop count at text),
         λ none room. drop_all (at + count) text (omega (arith, length-append copied (drop count buf), length-drop count buf)),
       );
-      later = omega arith;
+      latest = refl;
+      kept = refl;
       cause = tt;
       never = λ s. refl;
-      calm = λ s. refl;
       still = λ s. s;
     }

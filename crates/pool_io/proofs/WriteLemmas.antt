@@ -6,12 +6,11 @@ use Rattle.std.specs.Io.KnownBytes.{Appends}
 use Rattle.pool_io.specs.Flow.{Intake, Writes}
 use Rattle.pool_io.proofs.KnownLemmas.{Appends-append}
 
--- the first bytes were taken, with no fault where the sink was sure of all
+-- the first bytes were taken, with no fault
 pub record Underway (old new : Intake) (bytes : List ℕ) (at : ℕ) : Type 0 where
   pub inside : at ≤ length bytes
   pub taken : Appends old.taken new.taken (take at bytes)
-  pub later : old.faults ≤ new.faults
-  pub calm : length bytes ≤ old.sure → new.faults ≡ old.faults
+  pub kept : new.faults ≡ old.faults
   pub spent : length bytes ≤ old.sure → old.sure ≤ new.sure + at
 
 -- one more write
@@ -23,7 +22,6 @@ Underway-write old mid new bytes at count more so_far wrote =
     record {
       inside = omega (arith, wrote.within, length-take (length bytes - at) (drop at bytes), length-drop at bytes);
       taken = subst (λ (l : List ℕ). Appends old.taken new.taken l) front both;
-      later = omega (arith, wrote.later, so_far.later);
-      calm = λ s. wrote.calm (omega (arith, so_far.spent s)) ∙ so_far.calm s;
+      kept = wrote.kept ∙ so_far.kept;
       spent = λ s. omega (arith, so_far.spent s, wrote.spent (omega (arith, so_far.spent s)));
     }

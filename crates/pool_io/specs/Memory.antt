@@ -3,17 +3,21 @@ use Rattle.std.specs.Prelude.{ℕ, ◌+◌, ◌-◌, ◌^◌, ◌==◌, Bool, tr
 use Rattle.std.specs.List.{list_any}
 use Rattle.pool_io.specs.Flow.{Supply, Intake}
 
--- a source in memory: the bytes left, the most that a call gives, the numbers of the calls that fail, and the counts
+-- a source in memory: the bytes left, what the last read gave, the most that a call gives, the numbers of the calls that
+-- fail, and the counts
 pub record Reserve : Type 0 where
   pub left : List ℕ
+  pub latest : ℕ
   pub most : ℕ
   pub failing : List ℕ
   pub calls : ℕ
   pub faults : ℕ
 
--- a sink in memory: the bytes taken, the most that a call takes, room for all, the calls that fail, and the counts
+-- a sink in memory: the bytes taken, the length of the last piece, the most that a call takes, room for all, the calls
+-- that fail, and the counts
 pub record Store : Type 0 where
   pub taken : List ℕ
+  pub offered : ℕ
   pub most : ℕ
   pub room : ℕ
   pub failing : List ℕ
@@ -34,8 +38,8 @@ is_empty (n ∷ ns) = false
 
 -- a source in memory as a source: it tells its bytes, and is sure where no call is to fail
 abbrev pub supply_of : Reserve → Supply
-supply_of s = record { left = Some s.left; faults = s.faults; sure = is_empty s.failing }
+supply_of s = record { left = Some s.left; latest = s.latest; faults = s.faults; sure = is_empty s.failing }
 
 -- a sink in memory as a sink: it tells its bytes, and is sure of the room that is left where no call is to fail
 abbrev pub intake_of : Store → Intake
-intake_of s = record { taken = Some s.taken; faults = s.faults; sure = (if is_empty s.failing then s.room - length s.taken else 0) }
+intake_of s = record { taken = Some s.taken; offered = s.offered; faults = s.faults; sure = (if is_empty s.failing then s.room - length s.taken else 0) }

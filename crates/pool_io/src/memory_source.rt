@@ -1,5 +1,5 @@
 // A source over a text in memory, for tests and for library users.
-ghost use Rattle.std.specs.Prelude.{◌≡◌, ◌≤◌, ◌↔◌, ◌∷◌, [], length, min, IsTrue, IsErr, IfOk, OnOk, OnErr};
+ghost use Rattle.std.specs.Prelude.{◌≡◌, ◌≤◌, ◌↔◌, ◌∷◌, [], length, min, IsTrue, IsErr, IfOk, OnErr};
 ghost use Rattle.pool_io.specs.Flow.{Reads};
 ghost use Rattle.pool_io.specs.Memory.{supply_of, is_listed, next_count};
 
@@ -12,6 +12,7 @@ use std::marker::Model;
 pub struct MemorySource {
     text: Text,
     at: usize,
+    latest: usize,
     most: usize,
     failing: Slots,
     calls: u64,
@@ -26,6 +27,7 @@ impl Model for MemorySource {
 
     ghost view = { λ s. record {
       left = drop s.at s.text;
+      latest = s.latest;
       most = s.most;
       failing = s.failing;
       calls = s.calls;
@@ -39,11 +41,12 @@ impl MemorySource {
     /// A source of these bytes, of which each call gives at most `most`.
     pub fn new(text: Text, most: usize, failing: Slots) -> MemorySource
         requires { 1 ≤ most }
-        ensures { result ≡ record { left = text; most = most; failing = failing; calls = 0; faults = 0 } }
+        ensures { result ≡ record { left = text; latest = 0; most = most; failing = failing; calls = 0; faults = 0 } }
     {
         MemorySource {
             text,
             at: 0,
+            latest: 0,
             most,
             failing,
             calls: 0,
@@ -73,8 +76,7 @@ impl Source for MemorySource {
         ensures exactly { IsErr result ↔ IsTrue (is_listed self.old.failing self.old.calls) }
         ensures amount { IfOk result (λ n. n ≡ min (min (length self.old.left) self.old.most) (length buf.old)) }
         ensures counted { self.new.calls ≡ next_count self.old.calls }
-        ensures kept { OnOk result (self.new.faults ≡ self.old.faults) }
-        ensures failed { OnErr result (self.new.faults ≡ next_count self.old.faults) }
+        ensures failed { OnErr result ((self.new.faults ≡ next_count self.old.faults) × (self.new.latest ≡ self.old.latest)) }
         ensures same { (self.new.most ≡ self.old.most) × (self.new.failing ≡ self.old.failing) }
     {
         let fails = is_listed(&self.failing, self.calls);
@@ -87,6 +89,7 @@ impl Source for MemorySource {
         let count = rest.len().min(self.most).min(buf.len());
         buf[..count].copy_from_slice(&rest[..count]);
         self.at += count;
+        self.latest = count;
         Ok(count)
     }
 }

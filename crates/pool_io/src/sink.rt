@@ -1,4 +1,5 @@
-// A sink of bytes, seen by what it took, by its count of faults, and by how many bytes it surely takes.
+// A sink of bytes, seen by what it took, by the length of the last piece that it was offered, by its count of faults, and
+// by how many bytes it surely takes.
 ghost use Rattle.std.specs.Prelude.{◌<◌, length};
 ghost use Rattle.pool_io.specs.Flow.{Intake, Writes, WritesAll};
 
@@ -14,7 +15,8 @@ pub trait Sink {
         ensures { Writes (shows self.old) (shows self.new) result piece.now };
 }
 
-/// Offers the bytes as one piece, and what is left of them again until all are taken.
+/// Offers the bytes as one piece, and what is left of them again until all are taken. Where a write fails, the piece that
+/// was offered last is all that is left of them.
 pub fn write_all<K: Sink>(sink: &mut K, bytes: &[u8]) -> Result<(), Failed>
     ensures { WritesAll (K.shows sink.old) (K.shows sink.new) result bytes.now }
 {

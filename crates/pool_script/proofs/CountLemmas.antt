@@ -1,27 +1,37 @@
 -- How many commands there are, and which come first.
-use Rattle.std.proofs.Common.{◌≡◌, ℕ, ◌+◌, ◌≤◌, Bool, true, false, ◌||◌, List, [], ◌∷◌, ◌++◌, length, take, Option, None, Some, refl, sym, ◌∙◌, ap, inl, inr, arith, append_assoc, length-append, length-drop}
-use Rattle.std.proofs.Math.Seq.{take-append_seam}
+use Rattle.std.proofs.Common.{◌≡◌, ℕ, ◌+◌, ◌≤◌, Bool, true, false, ◌||◌, List, [], ◌∷◌, ◌++◌, length, Option, None, Some, refl, sym, ◌∙◌, ap, inl, inr, arith, append_assoc, length-append, length-drop}
 use Rattle.std.proofs.lemmas.Bool.{cases_Bool}
 use Rattle.std.specs.Bool.{if◌then◌else◌}
 use Rattle.pool_text.specs.Lines.{ended, last_line, rest_of, with_feeds}
-use Rattle.pool_text.proofs.LineLemmas.{with_feeds-ended}
-use Rattle.pool_script.specs.Commands.{commands, commands_of, cut_off, ended_commands, given, is_dot, is_long, is_silent, line_command, lines_of, next, takes_block, whole_commands}
+use Rattle.pool_text.proofs.LineLemmas.{ended-append, with_feeds-ended}
+use Rattle.pool_text.specs.Words.{is_long, is_silent}
+use Rattle.pool_script.specs.Commands.{commands, commands_of, cut_off, ended_commands, given, is_dot, line_command, lines_of, next, takes_block, whole_commands}
 use Rattle.pool_script.specs.Standing.{Kept, Stands}
 use Rattle.pool_script.specs.declared.command.Command.{Command}
 use Rattle.pool_script.specs.declared.reader.Block.{Block}
 use Rattle.pool_script.proofs.LongLemmas.{takes_block-long}
 
 -- the commands of more lines come behind those of the lines before them
-commands-append : (block : Option Block) (lines more : List (List ℕ)) → (behind : Option Block) × (commands true block (lines ++ more) ≡ commands false block lines ++ commands true behind more)
-commands-append block [] more = (block, refl)
-commands-append block (line ∷ lines) more =
-    let later = commands-append (next block line) lines more in
-    (later.0, ap (λ (made : List Command). given block line ++ made) later.1 ∙ sym (append_assoc (given block line) (commands false (next block line) lines) (commands true later.0 more)))
+commands-append : (over : Bool) (block : Option Block) (lines more : List (List ℕ)) → (behind : Option Block) × (commands over block (lines ++ more) ≡ commands false block lines ++ commands over behind more)
+commands-append over block [] more = (block, refl)
+commands-append over block (line ∷ lines) more =
+    let later = commands-append over (next block line) lines more in
+    (later.0, ap (λ (made : List Command). given block line ++ made) later.1 ∙ sym (append_assoc (given block line) (commands false (next block line) lines) (commands over later.0 more)))
 
-pub ended_come_first : (bytes : List ℕ) → take (length (ended_commands bytes)) (whole_commands bytes) ≡ ended_commands bytes
-ended_come_first bytes =
-    let later = commands-append None (ended bytes) (last_line (rest_of bytes)) in
-    ap (λ (made : List Command). take (length (ended_commands bytes)) made) later.1 ∙ take-append_seam (ended_commands bytes) (commands true later.0 (last_line (rest_of bytes)))
+-- the commands that have ended within some bytes are the first of those that have ended within more
+pub ended_before_more : (bytes more : List ℕ) → (others : List Command) × (ended_commands (bytes ++ more) ≡ ended_commands bytes ++ others)
+ended_before_more bytes more =
+    let later = commands-append false None (ended bytes) (ended (rest_of bytes ++ more)) in
+    (commands false later.0 (ended (rest_of bytes ++ more)), ap (λ (lines : List (List ℕ)). commands false None lines) (ended-append bytes more) ∙ later.1)
+
+-- and the first of those of an input that is longer
+pub ended_before_whole : (bytes more : List ℕ) → (others : List Command) × (whole_commands (bytes ++ more) ≡ ended_commands bytes ++ others)
+ended_before_whole bytes more =
+    let last = last_line (rest_of (bytes ++ more)) in
+    let later = commands-append true None (ended bytes) (ended (rest_of bytes ++ more) ++ last) in (
+      commands true later.0 (ended (rest_of bytes ++ more) ++ last),
+      ap (λ (lines : List (List ℕ)). commands true None (lines ++ last)) (ended-append bytes more) ∙ ap (λ (lines : List (List ℕ)). commands true None lines) (append_assoc (ended bytes) (ended (rest_of bytes ++ more)) last) ∙ later.1,
+    )
 
 -- a block that is open owes one command
 abbrev owed : Option Block → ℕ

@@ -7,11 +7,12 @@ use Rattle.std.specs.List.{list_all}
 use Rattle.std.specs.Option.{option_map_or}
 use Rattle.pool_text.specs.Lines.{ended, without_return}
 use Rattle.pool_text.specs.Number.{number_of}
-use Rattle.pool_script.specs.Commands.{given, is_dot, is_long, is_silent, line_command, takes_block, text_of}
+use Rattle.pool_text.specs.Words.{is_blank, is_empty, is_long, is_silent, past_blanks, past_word, text_of, word_of, words_behind}
+use Rattle.pool_script.specs.Commands.{given, is_dot, line_command, takes_block}
 use Rattle.pool_script.specs.Form.{are_block_lines, holds_no_feed, is_block_text, is_expr, is_within, is_within_form}
 use Rattle.pool_script.specs.Keywords.{keyword_of}
 use Rattle.pool_script.specs.Rows.{advertise, block_text, clock, eval, eval_in, gang, keyword_command, priority, query, sole_name, submit, with_block, without_words}
-use Rattle.pool_script.specs.Words.{is_blank, is_empty, is_name, past_blanks, past_word, sole_number, word_of, words_behind}
+use Rattle.pool_script.specs.Names.{is_name, sole_number}
 use Rattle.pool_script.specs.declared.command.Command.{Command}
 use Rattle.pool_script.specs.declared.command.Command.TheVariants as command
 use Rattle.pool_script.specs.declared.keyword.Keyword.{Keyword}
@@ -19,7 +20,7 @@ use Rattle.pool_script.specs.declared.keyword.Keyword.TheVariants as word
 use Rattle.pool_script.specs.declared.reader.Block.{Block}
 use Rattle.pool_script.specs.Reading.{IsOpen}
 use Rattle.pool_script.proofs.CutLemmas.{none_more, none_step}
-use Rattle.pool_script.proofs.WordLemmas.{past_word-le}
+use Rattle.pool_text.proofs.WordLemmas.{past_word-le}
 
 past_blanks-le : (bytes : List ℕ) → length (past_blanks bytes) ≤ length bytes
 past_blanks-le [] = omega arith

@@ -1,10 +1,8 @@
 pub mod CountLemmas
 pub mod CutLemmas
 pub mod FormLemmas
-pub mod LineLemmas
 pub mod LongLemmas
 pub mod ReaderLemmas
 pub mod RestLemmas
 pub mod ScriptLemmas
 pub mod StandingLemmas
-pub mod WordLemmas

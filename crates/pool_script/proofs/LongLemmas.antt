@@ -6,11 +6,11 @@ use Rattle.std.proofs.lemmas.List.{append-nil, length-take, length-take-le, take
 use Rattle.std.proofs.lemmas.Slice.Eq.{bytes_eq-Decides}
 use Rattle.std.specs.Option.{option_map_or}
 use Rattle.pool_text.specs.Lines.{ended, last_line, whole, without_return}
-use Rattle.pool_script.specs.Commands.{commands, cut_off, given, is_dot, is_long, line_command, lines_of, next, takes_block, text_of}
+use Rattle.pool_text.specs.Words.{is_long, text_of, word_of, words_behind}
+use Rattle.pool_script.specs.Commands.{commands, cut_off, given, is_dot, line_command, lines_of, next, takes_block}
 use Rattle.pool_script.specs.Keywords.{keyword_of}
 use Rattle.pool_script.specs.Reading.{kept, kept_next}
 use Rattle.pool_script.specs.Rows.{advertise, block_text, gang, keyword_command, query, submit}
-use Rattle.pool_script.specs.Words.{words_behind, word_of}
 use Rattle.pool_script.specs.declared.command.Command.{Command}
 use Rattle.pool_script.specs.declared.command.Command.TheVariants as command
 use Rattle.pool_script.specs.declared.keyword.Keyword.{Keyword}

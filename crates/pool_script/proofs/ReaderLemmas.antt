@@ -9,11 +9,11 @@ use Rattle.std.specs.List.{list_all}
 use Rattle.std.specs.Str.{bytes_eq}
 use Rattle.pool_text.specs.Lines.{ended, rest_of, whole, without_return}
 use Rattle.pool_text.proofs.LineLemmas.{ended-append, rest_of-append}
-use Rattle.pool_script.specs.Commands.{commands, cut_off, given, is_dot, is_long, line_command, lines_of, next, takes_block}
+use Rattle.pool_text.specs.Words.{is_empty, is_long}
+use Rattle.pool_script.specs.Commands.{commands, cut_off, given, is_dot, line_command, lines_of, next, takes_block}
 use Rattle.pool_script.specs.Cuts.{CutsAtFeed}
 use Rattle.pool_script.specs.Form.{are_block_lines, is_within_form}
 use Rattle.pool_script.specs.Reading.{HasRead, IsOpen, IsSound, commands_from, kept, kept_next}
-use Rattle.pool_script.specs.Words.{is_empty}
 use Rattle.pool_script.specs.declared.command.Command.{Command}
 use Rattle.pool_script.specs.declared.reader.Block.{Block}
 use Rattle.pool_script.specs.declared.reader.Reader.{Reader}

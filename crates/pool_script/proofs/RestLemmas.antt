@@ -5,15 +5,15 @@ use Rattle.std.proofs.lemmas.List.{append-nil}
 use Rattle.std.specs.Str.{bytes_eq}
 use Rattle.pool_text.specs.Lines.{ended, rest_of, with_feeds, without_return}
 use Rattle.pool_text.proofs.LineLemmas.{with_feeds-ended}
-use Rattle.pool_script.specs.Commands.{commands, commands_of, ended_commands, given, is_dot, is_silent, lines_of, next, takes_block}
+use Rattle.pool_text.specs.Words.{is_empty, is_silent}
+use Rattle.pool_script.specs.Commands.{commands, commands_of, ended_commands, given, is_dot, lines_of, next, takes_block}
 use Rattle.pool_script.specs.Reading.{IsOpen, IsSound, commands_from, rest_kept, with_return}
-use Rattle.pool_script.specs.Words.{is_empty}
 use Rattle.pool_script.specs.declared.command.Command.{Command}
 use Rattle.pool_script.specs.declared.reader.Block.{Block}
 use Rattle.pool_script.specs.declared.reader.Reader.{Reader}
 use Rattle.pool_script.proofs.CutLemmas.{AreLines, are_lines, ended_none-append, lines_feed, lines_feeds}
 use Rattle.pool_script.proofs.FormLemmas.{takes_block-short}
-use Rattle.pool_script.proofs.LineLemmas.{without_return-push}
+use Rattle.pool_text.proofs.ReturnLemmas.{without_return-push}
 use Rattle.pool_script.proofs.ReaderLemmas.{and_left, and_right, nil_if_empty, no_dots}
 
 abbrev block_at : List ℕ → List ℕ → Option Block

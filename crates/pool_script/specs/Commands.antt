@@ -5,7 +5,7 @@ use Rattle.std.specs.Str.{bytes_eq}
 use Rattle.pool_text.specs.Lines.{ended, whole, without_return}
 use Rattle.pool_script.specs.Keywords.{keyword_of, opens_block}
 use Rattle.pool_script.specs.Rows.{keyword_command, line_too_long, unknown_command}
-use Rattle.pool_script.specs.Words.{is_empty, past_blanks, word_of, words_behind}
+use Rattle.pool_text.specs.Words.{is_empty, past_blanks, word_of, words_behind}
 use Rattle.pool_script.specs.declared.reader.Block.{Block}
 use Rattle.pool_script.specs.declared.command.Command.{Command}
 

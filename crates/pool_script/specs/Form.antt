@@ -3,7 +3,8 @@ use Rattle.std.specs.Prelude.{ℕ, ◌^◌, Bool, true, ◌&&◌, ◌==◌, nat_
 use Rattle.std.specs.List.{list_all}
 use Rattle.std.specs.Str.{bytes_eq}
 use Rattle.pool_text.specs.Lines.{ended, rest_of}
-use Rattle.pool_script.specs.Words.{is_blank, is_empty, is_name}
+use Rattle.pool_text.specs.Words.{is_blank, is_empty}
+use Rattle.pool_script.specs.Names.{is_name}
 use Rattle.pool_script.specs.declared.command.Command.{Command}
 use Rattle.pool_script.specs.declared.command.Command.TheVariants as command
 

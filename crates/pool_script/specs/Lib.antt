@@ -5,4 +5,4 @@ pub mod Keywords
 pub mod Reading
 pub mod Rows
 pub mod Standing
-pub mod Words
+pub mod Names

@@ -2,7 +2,8 @@
 use Rattle.std.specs.Prelude.{◌≡◌, ℕ, ◌≤◌, Bool, true, List, [], ◌∷◌, ◌++◌, length, map, take, Option, None, Some, if◌then◌else◌}
 use Rattle.std.specs.List.{list_all}
 use Rattle.pool_text.specs.Lines.{ended, with_feeds}
-use Rattle.pool_script.specs.Commands.{commands, is_dot, is_long, lines_of, next, takes_block}
+use Rattle.pool_text.specs.Words.{is_long}
+use Rattle.pool_script.specs.Commands.{commands, is_dot, lines_of, next, takes_block}
 use Rattle.pool_script.specs.Form.{are_block_lines, is_within_form}
 use Rattle.pool_script.specs.declared.command.Command.{Command}
 use Rattle.pool_script.specs.declared.reader.Block.{Block}

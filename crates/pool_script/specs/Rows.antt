@@ -2,7 +2,8 @@
 -- the input ended within the block.
 use Rattle.std.specs.Prelude.{ℕ, ◌^◌, ◌&&◌, nat_le, not, List, length, Option, None, Some, Result, Ok, Err, if◌then◌else◌}
 use Rattle.std.specs.Option.{option_map_or}
-use Rattle.pool_script.specs.Words.{is_empty, is_name, sole_number, word_of, words_behind}
+use Rattle.pool_text.specs.Words.{is_empty, word_of, words_behind}
+use Rattle.pool_script.specs.Names.{is_name, sole_number}
 use Rattle.pool_script.specs.declared.keyword.Keyword.{Keyword}
 use Rattle.pool_script.specs.declared.keyword.Keyword.TheVariants as word
 use Rattle.pool_script.specs.declared.command.Command.{Command}

@@ -1,18 +1,23 @@
 // Laws of the definitions, each on a function that does nothing.
-ghost use Rattle.std.specs.Prelude.{◌≡◌, ◌≤◌, ◌+◌, ℕ, length, take};
+ghost use Rattle.std.specs.Prelude.{◌≡◌, ◌≤◌, ◌+◌, ◌++◌, ℕ, List, length};
 ghost use Rattle.pool_script.specs.Commands.{ended_commands, whole_commands};
 ghost use Rattle.pool_script.specs.Standing.{Stands};
+ghost use Rattle.pool_script.specs.declared.command.Command.{Command};
 
 use crate::Script;
 
-/// The commands that have ended within the bytes are the first of those of the bytes as the whole input.
-pub fn ended_commands_come_first(bytes: &[u8])
-    ensures { take (length (ended_commands bytes.now)) (whole_commands bytes.now) ≡ ended_commands bytes.now }
+/// The commands that have ended within some bytes are the first of those of any longer input, whole or not.
+pub fn ended_commands_come_first()
+    ensures ended { (bytes more : List ℕ) → (others : List Command)
+        × (ended_commands (bytes ++ more) ≡ ended_commands bytes ++ others) }
+    ensures whole { (bytes more : List ℕ) → (others : List Command)
+        × (whole_commands (bytes ++ more) ≡ ended_commands bytes ++ others) }
 {}
 
 /// There are no more commands than bytes.
-pub fn commands_are_no_more_than_bytes(bytes: &[u8])
-    ensures { length (whole_commands bytes.now) ≤ length bytes.now }
+pub fn commands_are_no_more_than_bytes()
+    ensures ended { (bytes : List ℕ) → length (ended_commands bytes) ≤ length bytes }
+    ensures whole { (bytes : List ℕ) → length (whole_commands bytes) ≤ length bytes }
 {}
 
 /// The commands that were taken and those that wait are no more than the bytes that a script stands for.

@@ -5,12 +5,12 @@ mod command;
 mod keyword;
 mod laws;
 mod line;
+mod names;
 mod parse;
 mod reader;
 mod script;
 #[cfg(test)]
 mod tests;
-mod words;
 
 pub use command::Command;
 pub use laws::{

@@ -1,23 +1,13 @@
 // What a line is, inside a block or outside one.
 ghost use Rattle.std.specs.Prelude.{◌≡◌};
-ghost use Rattle.pool_text.specs.Lines.{without_return};
-ghost use Rattle.pool_script.specs.Commands.{is_dot, is_silent, takes_block, text_of};
+ghost use Rattle.pool_text.specs.Words.{is_silent, text_of};
+ghost use Rattle.pool_script.specs.Commands.{is_dot, takes_block};
 
 use crate::keyword::keyword_of;
-use crate::words::{past_blanks, word_of};
+use pool_text::{LONGEST_LINE, past_blanks, without_return, word_of};
 
-/// The most bytes of a line outside a block, and of a block.
-pub(crate) const LONGEST: usize = 65_536;
-
-/// A line without the one carriage return that may end it.
-pub(crate) fn without_return(line: &[u8]) -> &[u8]
-    ensures { result.now ≡ without_return line.now }
-{
-    match line {
-        [front @ .., last] if *last == b'\r' => front,
-        _ => line,
-    }
-}
+/// The most bytes of a block.
+pub(crate) const LONGEST_BLOCK: usize = 65_536;
 
 /// Whether a line closes a block: it is exactly a dot.
 pub(crate) fn is_dot(line: &[u8]) -> bool
@@ -46,7 +36,7 @@ pub(crate) fn is_silent(line: &[u8]) -> bool
 pub(crate) fn takes_block(line: &[u8]) -> bool
     ensures { result ≡ takes_block line.now }
 {
-    if line.len() > LONGEST {
+    if line.len() > LONGEST_LINE {
         return false;
     }
     match keyword_of(word_of(text_of(line))) {

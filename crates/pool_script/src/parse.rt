@@ -6,9 +6,9 @@ ghost use Rattle.pool_script.specs.Rows as rows;
 use crate::Command;
 use crate::command::{BLOCK_NOT_ENDED, BLOCK_TOO_LONG, UNKNOWN_COMMAND, WRONG_WORDS};
 use crate::keyword::{Keyword, keyword_of};
-use crate::line::{LONGEST, text_of};
-use crate::words::{is_name, sole_number, word_of, words_behind};
-use pool_text::{OutOfMemory, Text};
+use crate::line::{LONGEST_BLOCK, text_of};
+use crate::names::{is_name, sole_number};
+use pool_text::{OutOfMemory, Text, word_of, words_behind};
 use std::alloc::Global;
 
 /// What the line commands. `block` is the text of its block, or none where the input ended within the block; it
@@ -107,7 +107,7 @@ fn block_text(block: Option<Text>) -> Result<Text, u8>
 {
     match block {
         None => Err(BLOCK_NOT_ENDED),
-        Some(text) if text.bytes().len() > LONGEST => Err(BLOCK_TOO_LONG),
+        Some(text) if text.bytes().len() > LONGEST_BLOCK => Err(BLOCK_TOO_LONG),
         Some(text) => Ok(text),
     }
 }

@@ -6,10 +6,10 @@ ghost use Rattle.pool_script.specs.Commands.{cut_off, given};
 
 use crate::Command;
 use crate::command::LINE_TOO_LONG;
-use crate::line::{LONGEST, is_dot, is_silent, takes_block, without_return};
+use crate::line::{LONGEST_BLOCK, is_dot, is_silent, takes_block};
 use crate::parse::line_command;
 use memchr::memchr;
-use pool_text::{OutOfMemory, Text};
+use pool_text::{LONGEST_LINE, OutOfMemory, Text, without_return};
 use std::alloc::Global;
 use std::collections::VecDeque;
 
@@ -125,7 +125,7 @@ impl Reader {
         ensures sound { IsSound self.new }
         ensures ok { OnOk result (HasRead self.old bytes.now self.new) }
     {
-        let room = LONGEST + 1 - self.line.len();
+        let room = LONGEST_LINE + 1 - self.line.len();
         let fits = room.min(bytes.len());
         self.line.extend_from_slice(&bytes[..fits])?;
         Ok(())
@@ -175,7 +175,7 @@ impl Reader {
             self.waiting.push_back(command)?;
             return Ok(());
         }
-        if text.bytes().len() <= LONGEST {
+        if text.bytes().len() <= LONGEST_BLOCK {
             text.append(without_return(&self.line))?;
             text.append(b"\n")?;
         }
@@ -194,7 +194,7 @@ impl Reader {
         ensures err_waiting { OnErr result (self.new.waiting.items ≡ self.old.waiting.items) }
         ensures err_block { OnErr result (self.new.block ≡ None) }
     {
-        if self.line.len() > LONGEST {
+        if self.line.len() > LONGEST_LINE {
             self.waiting.push_back(Command::Bad(LINE_TOO_LONG))?;
         } else if takes_block(&self.line) {
             self.block = Some(Block {

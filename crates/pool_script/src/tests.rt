@@ -4,7 +4,7 @@ ghost use Rattle.pool_script.specs.Commands.{whole_commands};
 ghost use Rattle.pool_script.specs.Standing.{Stands};
 
 use crate::{Command, Script};
-use pool_text::{OutOfMemory, Text, append_number};
+use pool_text::{OutOfMemory, Text, append_count};
 use std::alloc::Global;
 use std::test::Fail;
 
@@ -229,5 +229,5 @@ fn append_words(out: &mut Text, words: &[&[u8]]) -> Result<(), OutOfMemory> {
 fn append_with_number(out: &mut Text, word: &[u8], number: u64) -> Result<(), OutOfMemory> {
     out.append(word)?;
     out.append(b" ")?;
-    append_number(out, i64::try_from(number).unwrap_or(-1))
+    append_count(out, number)
 }

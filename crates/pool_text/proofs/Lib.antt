@@ -1,2 +1,4 @@
 pub mod LineLemmas
 pub mod NumberLemmas
+pub mod ReturnLemmas
+pub mod WordLemmas

@@ -1,6 +1,7 @@
 -- Lines of pieces that are put together.
-use Rattle.std.proofs.Common.{◌≡◌, ℕ, true, false, eqb, List, [], ◌∷◌, ◌++◌, refl, sym, ◌∙◌, ap, inl, inr, arith}
+use Rattle.std.proofs.Common.{◌≡◌, ◌≢◌, All, ℕ, true, false, eqb, List, [], ◌∷◌, ◌++◌, refl, sym, ◌∙◌, ap, inl, inr, arith}
 use Rattle.std.proofs.lemmas.Bool.{cases_Bool}
+use Rattle.std.proofs.lemmas.List.Elements.{All-cons, All-head, All-nil, All-tail}
 use Rattle.std.proofs.lemmas.Bool.Decides.{nat_tests}
 use Rattle.pool_text.specs.Lines.{ended, onto, rest_behind, rest_of, with_feeds}
 
@@ -69,4 +70,37 @@ ended-rest_of (x ∷ b) =
     elim (cases_Bool (eqb x 10)) [
       | inl is ↦ ap ended (rest_at x b is) ∙ ended-rest_of b
       | inr is ↦ ap ended (rest_onto x b is) ∙ none_step x (ended b) (rest_of b) is (ended-rest_of b)
+    ]
+
+-- bytes of which none is a line feed
+abbrev HoldsNoFeed : List ℕ → Type 0
+HoldsNoFeed bytes = All (λ byte. byte ≢ 10) bytes
+
+no_feed_more : (x : ℕ) (bytes : List ℕ) → x ≢ 10 → HoldsNoFeed bytes → HoldsNoFeed (x ∷ bytes)
+no_feed_more x bytes other none = All-cons (λ byte. byte ≢ 10) x bytes other none
+
+no_feed_onto : (x : ℕ) (lines : List (List ℕ)) → x ≢ 10 → All HoldsNoFeed lines → All HoldsNoFeed (onto x lines)
+no_feed_onto x [] other none = none
+no_feed_onto x (line ∷ lines) other none = All-cons HoldsNoFeed (x ∷ line) lines (no_feed_more x line other (All-head HoldsNoFeed line lines none)) (All-tail HoldsNoFeed line lines none)
+
+no_feed_behind : (x : ℕ) (lines : List (List ℕ)) (rest : List ℕ) → x ≢ 10 → HoldsNoFeed rest → HoldsNoFeed (rest_behind lines x rest)
+no_feed_behind x [] rest other none = no_feed_more x rest other none
+no_feed_behind x (line ∷ lines) rest other none = none
+
+-- no line that has ended holds a line feed
+pub ended-no_feed : (bytes : List ℕ) → All HoldsNoFeed (ended bytes)
+ended-no_feed [] = All-nil HoldsNoFeed
+ended-no_feed (x ∷ bytes) =
+    elim (cases_Bool (eqb x 10)) [
+      | inl is ↦ rw is (All-cons HoldsNoFeed [] (ended bytes) (All-nil (λ byte. byte ≢ 10)) (ended-no_feed bytes))
+      | inr is ↦ let other : x ≢ 10 = grind (arith, nat_tests) in rw is (no_feed_onto x (ended bytes) other (ended-no_feed bytes))
+    ]
+
+-- and neither does the rest
+pub rest_of-no_feed : (bytes : List ℕ) → HoldsNoFeed (rest_of bytes)
+rest_of-no_feed [] = All-nil (λ byte. byte ≢ 10)
+rest_of-no_feed (x ∷ bytes) =
+    elim (cases_Bool (eqb x 10)) [
+      | inl is ↦ rw is (rest_of-no_feed bytes)
+      | inr is ↦ let other : x ≢ 10 = grind (arith, nat_tests) in rw is (no_feed_behind x (ended bytes) (rest_of bytes) other (rest_of-no_feed bytes))
     ]

@@ -2,3 +2,4 @@ pub mod Folding
 pub mod Lines
 pub mod Number
 pub mod Reading
+pub mod Words

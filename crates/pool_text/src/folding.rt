@@ -1,8 +1,6 @@
 // Names and strings are compared after `A` to `Z` are made small.
 ghost use Rattle.std.specs.Prelude.{◌≡◌, ◌↔◌, IfOk, IsTrue};
-ghost use Rattle.std.specs.Ordering.{nat_cmp};
-ghost use Rattle.std.specs.Cmp.Lexicographic.{slice_cmp};
-ghost use Rattle.pool_text.specs.Folding.{folded};
+ghost use Rattle.pool_text.specs.Folding.{folded, text_order};
 
 use crate::{OutOfMemory, Text};
 use std::alloc::Global;
@@ -28,7 +26,7 @@ pub fn same_folded(a: &[u8], b: &[u8]) -> bool
 
 /// How the bytes compare after folding, byte by byte, the shorter first where it begins the longer.
 pub fn order_folded(a: &[u8], b: &[u8]) -> Ordering
-    ensures { result ≡ slice_cmp nat_cmp (folded a.now) (folded b.now) }
+    ensures { result ≡ text_order a.now b.now }
 {
     let mut left = a;
     let mut right = b;

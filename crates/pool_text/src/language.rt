@@ -1,4 +1,6 @@
 // The small types of the ClassAd language that texts, trees and values share.
+ghost use Rattle.std.specs.Prelude.{◌≡◌, ◌↔◌, IsTrue};
+
 use crate::Text;
 
 /// A literal of the language. A parse never makes a negative `Integer`.
@@ -18,12 +20,26 @@ pub struct AdPlace {
     pub frame: u32,
 }
 
+/// Whether two places are equal: ad and frame.
+pub fn same_place(a: &AdPlace, b: &AdPlace) -> bool
+    ensures { IsTrue result ↔ (a.now ≡ b.now) }
+{
+    a == b
+}
+
 /// An attribute of a frame of an ad, counted from 0 in the frame's order.
 #[derive(Clone, Copy, Debug, PartialEq, Eq)]
 pub struct Pos {
     pub ad: u32,
     pub frame: u32,
     pub attr: u32,
+}
+
+/// Whether two positions are equal: ad, frame and attribute.
+pub fn same_position(a: &Pos, b: &Pos) -> bool
+    ensures { IsTrue result ↔ (a.now ≡ b.now) }
+{
+    a == b
 }
 
 /// The operators before one operand: `+ - ! ~`.
@@ -33,6 +49,13 @@ pub enum UnOp {
     Minus,
     Not,
     Complement,
+}
+
+/// Whether two operators before one operand are equal.
+pub fn same_unary(a: &UnOp, b: &UnOp) -> bool
+    ensures { IsTrue result ↔ (a.now ≡ b.now) }
+{
+    a == b
 }
 
 /// The strict operators between two operands, with `is` (`Same`) and `isnt` (`NotSame`).
@@ -57,4 +80,11 @@ pub enum BinOp {
     Mul,
     Div,
     Rem,
+}
+
+/// Whether two operators between operands are equal.
+pub fn same_binary(a: &BinOp, b: &BinOp) -> bool
+    ensures { IsTrue result ↔ (a.now ≡ b.now) }
+{
+    a == b
 }

@@ -3,83 +3,41 @@ ghost use Rattle.std.specs.Prelude.{◌≡◌, ◌++◌, ◌∷◌, ◌<◌, [],
 
 use crate::{OutOfMemory, Text};
 use std::alloc::Global;
+use std::convert::AsSlice;
 use std::marker::Model;
 
-/// A list of slot numbers, or of other whole numbers.
+/// A growing list, which contracts see as the list of its items.
 #[derive(Debug, Drop)]
-pub struct Slots {
-    items: Vec<usize>,
+pub struct Items<T> {
+    items: Vec<T>,
 }
 
-impl Model for Slots {
-    ghost use Rattle.std.specs.Prelude.{List, ℕ};
-
-    ghost Value = { List ℕ };
-
-    ghost view = { λ s. s.items.items };
-}
-
-impl Slots {
-    /// The empty list, which takes no memory yet.
-    pub fn new(alloc: Global) -> Slots
-        ensures { result ≡ [] }
-    {
-        Slots {
-            items: Vec::new(alloc),
-        }
-    }
-
-    /// Adds a number at the end.
-    pub fn push(&mut self, item: usize) -> Result<(), OutOfMemory>
-        ensures ok { OnOk result (self.new ≡ self.old ++ item ∷ []) }
-        ensures err { OnErr result (self.new ≡ self.old) }
-    {
-        self.items.push(item)?;
-        Ok(())
-    }
-
-    /// How many numbers there are.
-    pub fn len(&self) -> usize
-        ensures { result ≡ length self.now }
-    {
-        self.items.len()
-    }
-
-    /// The number at place `i`, counted from 0.
-    pub fn at(&self, i: usize) -> &usize
-        requires { i < length self.now }
-        ensures { slice_get self.now i ≡ Some result.now }
-    {
-        &self.items[i]
-    }
-}
+/// A list of slot numbers, or of other whole numbers.
+pub type Slots = Items<usize>;
 
 /// A list of names.
-#[derive(Debug, Drop)]
-pub struct Names {
-    items: Vec<Text>,
+pub type Names = Items<Text>;
+
+impl<T> Model for Items<T> {
+    ghost use Rattle.std.specs.Prelude.{List};
+
+    ghost Value = { List T };
+
+    ghost view = { λ l. l.items.items };
 }
 
-impl Model for Names {
-    ghost use Rattle.std.specs.Prelude.{List, ℕ};
-
-    ghost Value = { List (List ℕ) };
-
-    ghost view = { λ n. n.items.items };
-}
-
-impl Names {
+impl<T: Drop> Items<T> {
     /// The empty list, which takes no memory yet.
-    pub fn new(alloc: Global) -> Names
+    pub fn new(alloc: Global) -> Items<T>
         ensures { result ≡ [] }
     {
-        Names {
+        Items {
             items: Vec::new(alloc),
         }
     }
 
-    /// Adds a name at the end.
-    pub fn push(&mut self, item: Text) -> Result<(), OutOfMemory>
+    /// Adds an item at the end.
+    pub fn push(&mut self, item: T) -> Result<(), OutOfMemory>
         ensures ok { OnOk result (self.new ≡ self.old ++ item ∷ []) }
         ensures err { OnErr result (self.new ≡ self.old) }
     {
@@ -87,18 +45,26 @@ impl Names {
         Ok(())
     }
 
-    /// How many names there are.
+    /// How many items there are.
     pub fn len(&self) -> usize
         ensures { result ≡ length self.now }
     {
         self.items.len()
     }
 
-    /// The name at place `i`, counted from 0.
-    pub fn at(&self, i: usize) -> &Text
+    /// The item at place `i`, counted from 0.
+    pub fn at(&self, i: usize) -> &T
         requires { i < length self.now }
         ensures { slice_get self.now i ≡ Some result.now }
     {
         &self.items[i]
+    }
+}
+
+impl<T> AsSlice<T> for Items<T> {
+    ghost items = { λ l. l };
+
+    fn as_slice(&self) -> &[T] {
+        &self.items
     }
 }

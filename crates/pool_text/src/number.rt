@@ -1,5 +1,5 @@
 // Whole numbers as decimal text.
-ghost use Rattle.std.specs.Prelude.{◌≡◌, ◌++◌, OnOk, OnErr};
+ghost use Rattle.std.specs.Prelude.{◌≡◌, ◌++◌, decimal, OnOk, OnErr};
 ghost use Rattle.std.specs.Fmt.{signed_decimal};
 ghost use Rattle.pool_text.specs.Number.{number_of};
 ghost use Rattle.pool_text.specs.Reading.{read_from};
@@ -45,4 +45,13 @@ pub fn append_number(out: &mut Text, n: i64) -> Result<(), OutOfMemory>
 {
     let mut buffer = Buffer::new();
     out.append(buffer.format(n).as_bytes())
+}
+
+/// Appends the decimal text of a count, all of it or nothing.
+pub fn append_count(out: &mut Text, count: u64) -> Result<(), OutOfMemory>
+    ensures ok { OnOk result (out.new ≡ out.old ++ decimal count) }
+    ensures err { OnErr result (out.new ≡ out.old) }
+{
+    let mut buffer = Buffer::new();
+    out.append(buffer.format(count).as_bytes())
 }

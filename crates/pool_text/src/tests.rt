@@ -1,6 +1,7 @@
 // Each call once with ample memory, and values from outside.
 use crate::*;
 use std::cmp::Ordering;
+use std::convert::AsSlice;
 use std::test::Fail;
 
 #[test]
@@ -17,6 +18,7 @@ fn texts_and_lists(rt: HostRuntime) -> Result<(), Fail> {
     if slots.len() == 2 {
         assert_eq!(rt; *slots.at(1), 2);
     }
+    assert_eq!(rt; slots.as_slice(), [4, 2].as_slice());
     let mut names = Names::new(alloc);
     names.push(text)?;
     assert_eq!(rt; names.len(), 1);
@@ -51,7 +53,11 @@ fn numbers_are_written(rt: HostRuntime) -> Result<(), Fail> {
     append_number(&mut text, -9223372036854775808)?;
     append_number(&mut text, 0)?;
     append_number(&mut text, 42)?;
-    assert_eq!(rt; text.bytes(), b"-9223372036854775808042".as_slice());
+    append_count(&mut text, 18446744073709551615)?;
+    assert_eq!(rt;
+        text.bytes(),
+        b"-922337203685477580804218446744073709551615".as_slice()
+    );
     Ok(())
 }
 
@@ -66,4 +72,39 @@ fn letters_are_folded(rt: HostRuntime) -> Result<(), Fail> {
     assert!(rt; order_folded(b"b", b"AA") == Ordering::Greater);
     assert!(rt; order_folded(b"X1", b"x1") == Ordering::Equal);
     Ok(())
+}
+
+#[test]
+fn lines_have_words(rt: HostRuntime) {
+    let line = without_return(b" \tshow\t \x0cdesk 1 \r\r");
+    assert_eq!(rt; line, b" \tshow\t \x0cdesk 1 \r".as_slice());
+    let text = past_blanks(line);
+    assert_eq!(rt; word_of(text), b"show".as_slice());
+    assert_eq!(rt; words_behind(text), b"\x0cdesk 1 \r".as_slice());
+    assert_eq!(rt; words_behind(b"list \t"), b"".as_slice());
+}
+
+#[test]
+fn small_values_are_equal(rt: HostRuntime) {
+    let place = AdPlace { ad: 1, frame: 2 };
+    assert!(rt; same_place(&place, &AdPlace { ad: 1, frame: 2 }));
+    assert!(rt; !same_place(&place, &AdPlace { ad: 1, frame: 0 }));
+    let position = Pos {
+        ad: 1,
+        frame: 2,
+        attr: 3,
+    };
+    assert!(rt; same_position(&position, &position));
+    assert!(rt;
+        !same_position(
+            &position,
+            &Pos {
+                ad: 1,
+                frame: 2,
+                attr: 4
+            }
+        )
+    );
+    assert!(rt; same_unary(&UnOp::Not, &UnOp::Not) && !same_unary(&UnOp::Not, &UnOp::Minus));
+    assert!(rt; same_binary(&BinOp::Rem, &BinOp::Rem) && !same_binary(&BinOp::Rem, &BinOp::BitOr));
 }

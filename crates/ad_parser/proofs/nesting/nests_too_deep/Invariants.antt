@@ -1,6 +1,7 @@
 use Rattle.std.proofs.Common.{◌≡◌, ◌≤◌, List, drop, map}
 use Rattle.ad_parser.specs.Limits.{nests_deeper, nests_too_deep}
-use Rattle.ad_parser.specs.Words.{Word, mark_in}
+use Rattle.ad_parser.specs.HeldMarks.{mark_in}
+use Rattle.ad_parser.specs.Words.{Word}
 use Rattle.ad_parser.proofs.nesting.nests_too_deep.Given as goal
 
 abbrev pub invariant-loop-mark : goal.invariant-loop-mark

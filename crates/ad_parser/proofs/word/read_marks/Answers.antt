@@ -1,6 +1,7 @@
 use Rattle.std.proofs.Common.{take, map, [], ◌∷◌, ◌++◌, sym, ap, ◌∙◌}
 use Rattle.ad_lexer.specs.Lexeme.{lexeme}
-use Rattle.ad_parser.specs.Words.{mark_in, words}
+use Rattle.ad_parser.specs.HeldMarks.{mark_in}
+use Rattle.ad_parser.specs.Words.{words}
 use Rattle.ad_parser.proofs.WordLemmas.{marks-next}
 use Rattle.ad_parser.proofs.word.read_marks.Goals as goal
 

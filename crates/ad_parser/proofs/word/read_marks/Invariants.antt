@@ -1,5 +1,6 @@
 use Rattle.std.proofs.Common.{◌≡◌, map, take}
-use Rattle.ad_parser.specs.Words.{mark_in, words}
+use Rattle.ad_parser.specs.HeldMarks.{mark_in}
+use Rattle.ad_parser.specs.Words.{words}
 use Rattle.ad_parser.proofs.word.read_marks.Given as goal
 
 abbrev pub invariant-loop-i : goal.invariant-loop-i

@@ -1,5 +1,5 @@
 use Rattle.std.proofs.Common.{arith, length-drop}
-use Rattle.ad_parser.specs.Words.{known_words}
+use Rattle.ad_parser.specs.HeldMarks.{known_words}
 use Rattle.ad_parser.proofs.WordLemmas.{known-many}
 use Rattle.ad_parser.proofs.reader.Reader.count.Goals as goal
 

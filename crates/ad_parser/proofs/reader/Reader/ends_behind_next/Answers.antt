@@ -1,5 +1,5 @@
 use Rattle.std.proofs.Common.{arith, ◌+◌, ap, sym, ◌∙◌}
-use Rattle.ad_parser.specs.Words.{ends, ends_at, front_mark, known_words}
+use Rattle.ad_parser.specs.HeldMarks.{ends, ends_at, front_mark, known_words}
 use Rattle.ad_parser.proofs.WordLemmas.{mark-at, none-behind, drop-next}
 use Rattle.ad_parser.proofs.reader.Reader.ends_behind_next.Goals as goal
 

@@ -1,5 +1,5 @@
 use Rattle.std.proofs.Common.{arith, ap, sym, ◌∙◌}
-use Rattle.ad_parser.specs.Words.{front_mark}
+use Rattle.ad_parser.specs.HeldMarks.{front_mark}
 use Rattle.ad_parser.proofs.WordLemmas.{mark-at, none-behind}
 use Rattle.ad_parser.proofs.reader.Reader.mark.Goals as goal
 

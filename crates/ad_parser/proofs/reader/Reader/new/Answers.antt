@@ -1,5 +1,5 @@
 use Rattle.std.proofs.Common.{ap, ◌∙◌}
-use Rattle.ad_parser.specs.Words.{known_words}
+use Rattle.ad_parser.specs.HeldMarks.{known_words}
 use Rattle.ad_parser.proofs.WordLemmas.{known-all}
 use Rattle.ad_parser.proofs.reader.Reader.new.Goals as goal
 

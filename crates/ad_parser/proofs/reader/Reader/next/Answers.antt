@@ -1,7 +1,7 @@
 use Rattle.std.proofs.Common.{arith, ap, sym, ◌∙◌, Some}
 use Rattle.std.proofs.Math.Logic.{∥∥₁_map}
 use Rattle.ad_lexer.specs.Lexeme.{lexeme}
-use Rattle.ad_parser.specs.Words.{front}
+use Rattle.ad_parser.specs.HeldMarks.{front}
 use Rattle.ad_parser.proofs.WordLemmas.{spelled-at, marked-front, unmarked-front, none-behind}
 use Rattle.ad_parser.proofs.reader.Reader.next.Goals as goal
 

@@ -1,5 +1,5 @@
 use Rattle.std.proofs.Common.{arith, ap, sym, drop, ◌∙◌}
-use Rattle.ad_parser.specs.Words.{known_words}
+use Rattle.ad_parser.specs.HeldMarks.{known_words}
 use Rattle.ad_parser.proofs.WordLemmas.{drop-next, none-behind}
 use Rattle.ad_parser.proofs.reader.Reader.skip.Goals as goal
 

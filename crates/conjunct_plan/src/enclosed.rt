@@ -1,0 +1,29 @@
+// What a name has in a frame and in those that enclose it.
+ghost use Rattle.std.specs.Prelude.{◌≡◌, ◌<◌, length};
+ghost use Rattle.std.specs.Option.{option_map};
+ghost use Rattle.ad_tree.specs.Ad.{ad_frames};
+ghost use Rattle.ad_tree.specs.Enclosing.{enclosed_expr, expr_named};
+ghost use Rattle.ad_tree.specs.Tree.{tree};
+
+use ad_tree::{Ad, Expr};
+
+/// The expression that a name has in the frame alone.
+pub(crate) fn own<'a>(ad: &'a Ad, frame: u32, name: &[u8]) -> Option<&'a Expr>
+    requires { frame < length (ad_frames ad.now) }
+    ensures { option_map (λ e. tree e.now) result ≡ expr_named (ad_frames ad.now) frame name.now }
+{
+    let attr = ad.position(frame, name)?;
+    Some(ad.expr(frame, attr))
+}
+
+/// The expression that a name has in the frame or in those that enclose it, from the inside out.
+pub(crate) fn enclosed<'a>(ad: &'a Ad, frame: u32, name: &[u8]) -> Option<&'a Expr>
+    requires { frame < length (ad_frames ad.now) }
+    ensures { option_map (λ e. tree e.now) result ≡ enclosed_expr (ad_frames ad.now) frame name.now }
+{
+    if let Some(expr) = own(ad, frame, name) {
+        return Some(expr);
+    }
+    let parent = ad.parent(frame)?;
+    enclosed(ad, parent, name)
+}

@@ -1,0 +1,8 @@
+//! Slices of the pie: how many resources each user may be given in a spin, by priority, in exact whole numbers.
+#![tactic(auto)]
+
+mod slices;
+#[cfg(test)]
+mod tests;
+
+pub use slices::{Slices, slices, weight};

@@ -1,0 +1,9 @@
+pub mod ListLemmas
+pub mod NameLemmas
+pub mod Running
+pub mod NumberLemmas
+pub mod ValueLemmas
+pub mod ItemLemmas
+pub mod CallLemmas
+pub mod TextLemmas
+pub mod CompareLemmas

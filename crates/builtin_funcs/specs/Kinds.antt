@@ -1,0 +1,43 @@
+-- The kinds of values, as tests.
+use Rattle.std.specs.Prelude.{Bool, true, false}
+use Rattle.ad_value.specs.Plain.{Plain, undefined, error, boolean, integer, text, list, ad_at}
+
+abbrev pub is_undefined : Plain → Bool
+is_undefined undefined = true
+is_undefined other = false
+
+abbrev pub is_error : Plain → Bool
+is_error error = true
+is_error other = false
+
+abbrev pub is_boolean : Plain → Bool
+is_boolean (boolean b) = true
+is_boolean other = false
+
+abbrev pub is_integer : Plain → Bool
+is_integer (integer n) = true
+is_integer other = false
+
+abbrev pub is_text : Plain → Bool
+is_text (text bytes) = true
+is_text other = false
+
+abbrev pub is_list : Plain → Bool
+is_list (list items) = true
+is_list other = false
+
+abbrev pub is_ad : Plain → Bool
+is_ad (ad_at place) = true
+is_ad other = false
+
+-- a Boolean, an Integer or a String
+abbrev pub is_scalar : Plain → Bool
+is_scalar (boolean b) = true
+is_scalar (integer n) = true
+is_scalar (text bytes) = true
+is_scalar other = false
+
+-- the Boolean true, and no other value
+abbrev pub is_true : Plain → Bool
+is_true (boolean b) = b
+is_true other = false

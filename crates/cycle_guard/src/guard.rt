@@ -1,0 +1,159 @@
+// A finite map from attributes to what is known of them.
+ghost use Rattle.std.specs.Prelude.{◌≡◌, ℕ, OnOk, OnErr, IfSome, Some, cond, length, position, slice_get, slice_set, ◌<◌};
+ghost use Rattle.std.specs.Option.{option_copied};
+ghost use Rattle.pool_text.specs.declared.language.Pos.{Pos};
+ghost use Rattle.ad_value.specs.Plain.{plain};
+ghost use Rattle.cycle_guard.specs.Sights.{same_pos, sight};
+ghost use Rattle.cycle_guard.specs.Shown.{entry_of, key_of, sight_of_kept};
+
+use ad_value::Value;
+use pool_text::{OutOfMemory, Pos};
+use smallvec::SmallVec;
+use std::alloc::Global;
+use std::collections::HashMap;
+
+/// Most evaluations enter no more attributes than these, and then the guard takes no memory.
+const FIRST: usize = 8;
+
+/// What is known of an attribute: nothing yet, that it was entered, or its value with the least number of references that it
+/// needs, the one to itself included.
+#[derive(Debug)]
+pub enum Seen<'a> {
+    Unseen,
+    Pending,
+    Done(&'a Value, u32),
+}
+
+#[derive(Debug, Drop)]
+struct Kept {
+    value: Value,
+    height: u32,
+}
+
+// An attribute that was entered, with its value once that is known.
+#[derive(Debug, Drop)]
+struct Entry {
+    pos: Pos,
+    kept: Option<Kept>,
+}
+
+// What fills the places that aren't used yet.
+impl Default for Entry {
+    fn default() -> Entry {
+        Entry {
+            pos: Pos {
+                ad: 0,
+                frame: 0,
+                attr: 0,
+            },
+            kept: None,
+        }
+    }
+}
+
+/// The attributes that an evaluation has entered, with what is known of them. Contracts see a sight for each attribute.
+#[derive(Debug, Drop)]
+pub struct Guard {
+    first: SmallVec<Entry, FIRST>,
+    others: HashMap<(u32, u32, u32), Option<Kept>>,
+}
+
+impl Guard {
+    ghost use Rattle.cycle_guard.specs.Sights.{done, pending, unseen};
+    ghost use Rattle.cycle_guard.specs.Shown.{sight_of};
+
+    /// Every attribute is unseen. This takes no memory yet.
+    pub fn new(alloc: Global) -> Guard
+        ensures { (q : Pos) → sight_of result q ≡ unseen }
+    {
+        Guard {
+            first: SmallVec::new(alloc),
+            others: HashMap::new(alloc),
+        }
+    }
+
+    /// What is known of an attribute.
+    pub fn state(&self, pos: Pos) -> Seen<'_>
+        ensures { sight result ≡ sight_of self.now pos }
+    {
+        match entry_at(self.first.as_slice(), pos) {
+            Some(kept) => seen_of(kept),
+            None => match self.others.get(&key_of(pos)) {
+                Some(kept) => seen_of(kept),
+                None => Seen::Unseen,
+            },
+        }
+    }
+
+    /// Enters an attribute, which becomes pending.
+    pub fn enter(&mut self, pos: Pos) -> Result<(), OutOfMemory>
+        requires { sight_of self.old pos ≡ unseen }
+        ensures ok { OnOk result ((q : Pos) → sight_of self.new q ≡ cond (same_pos pos q) pending (sight_of self.old q)) }
+        ensures err { OnErr result ((q : Pos) → sight_of self.new q ≡ sight_of self.old q) }
+    {
+        if self.first.len() < FIRST {
+            self.first.push(Entry { pos, kept: None })?;
+        } else {
+            self.others.insert(key_of(pos), None)?;
+        }
+        Ok(())
+    }
+
+    /// Keeps the value of a pending attribute with the number of references that it needs. This takes no memory.
+    pub fn finish(&mut self, pos: Pos, v: Value, height: u32)
+        requires { sight_of self.old pos ≡ pending }
+        ensures { (q : Pos) → sight_of self.new q ≡ cond (same_pos pos q) (done (plain v) height) (sight_of self.old q) }
+    {
+        let kept = Kept { value: v, height };
+        match place_of(self.first.as_slice(), pos) {
+            Some(place) => keep(self.first.as_mut_slice(), place, kept),
+            None => {
+                if let Some(old) = self.others.get_mut(&key_of(pos)) {
+                    *old = Some(kept);
+                }
+            }
+        }
+    }
+}
+
+// The key of an attribute in the map.
+fn key_of(pos: Pos) -> (u32, u32, u32)
+    ensures { result ≡ key_of pos }
+{
+    (pos.ad, pos.frame, pos.attr)
+}
+
+// Where an attribute stands among entries.
+fn place_of(entries: &[Entry], pos: Pos) -> Option<usize>
+    ensures { result ≡ position (λ e. same_pos e.pos pos) entries.now }
+{
+    entries.iter().position(|entry| entry.pos == pos)
+}
+
+// What entries have of an attribute.
+fn entry_at(entries: &[Entry], pos: Pos) -> Option<&Option<Kept>>
+    ensures { option_copied result ≡ entry_of entries.now pos }
+{
+    match place_of(entries, pos) {
+        Some(place) => Some(&entries[place].kept),
+        None => None,
+    }
+}
+
+// What is known of an attribute that was entered.
+fn seen_of(kept: &Option<Kept>) -> Seen<'_>
+    ensures { sight result ≡ sight_of_kept kept.now }
+{
+    match kept {
+        Some(kept) => Seen::Done(&kept.value, kept.height),
+        None => Seen::Pending,
+    }
+}
+
+// Keeps the value of an entry.
+fn keep(entries: &mut [Entry], place: usize, kept: Kept)
+    requires { place < length entries.old }
+    ensures { IfSome (slice_get entries.old place) (λ e. entries.new ≡ slice_set entries.old place (record { pos = e.pos; kept = Some kept })) }
+{
+    entries[place].kept = Some(kept);
+}

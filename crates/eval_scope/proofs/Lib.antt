@@ -1,0 +1,2 @@
+pub mod LookLemmas
+mod WorldLemmas

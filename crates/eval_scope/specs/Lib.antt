@@ -1,0 +1,3 @@
+pub mod Look
+pub mod Shown
+pub mod World

@@ -1,7 +1,10 @@
+mod AddLemmas
 mod NestTrees
 mod QuoteLemmas
+mod QuotingLemmas
 mod ReadLemmas
 mod ReadTrees
 mod StandLemmas
 mod StandTrees
+mod ValueLemmas
 mod WordLemmas

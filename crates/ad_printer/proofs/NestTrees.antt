@@ -29,15 +29,14 @@ flat-none n = record { passes = λ o c more fits. let a : o ≡ o + 0 = omega ar
 flat-append : (n : ℕ) (a b : List Word) → Flat n a → Flat n b → Flat n (a ++ b)
 flat-append n a b f g = record {
   passes = λ o c more fits.
-  let one = f.passes o c (b ++ more) fits in
-  let two = g.passes (o + one.0) (c + one.0) more (omega arith) in
-  let p : o + one.0 + two.0 ≡ o + (one.0 + two.0) = omega arith in
-  let q : c + one.0 + two.0 ≡ c + (one.0 + two.0) = omega arith in
-  (
-    one.0 + two.0,
-    ap (λ ws. nests_deeper o c ws) (append_assoc a b more) ∙ one.1 ∙ two.1
-    ∙ ap (λ (i : ℕ). nests_deeper i (c + one.0 + two.0) more) p ∙ ap (λ (i : ℕ). nests_deeper (o + (one.0 + two.0)) i more) q,
-  );
+      let one = f.passes o c (b ++ more) fits in
+      let two = g.passes (o + one.0) (c + one.0) more (omega arith) in
+      let p : o + one.0 + two.0 ≡ o + (one.0 + two.0) = omega arith in
+      let q : c + one.0 + two.0 ≡ c + (one.0 + two.0) = omega arith in (
+        one.0 + two.0,
+        ap (λ ws. nests_deeper o c ws) (append_assoc a b more) ∙ one.1 ∙ two.1
+            ∙ ap (λ (i : ℕ). nests_deeper i (c + one.0 + two.0) more) p ∙ ap (λ (i : ℕ). nests_deeper (o + (one.0 + two.0)) i more) q,
+      );
 }
 
 flat-more : (n m : ℕ) (ws : List Word) → n ≤ m → Flat n ws → Flat m ws
@@ -55,16 +54,15 @@ flat-word n w opens closes = record { passes = λ o c more fits. (0, step o c w 
 flat-inside : (n : ℕ) (left right : Word) (ws : List Word) → opening left ≡ 1 → closing left ≡ 0 → opening right ≡ 0 → closing right ≡ 1 → Flat n ws → Flat (suc n) (left ∷ (ws ++ right ∷ []))
 flat-inside n left right ws a b x y f = record {
   passes = λ o c more fits.
-  let one = step o c left ((ws ++ right ∷ []) ++ more) 1 0 a b (omega arith) in
-  let two = f.passes (o + 1) (c + 0) (right ∷ more) (omega arith) in
-  let three = step (o + 1 + two.0) (c + 0 + two.0) right more 0 1 x y (omega arith) in
-  let p : o + 1 + two.0 + 0 ≡ o + suc two.0 = omega arith in
-  let q : c + 0 + two.0 + 1 ≡ c + suc two.0 = omega arith in
-  (
-    suc two.0,
-    one ∙ ap (λ us. nests_deeper (o + 1) (c + 0) us) (append_assoc ws (right ∷ []) more) ∙ two.1 ∙ three
-    ∙ ap (λ (i : ℕ). nests_deeper i (c + 0 + two.0 + 1) more) p ∙ ap (λ (i : ℕ). nests_deeper (o + suc two.0) i more) q,
-  );
+      let one = step o c left ((ws ++ right ∷ []) ++ more) 1 0 a b (omega arith) in
+      let two = f.passes (o + 1) (c + 0) (right ∷ more) (omega arith) in
+      let three = step (o + 1 + two.0) (c + 0 + two.0) right more 0 1 x y (omega arith) in
+      let p : o + 1 + two.0 + 0 ≡ o + suc two.0 = omega arith in
+      let q : c + 0 + two.0 + 1 ≡ c + suc two.0 = omega arith in (
+        suc two.0,
+        one ∙ ap (λ us. nests_deeper (o + 1) (c + 0) us) (append_assoc ws (right ∷ []) more) ∙ two.1 ∙ three
+            ∙ ap (λ (i : ℕ). nests_deeper i (c + 0 + two.0 + 1) more) p ∙ ap (λ (i : ℕ). nests_deeper (o + suc two.0) i more) q,
+      );
 }
 
 pub shallow : (ws : List Word) (n : ℕ) → n ≤ nesting_limit → Flat n ws → nests_too_deep ws ≡ false
@@ -73,9 +71,6 @@ shallow ws n low f =
     ap nests_too_deep e ∙ (f.passes 0 0 [] (omega arith)).1
 
 -- ---- pieces
-
-
-
 
 pieces-append : (n : ℕ) (a b : List Item) → Flat n (words_of a) → Flat n (words_of b) → Flat n (words_of (a ++ b))
 pieces-append n a b f g = subst (Flat n) (sym (words_of-append a b)) (flat-append n (words_of a) (words_of b) f g)

@@ -35,8 +35,7 @@ digits_octal byte after some small =
     let a = octal_value (48 + byte / 64) first in
     let b = octal_value (48 + byte / 8 % 8) second in
     let c = octal_value (48 + byte % 8) third in
-    let value : digits_value 8 (octal_digits byte) ≡ byte = omega arith in
-    (
+    let value : digits_value 8 (octal_digits byte) ≡ byte = omega arith in (
       record {
         some = omega arith;
         most = omega arith;

@@ -32,8 +32,8 @@ put-close bytes after spells utf8 ends = put-token kinds.Symbol bytes [] after s
 in_parens : (j k : ℕ) (items : List Item) → Stands j items → Stands k (symbol (codes "(") ∷ (items ++ symbol (codes ")") ∷ []))
 in_parens j k items s = record {
   stand = λ after a.
-  put-token kinds.Symbol (codes "(") (items ++ symbol (codes ")") ∷ []) after refl (ascii_utf8 (codes "(") refl) refl
-  (Stand-append items (symbol (codes ")") ∷ []) after (s.stand (41 ∷ after) (ahead-of 41 after refl refl j)) (put-close (codes ")") after refl (ascii_utf8 (codes ")") refl) (λ byte. refl)));
+      put-token kinds.Symbol (codes "(") (items ++ symbol (codes ")") ∷ []) after refl (ascii_utf8 (codes "(") refl) refl
+      (Stand-append items (symbol (codes ")") ∷ []) after (s.stand (41 ∷ after) (ahead-of 41 after refl refl j)) (put-close (codes ")") after refl (ascii_utf8 (codes ")") refl) (λ byte. refl)));
   begins = λ after. refl;
 }
 
@@ -64,11 +64,11 @@ enclosed_stands left right divider (p ∷ ps) b d s =
     let row : List Item = divided divider (p ∷ ps) in
     record {
       stand = λ after a.
-      let before : List ℕ = text_of last ++ after in
-      let ahead : Ahead 13 before = ahead-of 32 (text_of (symbol right ∷ []) ++ after) refl refl 13 in
-      put-token kinds.Symbol left (space ∷ (row ++ last)) after b.left_symbol b.left_utf8 b.left_ends
-      (put-space (row ++ last) after
-      (Stand-append row last after (row-stands divider d 13 13 p ps before s.0 s.1 ahead ahead) (put-space (symbol right ∷ []) after (put-close right after b.right_symbol b.right_utf8 b.right_ends))));
+          let before : List ℕ = text_of last ++ after in
+          let ahead : Ahead 13 before = ahead-of 32 (text_of (symbol right ∷ []) ++ after) refl refl 13 in
+          put-token kinds.Symbol left (space ∷ (row ++ last)) after b.left_symbol b.left_utf8 b.left_ends
+          (put-space (row ++ last) after
+          (Stand-append row last after (row-stands divider d 13 13 p ps before s.0 s.1 ahead ahead) (put-space (symbol right ∷ []) after (put-close right after b.right_symbol b.right_utf8 b.right_ends))));
       begins = λ after. rw (append_assoc left (text_of (space ∷ (row ++ last))) after) (b.begins (text_of (space ∷ (row ++ last)) ++ after));
     }
 
@@ -152,9 +152,9 @@ subscript_stands a b x y =
     let rest : List Item = symbol (codes "[") ∷ (b ++ close) in
     record {
       stand = λ after ahead.
-      Stand-append a rest after (x.stand (text_of rest ++ after) (ahead-of 91 (text_of (b ++ close) ++ after) refl refl 1))
-      (put-token kinds.Symbol (codes "[") (b ++ close) after refl (ascii_utf8 (codes "[") refl) refl
-      (Stand-append b close after (y.stand (93 ∷ after) (ahead-of 93 after refl refl 13)) (put-close (codes "]") after refl (ascii_utf8 (codes "]") refl) (λ byte. refl))));
+          Stand-append a rest after (x.stand (text_of rest ++ after) (ahead-of 91 (text_of (b ++ close) ++ after) refl refl 1))
+          (put-token kinds.Symbol (codes "[") (b ++ close) after refl (ascii_utf8 (codes "[") refl) refl
+          (Stand-append b close after (y.stand (93 ∷ after) (ahead-of 93 after refl refl 13)) (put-close (codes "]") after refl (ascii_utf8 (codes "]") refl) (λ byte. refl))));
       begins = λ after. begins-append 1 a rest after x;
     }
 
@@ -174,8 +174,8 @@ call_stands text ps spells s =
     let utf8 : IsUtf8 text = ascii_utf8 text (all_weaker is_word_byte is_ascii word_low text (word_bytes text spells.0)) in
     record {
       stand = λ after ahead.
-      put-token kinds.Plain text (symbol (codes "(") ∷ rest) after spells utf8 refl
-      (put-token kinds.Symbol (codes "(") rest after refl (ascii_utf8 (codes "(") refl) refl (row_then ps after s));
+          put-token kinds.Plain text (symbol (codes "(") ∷ rest) after spells utf8 refl
+          (put-token kinds.Symbol (codes "(") rest after refl (ascii_utf8 (codes "(") refl) refl (row_then ps after s));
       begins = λ after. rw (append_assoc text (text_of (symbol (codes "(") ∷ rest)) after) (no_equals (slice_index (text ++ (text_of (symbol (codes "(") ∷ rest) ++ after)) 0) (word_first text (text_of (symbol (codes "(") ∷ rest) ++ after) spells.0));
     }
 

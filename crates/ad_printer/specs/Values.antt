@@ -37,7 +37,16 @@ frames_at (suc zero) request None = []
 frames_at (suc zero) request (Some fs) = fs
 frames_at (suc (suc ad)) request other = []
 
+-- a frame at a place
+abbrev pub printed_at : List Frame → Option (List Frame) → AdPlace → List ℕ
+printed_at request other place = printed_frame (frames_at place.ad request other) place.frame
+
+-- the place of a value that is an ad
+abbrev pub place_of : Plain → Option AdPlace
+place_of (ad_at place) = Some place
+place_of value = None
+
 -- the text of a value, where an ad is its frame, an ad literal
 abbrev pub printed_value : List Frame → Option (List Frame) → Plain → List ℕ
-printed_value request other (ad_at place) = printed_frame (frames_at place.ad request other) place.frame
+printed_value request other (ad_at place) = printed_at request other place
 printed_value request other value = value_text value

@@ -1,0 +1,250 @@
+// The text of expressions and frames, appended piece by piece. `turns` bounds the descent through frames; an ad's number
+// of frames is enough of them.
+ghost use Rattle.std.specs.Prelude.{◌≡◌, ◌<◌, ◌∷◌, [], length, OnOk};
+ghost use Rattle.ad_lexer.specs.Tokens.{blank};
+ghost use Rattle.ad_tree.specs.Ad.{ad_frames};
+ghost use Rattle.ad_tree.specs.Frames.{attributes_at};
+ghost use Rattle.ad_tree.specs.Inline.{opened};
+ghost use Rattle.ad_tree.specs.Tree.{binary, call as call_label, choice, list as list_label, node, one, pack, select, subscript, three, tree, trees, two, unary};
+ghost use Rattle.ad_printer.specs.Printed.{pieces};
+ghost use Rattle.ad_printer.specs.Writing.{Adds, definition_in, definitions_in, part_in, pieces_in, row_in};
+
+use crate::operators::{infix_text, loose, looseness, prefix_text};
+use crate::quoting::{write_literal, write_name, write_reference};
+use ad_tree::{Ad, Expr, Exprs};
+use pool_text::{BinOp, OutOfMemory, Text, UnOp};
+
+/// How loosely the operand of an operator before it may bind without parentheses, and a condition, and anything.
+const OPERAND: u8 = 2;
+
+const CONDITION: u8 = 12;
+
+const LOOSEST: u8 = 13;
+
+/// An expression that stands in a frame of the ad.
+#[cycle(writing)]
+pub fn write(out: &mut Text, ad: &Ad, turns: u32, expr: &Expr) -> Result<(), OutOfMemory>
+    ensures { OnOk result (Adds out.old (pieces_in (ad_frames ad.now) turns (tree expr.now)) out.new) }
+{
+    match expr {
+        Expr::Literal(literal) => write_literal(out, literal),
+        Expr::Name(scope, name) => write_reference(out, *scope, name.bytes()),
+        Expr::Unary(op, a) => write_unary(out, ad, turns, *op, a),
+        Expr::Binary(op, a, b) => write_binary(out, ad, turns, *op, a, b),
+        Expr::And(list) => write_row(out, ad, turns, b" && ", 11, 10, list),
+        Expr::Or(list) => write_row(out, ad, turns, b" || ", 12, 11, list),
+        Expr::Cond(a, b, c) => write_choice(out, ad, turns, a, b, c),
+        Expr::Select(a, name) => write_selection(out, ad, turns, a, name.bytes()),
+        Expr::Subscript(a, b) => write_subscript(out, ad, turns, a, b),
+        Expr::Call(name, list) => write_call(out, ad, turns, name.bytes(), list),
+        Expr::List(list) => write_list(out, ad, turns, list),
+        Expr::Frame(frame) => write_frame(out, ad, turns, *frame),
+    }
+}
+
+/// An operand, in parentheses where it binds more loosely than `bound`.
+#[cycle(writing)]
+fn write_part(
+    out: &mut Text,
+    ad: &Ad,
+    turns: u32,
+    bound: u8,
+    expr: &Expr,
+) -> Result<(), OutOfMemory>
+    ensures { OnOk result (Adds out.old (part_in (ad_frames ad.now) turns bound (tree expr.now)) out.new) }
+{
+    if loose(expr) <= bound {
+        return write(out, ad, turns, expr);
+    }
+    out.append(b"(")?;
+    write(out, ad, turns, expr)?;
+    out.append(b")")?;
+    Ok(())
+}
+
+#[cycle(writing)]
+fn write_unary(out: &mut Text, ad: &Ad, turns: u32, op: UnOp, a: &Expr) -> Result<(), OutOfMemory>
+    ensures { OnOk result (Adds out.old (pieces_in (ad_frames ad.now) turns (node (unary op) (one (tree a.now)))) out.new) }
+{
+    out.append(prefix_text(op))?;
+    write_part(out, ad, turns, OPERAND, a)?;
+    Ok(())
+}
+
+#[cycle(writing)]
+fn write_binary(
+    out: &mut Text,
+    ad: &Ad,
+    turns: u32,
+    op: BinOp,
+    a: &Expr,
+    b: &Expr,
+) -> Result<(), OutOfMemory>
+    ensures { OnOk result (Adds out.old (pieces_in (ad_frames ad.now) turns (node (binary op) (two (tree a.now) (tree b.now)))) out.new) }
+{
+    let level = looseness(op);
+    write_part(out, ad, turns, 2 + level, a)?;
+    out.append(infix_text(op))?;
+    write_part(out, ad, turns, 1 + level, b)?;
+    Ok(())
+}
+
+#[cycle(writing)]
+fn write_choice(
+    out: &mut Text,
+    ad: &Ad,
+    turns: u32,
+    condition: &Expr,
+    first: &Expr,
+    second: &Expr,
+) -> Result<(), OutOfMemory>
+    ensures { OnOk result (Adds out.old
+        (pieces_in (ad_frames ad.now) turns (node choice (three (tree condition.now) (tree first.now) (tree second.now)))) out.new) }
+{
+    write_part(out, ad, turns, CONDITION, condition)?;
+    out.append(b" ? ")?;
+    write_part(out, ad, turns, LOOSEST, first)?;
+    out.append(b" : ")?;
+    write_part(out, ad, turns, LOOSEST, second)?;
+    Ok(())
+}
+
+#[cycle(writing)]
+fn write_selection(
+    out: &mut Text,
+    ad: &Ad,
+    turns: u32,
+    base: &Expr,
+    name: &[u8],
+) -> Result<(), OutOfMemory>
+    ensures { OnOk result (Adds out.old (pieces_in (ad_frames ad.now) turns (node (select name.now) (one (tree base.now)))) out.new) }
+{
+    write_part(out, ad, turns, 0, base)?;
+    out.append(b".")?;
+    write_name(out, name)?;
+    Ok(())
+}
+
+#[cycle(writing)]
+fn write_subscript(
+    out: &mut Text,
+    ad: &Ad,
+    turns: u32,
+    base: &Expr,
+    place: &Expr,
+) -> Result<(), OutOfMemory>
+    ensures { OnOk result (Adds out.old (pieces_in (ad_frames ad.now) turns (node subscript (two (tree base.now) (tree place.now)))) out.new) }
+{
+    write_part(out, ad, turns, 1, base)?;
+    out.append(b"[")?;
+    write_part(out, ad, turns, LOOSEST, place)?;
+    out.append(b"]")?;
+    Ok(())
+}
+
+#[cycle(writing)]
+fn write_call(
+    out: &mut Text,
+    ad: &Ad,
+    turns: u32,
+    name: &[u8],
+    list: &Exprs,
+) -> Result<(), OutOfMemory>
+    ensures { OnOk result (Adds out.old (pieces_in (ad_frames ad.now) turns (node (call_label name.now) (pack (trees list.now)))) out.new) }
+{
+    out.append(name)?;
+    out.append(b"(")?;
+    write_row(out, ad, turns, b", ", LOOSEST, LOOSEST, list)?;
+    out.append(b")")?;
+    Ok(())
+}
+
+#[cycle(writing)]
+fn write_list(out: &mut Text, ad: &Ad, turns: u32, list: &Exprs) -> Result<(), OutOfMemory>
+    ensures { OnOk result (Adds out.old (pieces_in (ad_frames ad.now) turns (node list_label (pack (trees list.now)))) out.new) }
+{
+    if list.len() == 0 {
+        out.append(b"{ }")?;
+        return Ok(());
+    }
+    out.append(b"{ ")?;
+    write_row(out, ad, turns, b", ", LOOSEST, LOOSEST, list)?;
+    out.append(b" }")?;
+    Ok(())
+}
+
+/// Expressions with these bytes between them; `first` and `other` say how loosely the first and the others may bind
+/// without parentheses.
+#[cycle(writing)]
+fn write_row(
+    out: &mut Text,
+    ad: &Ad,
+    turns: u32,
+    between: &[u8],
+    first: u8,
+    other: u8,
+    list: &Exprs,
+) -> Result<(), OutOfMemory>
+    ensures { OnOk result (Adds out.old (row_in (ad_frames ad.now) turns (blank between.now ∷ []) first other (trees list.now)) out.new) }
+{
+    if list.len() == 0 {
+        return Ok(());
+    }
+    write_part(out, ad, turns, first, list.at(0))?;
+    for i in 1..list.len() {
+        out.append(between)?;
+        write_part(out, ad, turns, other, list.at(i))?;
+    }
+    Ok(())
+}
+
+/// A frame of the ad as an ad literal: `[ ]` where no turns are left or there is no such frame.
+#[cycle(writing)]
+pub fn write_frame(out: &mut Text, ad: &Ad, turns: u32, frame: u32) -> Result<(), OutOfMemory>
+    ensures { OnOk result (Adds out.old (pieces (opened (ad_frames ad.now) turns frame)) out.new) }
+{
+    if turns == 0 || frame >= ad.frames() || ad.count(frame) == 0 {
+        out.append(b"[ ]")?;
+        return Ok(());
+    }
+    out.append(b"[ ")?;
+    write_definitions(out, ad, turns - 1, frame)?;
+    out.append(b" ]")?;
+    Ok(())
+}
+
+#[cycle(writing)]
+fn write_definitions(out: &mut Text, ad: &Ad, turns: u32, frame: u32) -> Result<(), OutOfMemory>
+    requires frame { frame < length (ad_frames ad.now) }
+    requires some { 0 < length (attributes_at (ad_frames ad.now) frame) }
+    ensures { OnOk result (Adds out.old (definitions_in (ad_frames ad.now) turns (attributes_at (ad_frames ad.now) frame)) out.new) }
+{
+    write_definition(out, ad, turns, ad.name(frame, 0).bytes(), ad.expr(frame, 0))?;
+    for attr in 1..ad.count(frame) {
+        out.append(b"; ")?;
+        write_definition(
+            out,
+            ad,
+            turns,
+            ad.name(frame, attr).bytes(),
+            ad.expr(frame, attr),
+        )?;
+    }
+    Ok(())
+}
+
+#[cycle(writing)]
+fn write_definition(
+    out: &mut Text,
+    ad: &Ad,
+    turns: u32,
+    name: &[u8],
+    expr: &Expr,
+) -> Result<(), OutOfMemory>
+    ensures { OnOk result (Adds out.old (definition_in (ad_frames ad.now) turns name.now (tree expr.now)) out.new) }
+{
+    write_name(out, name)?;
+    out.append(b" = ")?;
+    write(out, ad, turns, expr)?;
+    Ok(())
+}

@@ -2,6 +2,7 @@
 #![tactic(auto)]
 
 mod arithmetic;
+mod comparison;
 mod copying;
 mod identity;
 mod laws;
@@ -13,6 +14,7 @@ mod tests;
 mod value;
 mod weighing;
 
+pub use comparison::binary_of_literals;
 pub use copying::copy;
 pub use identity::same;
 pub use laws::{

@@ -37,8 +37,8 @@ fn strict_result(op: BinOp, a: &Value, b: &Value) -> Value
     }
 }
 
-// The result of an operator for two texts.
-fn on_texts(op: BinOp, a: &[u8], b: &[u8]) -> Value
+/// The result of an operator for two texts.
+pub(crate) fn on_texts(op: BinOp, a: &[u8], b: &[u8]) -> Value
     ensures { plain result ≡ text_row op a.now b.now }
 {
     let order = order_folded(a, b);

@@ -4,7 +4,6 @@
 
 mod decided;
 mod enclosed;
-mod literals;
 mod plan;
 mod probe;
 mod side;

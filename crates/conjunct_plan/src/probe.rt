@@ -3,6 +3,7 @@ ghost use Rattle.std.specs.Prelude.{◌≡◌, ◌<◌, length, IfOk};
 ghost use Rattle.std.specs.Option.{option_map};
 ghost use Rattle.ad_tree.specs.Ad.{ad_frames};
 ghost use Rattle.ad_tree.specs.Tree.{tree};
+ghost use Rattle.conjunct_plan.specs.Decided.{asked};
 ghost use Rattle.conjunct_plan.specs.Seen.{side_seen, test_seen};
 ghost use Rattle.conjunct_plan.specs.Tests.{comparison_of, is_comparison, labels_of, test_of, truth_of};
 
@@ -10,7 +11,6 @@ use crate::Test;
 use crate::side::{Side, side_of};
 use ad_tree::{Ad, Expr, Ports};
 use pool_text::{BinOp, Lit, OutOfMemory, Text};
-use std::alloc::Global;
 
 /// A test whose name and literal stand elsewhere.
 #[derive(Clone, Copy)]
@@ -45,8 +45,18 @@ impl<'a> Probe<'a> {
         }
     }
 
+    /// The name of the attribute that it asks for.
+    pub(crate) fn asked(self) -> &'a Text
+        ensures { result.now ≡ asked (test_seen self) }
+    {
+        match self {
+            Probe::Truth(name) => name,
+            Probe::Compare { name, .. } => name,
+        }
+    }
+
     /// The same test with a name and a literal of its own.
-    pub(crate) fn to_test(self, alloc: Global) -> Result<Test, OutOfMemory>
+    pub(crate) fn to_test(self) -> Result<Test, OutOfMemory>
         ensures { IfOk result (λ test. test ≡ test_seen self) }
     {
         match self {
@@ -59,7 +69,7 @@ impl<'a> Probe<'a> {
             } => Ok(Test::Compare {
                 name: name.copy()?,
                 op,
-                lit: copy_of(alloc, lit)?,
+                lit: copy_of(lit)?,
                 attr_left,
             }),
         }
@@ -67,7 +77,7 @@ impl<'a> Probe<'a> {
 }
 
 // A second literal of the same value.
-fn copy_of(_alloc: Global, lit: &Lit) -> Result<Lit, OutOfMemory>
+fn copy_of(lit: &Lit) -> Result<Lit, OutOfMemory>
     ensures { IfOk result (λ copy. copy ≡ lit.now) }
 {
     Ok(match lit {

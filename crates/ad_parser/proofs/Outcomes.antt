@@ -2,7 +2,7 @@
 -- this crate may not cite the function, since it is drawn from a proof; crates above may.
 use Rattle.std.proofs.Common.{◌≡◌, ◌⊎◌, ℕ, List, Result, Ok, Err, refl, subst, ap, inl, inr}
 use Rattle.ad_tree.specs.declared.ad.Ad.{Ad}
-use Rattle.ad_tree.specs.declared.ad.Phrase.{Phrase}
+use Rattle.ad_tree.specs.declared.phrase.Phrase.{Phrase}
 use Rattle.ad_tree.specs.Inline.{Inline}
 use Rattle.ad_parser.specs.declared.fault.ParseFault.{ParseFault}
 use Rattle.ad_parser.specs.declared.fault.ParseFault.TheVariants as faults

@@ -1,7 +1,7 @@
 -- The outcome of a parse: the tree that a text spells within the limits, or its fault. Each text has exactly one.
 use Rattle.std.specs.Prelude.{◌≡◌, ◌⊎◌, ℕ, List, Result, Ok, Err}
 use Rattle.ad_tree.specs.declared.ad.Ad.{Ad}
-use Rattle.ad_tree.specs.declared.ad.Phrase.{Phrase}
+use Rattle.ad_tree.specs.declared.phrase.Phrase.{Phrase}
 use Rattle.ad_tree.specs.Ad.{ad_frames}
 use Rattle.ad_tree.specs.Inline.{Inline, ad_of, phrase_of, phrase_tree}
 use Rattle.ad_tree.specs.Tree.{tree}

@@ -1,18 +1,23 @@
 -- How a run may end, and what stands then: what was read, what was written, and why it ended.
-use Rattle.std.specs.Prelude.{◌≡◌, ◌⊎◌, ℕ, ◌+◌, ◌≤◌, ◌<◌, List, [], ◌∷◌, ◌++◌, length, take, Option, None, Some, Result, Ok, Err, IsTrue, ◌==◌, if◌then◌else◌}
+use Rattle.std.specs.Prelude.{◌≡◌, ◌⊎◌, ℕ, ◌+◌, ◌-◌, ◌≤◌, ◌<◌, List, [], ◌∷◌, ◌++◌, length, take, Option, None, Some, Result, Ok, Err, IsTrue, ◌==◌, if◌then◌else◌}
 use Rattle.std.specs.Io.KnownBytes.{Appends, Consumes, IsAtEnd}
-use Rattle.pool_text.specs.Lines.{ended, whole}
 use Rattle.pool_io.specs.Flow.{Supply, Intake, Rose}
+use Rattle.pool_script.specs.Commands.{ended_commands, whole_commands}
+use Rattle.pool_script.specs.declared.command.Command.{Command}
+use Rattle.pool_replies.specs.Replies.{reply_text}
 use Rattle.pool_engine.specs.declared.run.RunEnd.{RunEnd}
 use Rattle.pool_engine.specs.declared.run.RunEnd.TheVariants.{Done, BadWords, ReadFault, WriteFault, TooLong, OutOfMemory}
-use Rattle.pool_engine.specs.Answers.{Answer, AreAnswers, text, refusals}
+use Rattle.pool_engine.specs.Events.{events_of, refusals_of, replies_text, state_after}
 use Rattle.pool_engine.specs.Limits.{input_limit}
+use Rattle.pool_engine.specs.State.{opening}
+use Rattle.pool_engine.specs.Step.{step}
 
--- a source gave these bytes, and had no fault where it was sure
+-- ---- what was read and written
+
+-- a source gave these bytes without a fault
 pub record Gave (s t : Supply) (bytes : List ℕ) : Type 0 where
   pub consumed : Consumes s.left t.left bytes
-  pub later : s.faults ≤ t.faults
-  pub calm : IsTrue s.sure → t.faults ≡ s.faults
+  pub same : t.faults ≡ s.faults
   pub still : IsTrue s.sure → IsTrue t.sure
 
 -- a source gave these bytes and then failed, so it wasn't sure
@@ -21,76 +26,80 @@ pub record Lost (s t : Supply) (bytes : List ℕ) : Type 0 where
   pub rose : Rose s.faults t.faults
   pub unsure : IsTrue s.sure → ⊥
 
--- a sink took these bytes, with no fault where it was sure of them
+-- a sink took these bytes without a fault
 pub record Wrote (k m : Intake) (bytes : List ℕ) : Type 0 where
   pub appended : Appends k.taken m.taken bytes
-  pub later : k.faults ≤ m.faults
-  pub calm : length bytes ≤ k.sure → m.faults ≡ k.faults
+  pub same : m.faults ≡ k.faults
   pub spent : length bytes ≤ k.sure → k.sure ≤ m.sure + length bytes
 
--- a sink took a proper front of these bytes and then failed, so it wasn't sure of all
-pub record Broke (k m : Intake) (bytes : List ℕ) : Type 0 where
-  pub front : (n : ℕ) × (n < length bytes) × Appends k.taken m.taken (take n bytes)
+-- a sink took a text and a proper front of the last piece, was offered all the rest of that piece at once, and then failed,
+-- so it wasn't sure of all
+pub record Broke (k m : Intake) (text last : List ℕ) : Type 0 where
+  pub count : ℕ
+  pub proper : count < length last
+  pub others : count + m.offered ≡ length last
+  pub taken : Appends k.taken m.taken (text ++ take count last)
   pub rose : Rose k.faults m.faults
-  pub unsure : k.sure < length bytes
+  pub unsure : k.sure < length text + length last
 
--- all of the input was read and all answers were taken
+-- the bytes that were read before the last read
+abbrev pub before_last : Supply → List ℕ → List ℕ
+before_last t bytes = take (length bytes - t.latest) bytes
+
+-- ---- the ends
+
+-- all of the input was read and all replies were taken
 pub record IsDone (s t : Supply) (k m : Intake) (refused : ℕ) : Type 0 where
   pub bytes : List ℕ
   pub within : length bytes ≤ input_limit
   pub gave : Gave s t bytes
   pub at_end : IsAtEnd t.left
-  pub given : List Answer
-  pub are : AreAnswers (whole bytes) given
-  pub wrote : Wrote k m (text given)
-  pub counted : refused ≡ refusals given
+  pub wrote : Wrote k m (replies_text (events_of opening (whole_commands bytes)))
+  pub counted : refused ≡ refusals_of (events_of opening (whole_commands bytes))
 
--- the source failed: the answers to the lines that had ended were taken
+-- the source failed: the replies to the commands that had ended were taken
 pub record IsReadFault (s t : Supply) (k m : Intake) : Type 0 where
   pub bytes : List ℕ
   pub within : length bytes ≤ input_limit
   pub lost : Lost s t bytes
-  pub given : List Answer
-  pub are : AreAnswers (ended bytes) given
-  pub wrote : Wrote k m (text given)
+  pub wrote : Wrote k m (replies_text (events_of opening (ended_commands bytes)))
 
--- the lines to answer after these bytes: those that have ended, or all of them where nothing is left to read
-abbrev pub AreDue : Supply → List ℕ → List (List ℕ) → Type 0
-AreDue t bytes lines = (lines ≡ ended bytes) ⊎ ((lines ≡ whole bytes) × IsAtEnd t.left)
+-- the commands to run after these bytes: those that have ended, or all of them where nothing is left to read
+abbrev pub AreDue : Supply → List ℕ → List Command → Type 0
+AreDue t bytes commands = (commands ≡ ended_commands bytes) ⊎ ((commands ≡ whole_commands bytes) × IsAtEnd t.left)
 
--- the sink failed: a proper front of the answers to the first of the lines that were due was taken
+-- the sink failed at the reply to a command that was due: the replies to the commands before it were taken, and they are no
+-- fewer than had ended before the last read
 pub record IsWriteFault (s t : Supply) (k m : Intake) : Type 0 where
   pub bytes : List ℕ
   pub within : length bytes ≤ input_limit
   pub gave : Gave s t bytes
-  pub front : List (List ℕ)
-  pub others : List (List ℕ)
-  pub due : AreDue t bytes (front ++ others)
-  pub given : List Answer
-  pub are : AreAnswers front given
-  pub broke : Broke k m (text given)
+  pub front : List Command
+  pub cut : Command
+  pub others : List Command
+  pub due : AreDue t bytes (front ++ cut ∷ others)
+  pub in_time : length (ended_commands (before_last t bytes)) ≤ length front
+  pub broke : Broke k m (replies_text (events_of opening front)) (reply_text (step (state_after opening front) cut).1)
 
--- one byte past the limit was read: the answers to the lines that had ended before it were taken
+-- one byte past the limit was read: the replies to the commands that had ended before it were taken
 pub record IsTooLong (s t : Supply) (k m : Intake) : Type 0 where
   pub bytes : List ℕ
   pub last : ℕ
   pub full : length bytes ≡ input_limit
   pub gave : Gave s t (bytes ++ last ∷ [])
-  pub given : List Answer
-  pub are : AreAnswers (ended bytes) given
-  pub wrote : Wrote k m (text given)
+  pub wrote : Wrote k m (replies_text (events_of opening (ended_commands bytes)))
 
--- memory was wanting: the answers to the first of the lines were taken, each whole
+-- memory was wanting: the replies to the first of the commands that were due were taken, each whole, and no fewer than had
+-- ended before the last read
 pub record IsOutOfMemory (s t : Supply) (k m : Intake) : Type 0 where
   pub bytes : List ℕ
   pub within : length bytes ≤ input_limit
   pub gave : Gave s t bytes
-  pub front : List (List ℕ)
-  pub others : List (List ℕ)
-  pub split : whole bytes ≡ front ++ others
-  pub given : List Answer
-  pub are : AreAnswers front given
-  pub wrote : Wrote k m (text given)
+  pub front : List Command
+  pub others : List Command
+  pub due : AreDue t bytes (front ++ others)
+  pub in_time : length (ended_commands (before_last t bytes)) ≤ length front
+  pub wrote : Wrote k m (replies_text (events_of opening front))
 
 -- a run ended so, from these states of source and sink to those
 abbrev pub Ends : Supply → Supply → Intake → Intake → RunEnd → Type 0
@@ -105,6 +114,8 @@ Ends s t k m OutOfMemory = IsOutOfMemory s t k m
 abbrev pub end_of : Result ℕ RunEnd → RunEnd
 end_of (Ok refused) = Done refused
 end_of (Err end) = end
+
+-- ---- what a caller may count on
 
 -- the source tells what is left, and it is no longer than this
 abbrev pub LeavesAtMost : ℕ → Option (List ℕ) → Type 0

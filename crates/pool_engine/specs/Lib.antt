@@ -1,7 +1,7 @@
-pub mod Answers
 pub mod Ends
+pub mod Events
 pub mod Limits
-pub mod Replies
 pub mod Session
+pub mod State
+pub mod Step
 pub mod Values
-pub mod Words

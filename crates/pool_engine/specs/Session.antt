@@ -1,52 +1,44 @@
--- What answering some lines does to a sink, and what is kept of a line that has begun.
-use Rattle.std.specs.Prelude.{◌≡◌, ℕ, suc, ◌+◌, ◌==◌, List, [], ◌∷◌, ◌++◌, take, Result, MatchResult, if◌then◌else◌}
+-- What running some commands does to a pool and to a sink.
+use Rattle.std.specs.Prelude.{◌≡◌, ℕ, ◌+◌, List, [], ◌∷◌, ◌++◌}
 use Rattle.pool_io.specs.Flow.{Intake}
+use Rattle.pool_script.specs.declared.command.Command.{Command}
 use Rattle.pool_engine.specs.declared.run.RunEnd.{RunEnd}
 use Rattle.pool_engine.specs.declared.run.RunEnd.TheVariants.{WriteFault, OutOfMemory}
-use Rattle.pool_engine.specs.Answers.{Answer, AreAnswers, text, refusals}
-use Rattle.pool_engine.specs.Ends.{Wrote, Broke}
-use Rattle.pool_engine.specs.Limits.{line_limit}
+use Rattle.pool_replies.specs.Replies.{reply_text}
+use Rattle.pool_engine.specs.Ends.{Broke, Wrote}
+use Rattle.pool_engine.specs.Events.{events_of, refusals_of, replies_text, state_after}
+use Rattle.pool_engine.specs.State.{State}
+use Rattle.pool_engine.specs.Step.{step}
 
--- what is kept of a line: as much as tells whether it is too long
-unfoldable pub kept : List ℕ → List ℕ
-kept line = take (line_limit + 1) line
+-- the commands ran, the replies were taken, and the refusals among them counted on
+pub record Took (s t : State) (k m : Intake) (commands : List Command) (before after : ℕ) : Type 0 where
+  pub state : t ≡ state_after s commands
+  pub wrote : Wrote k m (replies_text (events_of s commands))
+  pub counted : after ≡ before + refusals_of (events_of s commands)
 
--- the answers to these lines were taken, and the refusals among them counted on
-pub record Took (k m : Intake) (lines : List (List ℕ)) (before after : ℕ) : Type 0 where
-  pub given : List Answer
-  pub are : AreAnswers lines given
-  pub wrote : Wrote k m (text given)
-  pub counted : after ≡ before + refusals given
+-- the replies to the first commands were taken, and that to the next one wasn't taken whole
+pub record Broken (s : State) (k m : Intake) (commands : List Command) : Type 0 where
+  pub front : List Command
+  pub cut : Command
+  pub others : List Command
+  pub split : commands ≡ front ++ cut ∷ others
+  pub broke : Broke k m (replies_text (events_of s front)) (reply_text (step (state_after s front) cut).1)
 
--- the answers to the first of these lines were taken, each whole
-pub record Partly (k m : Intake) (lines : List (List ℕ)) : Type 0 where
-  pub front : List (List ℕ)
-  pub others : List (List ℕ)
-  pub split : lines ≡ front ++ others
-  pub given : List Answer
-  pub are : AreAnswers front given
-  pub wrote : Wrote k m (text given)
+-- the replies to the first commands were taken, each whole
+pub record Partly (s : State) (k m : Intake) (commands : List Command) : Type 0 where
+  pub front : List Command
+  pub others : List Command
+  pub split : commands ≡ front ++ others
+  pub wrote : Wrote k m (replies_text (events_of s front))
 
--- a proper front of the answers to the first of these lines was taken
-pub record Broken (k m : Intake) (lines : List (List ℕ)) : Type 0 where
-  pub front : List (List ℕ)
-  pub others : List (List ℕ)
-  pub split : lines ≡ front ++ others
-  pub given : List Answer
-  pub are : AreAnswers front given
-  pub broke : Broke k m (text given)
+-- why running stopped, and what was taken then
+abbrev pub Stopped : State → Intake → Intake → List Command → RunEnd → Type 0
+Stopped s k m commands WriteFault = Broken s k m commands
+Stopped s k m commands OutOfMemory = Partly s k m commands
+Stopped s k m commands end = ⊥
 
--- why answering stopped, and what was taken then
-abbrev pub Stopped : Intake → Intake → List (List ℕ) → RunEnd → Type 0
-Stopped k m lines WriteFault = Broken k m lines
-Stopped k m lines OutOfMemory = Partly k m lines
-Stopped k m lines end = ⊥
-
--- the lines were answered, with so many refusals before and after, or answering stopped
-abbrev pub Answered : {T : Type 0} → Intake → Intake → List (List ℕ) → ℕ → (T → ℕ) → Result T RunEnd → Type 0
-Answered k m lines before after result = MatchResult result (λ x. Took k m lines before (after x)) (Stopped k m lines)
-
--- how many bytes stand before the first line feed
-abbrev pub first_feed : List ℕ → ℕ
-first_feed [] = 0
-first_feed (byte ∷ bytes) = if byte == 10 then 0 else suc (first_feed bytes)
+-- why a reply wasn't taken whole: the sink failed, or memory was wanting and nothing was offered
+abbrev pub Lacks : Intake → Intake → List ℕ → RunEnd → Type 0
+Lacks k m text WriteFault = Broke k m [] text
+Lacks k m text OutOfMemory = m ≡ k
+Lacks k m text end = ⊥

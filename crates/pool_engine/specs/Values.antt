@@ -1,10 +1,11 @@
--- The value of a tree of literals, `&&` and `||`.
-use Rattle.std.specs.Prelude.{Bool, true, false, ◌&&◌}
+-- The value of a tree of literals, `&&` and `||`, and its text.
+use Rattle.std.specs.Prelude.{ℕ, Bool, true, false, ◌&&◌, List, [], codes}
+use Rattle.std.specs.Fmt.{signed_decimal}
 use Rattle.pool_text.specs.declared.language.Lit.{Lit}
 use Rattle.pool_text.specs.declared.language.Lit.TheVariants.{Str}
 use Rattle.ad_tree.specs.Tree.{Label, literal, all, any, Tree, node, Trees, none, more}
 use Rattle.ad_value.specs.Logic.{and_value, or_value}
-use Rattle.ad_value.specs.Plain.{Plain, undefined, boolean, plain_of_lit}
+use Rattle.ad_value.specs.Plain.{Plain, undefined, error, boolean, integer, plain_of_lit}
 
 -- a literal that is no string
 abbrev pub is_built_literal : Lit → Bool
@@ -38,3 +39,12 @@ abbrev mutual
   pub disjunction : Plain → Trees → Plain
   disjunction left none = left
   disjunction left (more t ts) = disjunction (or_value left (value t)) ts
+
+-- the text of a value that such a tree can have
+abbrev pub value_text : Plain → List ℕ
+value_text undefined = codes "undefined"
+value_text error = codes "error"
+value_text (boolean true) = codes "true"
+value_text (boolean false) = codes "false"
+value_text (integer n) = signed_decimal n
+value_text other = []

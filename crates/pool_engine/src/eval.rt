@@ -1,12 +1,12 @@
-// The value of an expression of literals, `&&` and `||`.
-ghost use Rattle.std.specs.Prelude.{◌≡◌, true, false, IsTrue, IfOk};
+// The value of an expression of literals, `&&` and `||`, and its text.
+ghost use Rattle.std.specs.Prelude.{◌≡◌, true, false, IfOk};
 ghost use Rattle.ad_tree.specs.Tree.{pack, tree, trees};
 ghost use Rattle.ad_value.specs.Plain.{boolean, plain};
-ghost use Rattle.pool_engine.specs.Values.{are_built, conjunction, disjunction, is_built, value};
+ghost use Rattle.pool_engine.specs.Values.{are_built, conjunction, disjunction, is_built, value, value_text};
 
 use ad_tree::{Expr, Exprs};
 use ad_value::{Value, and_ends, and_step, from_lit, or_ends, or_step};
-use pool_text::{Lit, OutOfMemory};
+use pool_text::{Lit, OutOfMemory, Text, append_number};
 use std::alloc::Global;
 
 /// Whether the value of the expression can be found today: it holds literals that are no strings, `&&` and `||` alone.
@@ -75,4 +75,20 @@ fn disjunction(alloc: Global, items: &Exprs) -> Result<Value, OutOfMemory>
         left = or_step(&left, &right);
     }
     Ok(left)
+}
+
+/// The text of a value that such an expression can have.
+pub(crate) fn print_value(alloc: Global, value: &Value) -> Result<Text, OutOfMemory>
+    ensures { IfOk result (λ t. t ≡ value_text (plain value.now)) }
+{
+    let mut text = Text::new(alloc);
+    match value {
+        Value::Undefined => text.append(b"undefined")?,
+        Value::Error => text.append(b"error")?,
+        Value::Boolean(true) => text.append(b"true")?,
+        Value::Boolean(false) => text.append(b"false")?,
+        Value::Integer(n) => append_number(&mut text, *n)?,
+        Value::Str(_) | Value::List(_) | Value::Ad(_) => {}
+    }
+    Ok(text)
 }

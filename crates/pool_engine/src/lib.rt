@@ -1,12 +1,12 @@
-//! The pool: what it answers to each line of a script, and the run over a source and a sink.
+//! The pool: runs the commands of a script that a source gives, and offers the replies to a sink.
 #![tactic(auto)]
 
 mod eval;
-mod reply;
+mod pool;
 mod run;
 mod session;
 #[cfg(test)]
 mod tests;
-mod words;
 
+pub use pool::Pool;
 pub use run::{RunEnd, run_pool};

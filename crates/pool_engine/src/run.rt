@@ -1,10 +1,11 @@
 // The run of a script over a source and a sink.
-ghost use Rattle.std.specs.Prelude.{◌≡◌, ◌↔◌, ◌≤◌, ◌<◌, List, [], length, ◌≢◌, IsTrue, IfOk, IfSome};
-ghost use Rattle.pool_text.specs.Lines.{whole};
+ghost use Rattle.std.specs.Prelude.{◌≡◌, ◌≢◌, ◌↔◌, ◌≤◌, ◌<◌, [], length, IsTrue, IfOk, IfSome};
 ghost use Rattle.pool_io.specs.Flow.{Reads, Rose};
-ghost use Rattle.pool_engine.specs.Answers.{Answer, AreAnswers, text};
+ghost use Rattle.pool_script.specs.Commands.{whole_commands};
 ghost use Rattle.pool_engine.specs.Ends.{Ends, IsDoneOrOutOfMemory, LeavesAtMost, end_of, status_of};
+ghost use Rattle.pool_engine.specs.Events.{events_of, replies_text};
 ghost use Rattle.pool_engine.specs.Limits.{input_limit};
+ghost use Rattle.pool_engine.specs.State.{opening};
 
 use crate::session::Session;
 use pool_io::{Failed, Sink, Source};
@@ -61,8 +62,8 @@ impl RunEnd {
     }
 }
 
-/// Runs the script that a source gives: reads it to its end, answers each line as soon as it has ended, and offers each
-/// reply to the sink as one piece. No byte is read after the first one past the limit.
+/// Runs the script that a source gives: reads it to its end, runs each command as soon as it has ended, and offers each
+/// reply to the sink as one piece before the next read. No byte is read after the first one past the limit.
 pub fn run_pool<S: Source, K: Sink>(
     alloc: Global,
     words: &[Text],
@@ -82,8 +83,9 @@ pub fn run_pool<S: Source, K: Sink>(
         → ¬ Rose (K.shows sink.old).faults (K.shows sink.new).faults
         → IsDoneOrOutOfMemory result }
     ensures sure_source { IsTrue (S.shows source.old).sure → result ≢ RunEnd.ReadFault }
-    ensures sure_sink { IfSome (S.shows source.old).left (λ bytes. (given : List Answer) → AreAnswers (whole bytes) given
-        → length (text given) ≤ (K.shows sink.old).sure → result ≢ RunEnd.WriteFault) }
+    ensures sure_sink { IfSome (S.shows source.old).left (λ bytes.
+        length (replies_text (events_of opening (whole_commands bytes))) ≤ (K.shows sink.old).sure
+        → result ≢ RunEnd.WriteFault) }
 {
     if words.len() > 0 {
         return RunEnd::BadWords;
@@ -107,13 +109,13 @@ fn run_input<S: Source, K: Sink>(alloc: Global, source: &mut S, sink: &mut K) ->
             return Err(RunEnd::ReadFault);
         };
         if count == 0 {
-            return session.finish(alloc, sink);
+            return session.finish(sink);
         }
-        session.feed(alloc, &buffer[..count], sink)?;
+        session.feed(&buffer[..count], sink)?;
         left -= count;
     }
     match read_piece(source, &mut buffer, 1) {
-        Ok(0) => session.finish(alloc, sink),
+        Ok(0) => session.finish(sink),
         Ok(_) => Err(RunEnd::TooLong),
         Err(_) => Err(RunEnd::ReadFault),
     }

@@ -1,140 +1,126 @@
-// A script that comes in pieces, and the answers to its lines.
-ghost use Rattle.std.specs.Prelude.{◌≡◌, ◌+◌, ◌^◌, ◌<◌, ◌≤◌, ◌++◌, ◌∷◌, [], ℕ, length, OnOk, OnErr, IfOk, IfNone, IfSome, MatchOption};
-ghost use Rattle.pool_text.specs.Lines.{ended, rest_of, last_line};
-ghost use Rattle.pool_engine.specs.Limits.{line_limit};
-ghost use Rattle.pool_engine.specs.Session.{Answered, kept, first_feed};
+// A script that comes in pieces, and the replies to its commands.
+ghost use Rattle.std.specs.Prelude.{◌≡◌, ◌+◌, ◌^◌, ◌<◌, ◌≤◌, ◌++◌, ◌∷◌, ℕ, List, [], false, length, IfErr, IfOk, IsTrue, OnOk};
+ghost use Rattle.pool_script.specs.Commands.{ended_commands, whole_commands};
+ghost use Rattle.pool_script.specs.Form.{is_within_form};
+ghost use Rattle.pool_script.specs.Standing.{Stands};
+ghost use Rattle.pool_replies.specs.Replies.{is_printable, refusal_count, reply_text};
+ghost use Rattle.pool_engine.specs.Ends.{Wrote};
+ghost use Rattle.pool_engine.specs.Session.{Lacks, Stopped, Took};
+ghost use Rattle.pool_engine.specs.State.{State, opening};
 
-use crate::RunEnd;
-use crate::reply::{LINE_LIMIT, reply_to};
+use crate::{Pool, RunEnd};
 use pool_io::{Sink, write_all};
-use pool_text::{OutOfMemory, Text};
+use pool_replies::{Reply, print_reply, refusals};
+use pool_script::{Command, Script};
 use std::alloc::Global;
 
-/// The line that has begun, of which no more is kept than tells that it is too long, and the refusals so far.
+/// The script so far, the pool behind its commands, and how many of them were refused.
 #[derive(Drop)]
 pub(crate) struct Session {
-    line: Text,
+    alloc: Global,
+    script: Script,
+    pool: Pool,
     refused: u64,
 }
 
 impl Session {
     pub(crate) fn new(alloc: Global) -> Session
-        ensures line { result.line ≡ [] }
+        ensures script { Stands result.script [] 0 }
+        ensures waiting { result.script.waiting ≡ [] }
+        ensures over { result.script.over ≡ false }
+        ensures pool { result.pool.state ≡ opening }
         ensures refused { result.refused ≡ 0 }
     {
         Session {
-            line: Text::new(alloc),
+            alloc,
+            script: Script::new(alloc),
+            pool: Pool::new(alloc),
             refused: 0,
         }
     }
 
-    /// Answers the lines that end in a further piece of the script.
-    pub(crate) fn feed<K: Sink>(
-        &mut self,
-        alloc: Global,
-        piece: &[u8],
-        sink: &mut K,
-    ) -> Result<(), RunEnd>
-        requires short { length self.old.line ≤ line_limit + 1 }
-        requires one { ended self.old.line ≡ [] }
-        requires room { self.old.refused + length piece.now < 2 ^ 64 }
-        ensures answered { Answered (K.shows sink.old) (K.shows sink.new) (ended (self.old.line ++ piece.now))
-            self.old.refused (λ _. self.new.refused) result }
-        ensures line { OnOk result (self.new.line ≡ kept (rest_of (self.old.line ++ piece.now))) }
+    /// Runs the commands that end in a further piece of the script.
+    pub(crate) fn feed<K: Sink>(&mut self, piece: &[u8], sink: &mut K) -> Result<(), RunEnd>
+        requires over { self.old.script.over ≡ false }
+        requires waiting { self.old.script.waiting ≡ [] }
+        requires room { self.old.refused + length (ended_commands (self.old.script.rest ++ piece.now)) < 2 ^ 64 }
+        ensures took { OnOk result (Took self.old.pool.state self.new.pool.state (K.shows sink.old) (K.shows sink.new)
+            (ended_commands (self.old.script.rest ++ piece.now)) self.old.refused self.new.refused) }
+        ensures stopped { IfErr result (Stopped self.old.pool.state (K.shows sink.old) (K.shows sink.new)
+            (ended_commands (self.old.script.rest ++ piece.now))) }
+        ensures waiting { OnOk result (self.new.script.waiting ≡ []) }
+        ensures over { OnOk result (self.new.script.over ≡ false) }
+        ensures stands { OnOk result ((bytes : List ℕ) (n : ℕ) → Stands self.old.script bytes n
+            → (m : ℕ) × Stands self.new.script (bytes ++ piece.now) m) }
     {
-        let mut rest = piece;
-        while let Some((last, after)) = split_line(rest) {
-            self.refused += end_line(alloc, &mut self.line, last, sink)?;
-            rest = after;
+        self.script.feed(piece)?;
+        self.run_waiting(sink)
+    }
+
+    /// Runs the commands that the end of the script gives, and answers how many of all were refused.
+    pub(crate) fn finish<K: Sink>(mut self, sink: &mut K) -> Result<u64, RunEnd>
+        requires over { self.script.over ≡ false }
+        requires waiting { self.script.waiting ≡ [] }
+        requires room { self.refused + length (whole_commands self.script.rest) < 2 ^ 64 }
+        ensures took { IfOk result (λ refused. (t : State) × Took self.pool.state t (K.shows sink.old) (K.shows sink.new)
+            (whole_commands self.script.rest) self.refused refused) }
+        ensures stopped { IfErr result (Stopped self.pool.state (K.shows sink.old) (K.shows sink.new)
+            (whole_commands self.script.rest)) }
+    {
+        self.script.end()?;
+        self.run_waiting(sink)?;
+        Ok(self.refused)
+    }
+
+    /// Runs the commands that wait.
+    fn run_waiting<K: Sink>(&mut self, sink: &mut K) -> Result<(), RunEnd>
+        requires { self.old.refused + length self.old.script.waiting < 2 ^ 64 }
+        ensures took { OnOk result (Took self.old.pool.state self.new.pool.state (K.shows sink.old) (K.shows sink.new)
+            self.old.script.waiting self.old.refused self.new.refused) }
+        ensures stopped { IfErr result (Stopped self.old.pool.state (K.shows sink.old) (K.shows sink.new)
+            self.old.script.waiting) }
+        ensures waiting { OnOk result (self.new.script.waiting ≡ []) }
+        ensures over { self.new.script.over ≡ self.old.script.over }
+        ensures stands { (bytes : List ℕ) (n : ℕ) → Stands self.old.script bytes n
+            → (m : ℕ) × Stands self.new.script bytes m }
+    {
+        while let Some(command) = self.script.take() {
+            self.refused += run_command(self.alloc, &mut self.pool, command, sink)?;
         }
-        keep(&mut self.line, rest)?;
         Ok(())
     }
-
-    /// Answers the last line of the script, which no line feed ends, and gives the number of all refusals.
-    pub(crate) fn finish<K: Sink>(self, alloc: Global, sink: &mut K) -> Result<u64, RunEnd>
-        requires { self.refused < 2 ^ 63 }
-        ensures { Answered (K.shows sink.old) (K.shows sink.new) (last_line self.line) self.refused (λ n. n) result }
-    {
-        let Session { line, refused } = self;
-        if line.bytes().len() == 0 {
-            return Ok(refused);
-        }
-        Ok(refused + answer_line(alloc, line.bytes(), sink)?)
-    }
 }
 
-// How many bytes stand before the first line feed.
-fn first_feed(text: &[u8]) -> usize
-    ensures value { result ≡ first_feed text.now }
-    ensures within { result ≤ length text.now }
-{
-    let mut count = 0;
-    let mut rest = text;
-    while let [byte, after @ ..] = rest {
-        if *byte == b'\n' {
-            return count;
-        }
-        count += 1;
-        rest = after;
-    }
-    count
-}
-
-// The bytes before the first line feed and those behind it, or none where there is no line feed.
-fn split_line(text: &[u8]) -> Option<(&[u8], &[u8])>
-    ensures none { IfNone result (ended text.now ≡ []) }
-    ensures text { IfSome result (λ r. text.now ≡ r.0.now ++ 10 ∷ r.1.now) }
-    ensures first { IfSome result (λ r. ended r.0.now ≡ []) }
-{
-    let (line, rest) = text.split_at(first_feed(text));
-    let [_, after @ ..] = rest else {
-        return None;
-    };
-    Some((line, after))
-}
-
-// Adds bytes to a line that has begun, up to what is needed to refuse it.
-fn keep(line: &mut Text, bytes: &[u8]) -> Result<(), OutOfMemory>
-    requires { length line.old ≤ line_limit + 1 }
-    ensures { OnOk result (line.new ≡ kept (line.old ++ bytes.now)) }
-{
-    let room = LINE_LIMIT + 1 - line.bytes().len();
-    line.append(&bytes[..bytes.len().min(room)])
-}
-
-// Answers the line that has begun and ends with these bytes, and begins an empty one. Gives the number of refusals.
-fn end_line<K: Sink>(
+/// Runs a command and offers its reply. Answers how many refusals that is, 0 or 1.
+fn run_command<K: Sink>(
     alloc: Global,
-    line: &mut Text,
-    last: &[u8],
+    pool: &mut Pool,
+    command: Command,
     sink: &mut K,
 ) -> Result<u64, RunEnd>
-    requires { length line.old ≤ line_limit + 1 }
-    ensures answered { Answered (K.shows sink.old) (K.shows sink.new) ((line.old ++ last.now) ∷ []) 0 (λ n. n) result }
-    ensures empty { OnOk result (line.new ≡ []) }
+    requires { IsTrue (is_within_form command) }
+    ensures took { IfOk result (λ n. Took pool.old.state pool.new.state (K.shows sink.old) (K.shows sink.new) (command ∷ []) 0 n) }
+    ensures stopped { IfErr result (Stopped pool.old.state (K.shows sink.old) (K.shows sink.new) (command ∷ [])) }
     ensures one { IfOk result (λ n. n ≤ 1) }
 {
-    if line.bytes().len() == 0 {
-        return answer_line(alloc, last, sink);
-    }
-    keep(line, last)?;
-    let answered = answer_line(alloc, line.bytes(), sink);
-    *line = Text::new(alloc);
-    answered
+    let answered = pool.step(&command);
+    drop(command);
+    let reply = answered?;
+    let offered = offer(alloc, &reply, sink);
+    drop(reply);
+    offered
 }
 
-// Answers a line, where it has an answer, and gives the number of refusals, 0 or 1.
-fn answer_line<K: Sink>(alloc: Global, line: &[u8], sink: &mut K) -> Result<u64, RunEnd>
-    ensures answered { Answered (K.shows sink.old) (K.shows sink.new) (line.now ∷ []) 0 (λ n. n) result }
-    ensures one { IfOk result (λ n. n ≤ 1) }
+/// Offers the text of a reply as one piece. Answers how many refusals it is, 0 or 1.
+fn offer<K: Sink>(alloc: Global, reply: &Reply, sink: &mut K) -> Result<u64, RunEnd>
+    requires { IsTrue (is_printable reply.now) }
+    ensures wrote { OnOk result (Wrote (K.shows sink.old) (K.shows sink.new) (reply_text reply.now)) }
+    ensures count { IfOk result (λ n. n ≡ refusal_count reply.now) }
+    ensures lacks { IfErr result (Lacks (K.shows sink.old) (K.shows sink.new) (reply_text reply.now)) }
 {
-    let Some(reply) = reply_to(alloc, line)? else {
-        return Ok(0);
-    };
-    let text = reply.print(alloc)?;
+    let text = print_reply(alloc, reply)?;
     let Ok(()) = write_all(sink, text.bytes()) else {
         return Err(RunEnd::WriteFault);
     };
-    Ok(reply.refusals())
+    Ok(refusals(reply))
 }

@@ -1,6 +1,10 @@
 // Scripts with their replies, over sources and sinks in memory that are cut and fail.
+#![tactic(auto, unfolding(pool_script::specs::Form::is_within_form))]
+
 use crate::*;
 use pool_io::{MemorySink, MemorySource};
+use pool_replies::{Refusal, Reply};
+use pool_script::Command;
 use pool_text::{OutOfMemory, Slots, Text};
 use std::alloc::Global;
 use std::test::Fail;
@@ -32,7 +36,7 @@ fn run(
 }
 
 /// Scripts with how many commands are refused, and the replies.
-const SCRIPTS: [(&[u8], u64, &[u8]); 12] = [
+const SCRIPTS: [(&[u8], u64, &[u8]); 10] = [
     (b"", 0, b""),
     (
         b"eval false && error\neval error && false\neval true && undefined\n",
@@ -46,37 +50,35 @@ const SCRIPTS: [(&[u8], u64, &[u8]); 12] = [
     ),
     (b"\n \t \n# eval 1\n  #x\n\r\n", 0, b""),
     (b"eval 7\r\neval 8\r", 0, b"7\n8\n"),
-    (b"eval 7\r\r\n", 0, b"7\n"),
-    (b"\teval\tUNDEFINED\t", 0, b"undefined\n"),
     (
-        b"eval\neval \nfly\nEVAL 1\n",
-        4,
-        b"refused 3 wrong words\nrefused 3 wrong words\nrefused 14 not built\nrefused 14 not built\n",
+        b"eval\neval \nfly\nEVAL 1\nnegotiate\n",
+        5,
+        b"refused 3 wrong words\nrefused 3 wrong words\nrefused 2 unknown command\nrefused 2 unknown command\nrefused 14 not built\n",
     ),
     (
-        b"eval 0x1F\neval 010\neval 09\neval 1 && 1.5\neval 9223372036854775808",
+        b"clock 5\nclock 5\nclock 4\nclock x\nclock 1000000000000\nclock 1000000000001",
         3,
-        b"31\n8\nrefused 6 lexical 4 at 0\nrefused 6 lexical 5 at 5\nrefused 6 lexical 4 at 0\n",
+        b"clock 5 expired 0\nclock 5 expired 0\nrefused 7 clock goes back\nrefused 3 wrong words\nclock 1000000000000 expired 0\nrefused 3 wrong words\n",
     ),
     (
-        b"eval \"abc\neval 1 /* x\neval 1 &&\neval \"abc\"\neval a\neval 1 + 1\neval { }",
-        7,
-        b"refused 6 lexical 2 at 0\nrefused 6 lexical 6 at 2\nrefused 6 grammar\nrefused 14 not built\nrefused 14 not built\nrefused 14 not built\nrefused 14 not built\n",
-    ),
-    (
-        b"eval (true || error) && (false || undefined)\neval true && (true && 1)\neval false || (undefined || true)",
-        0,
-        b"undefined\nerror\ntrue\n",
-    ),
-    (
-        b"eval false && \"x\"\neval true || [ ]",
+        b"query\n# no comment\n.\nquery\neval 1\n",
         2,
-        b"refused 14 not built\nrefused 14 not built\n",
+        b"refused 14 not built\nrefused 4 block not ended\n",
+    ),
+    (
+        b"eval \"abc\neval 1 &&\neval \"abc\"\neval 0x1F\neval 1 && 1.5",
+        4,
+        b"refused 6 lexical 2 at 0\nrefused 6 grammar\nrefused 14 not built\n31\nrefused 6 lexical 5 at 5\n",
+    ),
+    (
+        b"eval (true || error) && (false || undefined)\neval false && \"x\"",
+        1,
+        b"undefined\nrefused 14 not built\n",
     ),
 ];
 
 #[test]
-fn lines_are_answered(rt: HostRuntime) -> Result<(), Fail> {
+fn commands_are_answered(rt: HostRuntime) -> Result<(), Fail> {
     let alloc = rt.alloc();
     for (script, refused, replies) in SCRIPTS {
         let whole = run(alloc, script, (4096, 4096), 0, 0)?;
@@ -86,6 +88,34 @@ fn lines_are_answered(rt: HostRuntime) -> Result<(), Fail> {
         assert!(rt; cut.0 == whole.0);
         assert_eq!(rt; cut.1.bytes(), replies);
     }
+    Ok(())
+}
+
+/// Three commands of seven bytes, and their replies of two.
+const THREE: &[u8] = b"eval 1\neval 2\neval 3\n";
+
+const REPLIES: &[u8] = b"1\n2\n3\n";
+
+#[test]
+fn each_read_may_fail(rt: HostRuntime) -> Result<(), Fail> {
+    for reads in 0..4 {
+        let ended = run(rt.alloc(), THREE, (7, 4096), reads + 1, 0)?;
+        assert!(rt; ended.0 == RunEnd::ReadFault);
+        assert_eq!(rt; ended.1.bytes(), &REPLIES[..(2 * reads).min(6)]);
+    }
+    Ok(())
+}
+
+#[test]
+fn each_write_may_fail(rt: HostRuntime) -> Result<(), Fail> {
+    for bytes in 0..6 {
+        let ended = run(rt.alloc(), THREE, (4096, 1), 0, bytes + 1)?;
+        assert!(rt; ended.0 == RunEnd::WriteFault);
+        assert_eq!(rt; ended.1.bytes(), &REPLIES[..bytes]);
+    }
+    // The first reply was offered before the second read.
+    let ended = run(rt.alloc(), THREE, (7, 4096), 2, 1)?;
+    assert!(rt; ended.0 == RunEnd::WriteFault);
     Ok(())
 }
 
@@ -102,13 +132,11 @@ fn repeated(alloc: Global, first: &[u8], more: &[u8], times: usize) -> Result<Te
 #[test]
 fn limits_of_expressions(rt: HostRuntime) -> Result<(), Fail> {
     let alloc = rt.alloc();
-    let cases: [(&[u8], &[u8], usize, &[u8]); 6] = [
+    let cases: [(&[u8], &[u8], usize, &[u8]); 4] = [
         (b"1", b" + 1", 63, b"refused 14 not built\n"),
         (b"1", b" + 1", 64, b"refused 6 depth\n"),
-        (b"true", b" && true", 99, b"true\n"),
         (b"", b"(", 131, b"refused 6 nesting\n"),
         (b"", b"(", 130, b"refused 6 grammar\n"),
-        (b"1", b" ? 1 : 1", 2000, b"refused 6 depth\n"),
     ];
     for (first, more, times, reply) in cases {
         let ended = run(
@@ -119,26 +147,6 @@ fn limits_of_expressions(rt: HostRuntime) -> Result<(), Fail> {
             0,
         )?;
         assert_eq!(rt; ended.1.bytes(), reply);
-    }
-    Ok(())
-}
-
-#[test]
-fn faults_end_a_run(rt: HostRuntime) -> Result<(), Fail> {
-    let alloc = rt.alloc();
-    let script = b"eval 1\neval 2\neval 3\n";
-    let cases: [((usize, usize), usize, usize, RunEnd, &[u8]); 6] = [
-        ((4096, 4096), 0, 3, RunEnd::WriteFault, b"1\n2\n"),
-        ((4096, 1), 0, 2, RunEnd::WriteFault, b"1"),
-        ((4096, 1), 0, 4, RunEnd::WriteFault, b"1\n2"),
-        ((7, 4096), 1, 0, RunEnd::ReadFault, b""),
-        ((7, 4096), 2, 0, RunEnd::ReadFault, b"1\n"),
-        ((8, 4096), 2, 0, RunEnd::ReadFault, b"1\n"),
-    ];
-    for (most, source_fails, sink_fails, end, written) in cases {
-        let ended = run(alloc, script, most, source_fails, sink_fails)?;
-        assert!(rt; ended.0 == end);
-        assert_eq!(rt; ended.1.bytes(), written);
     }
     Ok(())
 }
@@ -193,4 +201,22 @@ fn statuses(rt: HostRuntime) {
     for (end, status) in cases {
         assert_eq!(rt; end.status(), status);
     }
+}
+
+#[test]
+fn a_pool_steps(rt: HostRuntime) -> Result<(), Fail> {
+    let mut pool = Pool::new(rt.alloc());
+    let reply = pool.step(&Command::Clock(7))?;
+    assert!(rt;
+        matches!(
+            reply,
+            Reply::Clock {
+                moment: 7,
+                expired: 0
+            }
+        )
+    );
+    let reply = pool.step(&Command::Clock(6))?;
+    assert!(rt; matches!(reply, Reply::Refused(Refusal::ClockBack)));
+    Ok(())
 }

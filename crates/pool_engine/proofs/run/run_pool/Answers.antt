@@ -1,4 +1,4 @@
-use Rattle.pool_engine.proofs.RunEndLemmas.{Ends-sure}
+use Rattle.pool_engine.proofs.EndLemmas.{Ends-sure}
 use Rattle.pool_engine.proofs.run.run_pool.Goals as goal
 
 pub returns-in-Err-clause-sure_sink : goal.returns-in-Err-clause-sure_sink

@@ -1,0 +1,111 @@
+-- Commands that ran one after the other, and those at which running stopped.
+use Rattle.std.proofs.Common.{◌≡◌, ℕ, ◌+◌, List, [], ◌∷◌, ◌++◌, Result, Ok, Err, IfErr, refl, sym, ◌∙◌, ap, subst, arith, append_assoc}
+use Rattle.std.proofs.lemmas.List.{append-nil}
+use Rattle.pool_io.specs.Flow.{Intake}
+use Rattle.pool_script.specs.declared.command.Command.{Command}
+use Rattle.pool_replies.specs.declared.reply.Reply.{Reply}
+use Rattle.pool_replies.specs.Replies.{refusal_count, reply_text}
+use Rattle.pool_engine.specs.declared.run.RunEnd.{RunEnd}
+use Rattle.pool_engine.specs.declared.run.RunEnd.TheVariants.{Done, BadWords, ReadFault, WriteFault, TooLong, OutOfMemory}
+use Rattle.pool_engine.specs.Ends.{Broke, Wrote}
+use Rattle.pool_engine.specs.Events.{events_of, refusals_of, replies_text, state_after}
+use Rattle.pool_engine.specs.Session.{Lacks, Stopped, Took}
+use Rattle.pool_engine.specs.State.{State}
+use Rattle.pool_engine.specs.Step.{step}
+use Rattle.pool_engine.proofs.EventLemmas.{refusals-append, replies-append, state_after-append}
+use Rattle.pool_engine.proofs.WroteLemmas.{Broke-after, Wrote-append, Wrote-nil}
+
+pub Took-nil : (s : State) (k : Intake) (n : ℕ) → Took s s k k [] n n
+Took-nil s k n = record { state = refl; wrote = Wrote-nil k; counted = omega arith }
+
+-- the replies to commands behind others
+pub wrote_behind : (s t : State) (k m n : Intake) (a b : List Command) → t ≡ state_after s a → Wrote k m (replies_text (events_of s a)) → Wrote m n (replies_text (events_of t b)) → Wrote k n (replies_text (events_of s (a ++ b)))
+wrote_behind s t k m n a b is first second =
+    let here : Wrote m n (replies_text (events_of (state_after s a) b)) = subst (λ (x : State). Wrote m n (replies_text (events_of x b))) is second in
+    subst (λ (l : List ℕ). Wrote k n l) (sym (replies-append s a b)) (Wrote-append k m n (replies_text (events_of s a)) (replies_text (events_of (state_after s a) b)) first here)
+
+-- a reply that wasn't taken whole, behind other commands
+pub broke_behind : (s t : State) (k m n : Intake) (a b : List Command) (cut : Command) → t ≡ state_after s a → Wrote k m (replies_text (events_of s a)) → Broke m n (replies_text (events_of t b)) (reply_text (step (state_after t b) cut).1) → Broke k n (replies_text (events_of s (a ++ b))) (reply_text (step (state_after s (a ++ b)) cut).1)
+broke_behind s t k m n a b cut is first second =
+    let at : State = state_after s a in
+    let here : Broke m n (replies_text (events_of at b)) (reply_text (step (state_after at b) cut).1) = subst (λ (x : State). Broke m n (replies_text (events_of x b)) (reply_text (step (state_after x b) cut).1)) is second in
+    let both : Broke k n (replies_text (events_of s a) ++ replies_text (events_of at b)) (reply_text (step (state_after at b) cut).1) = Broke-after k m n (replies_text (events_of s a)) (replies_text (events_of at b)) (reply_text (step (state_after at b) cut).1) first here in
+    let whole : Broke k n (replies_text (events_of s (a ++ b))) (reply_text (step (state_after at b) cut).1) = subst (λ (l : List ℕ). Broke k n l (reply_text (step (state_after at b) cut).1)) (sym (replies-append s a b)) both in
+    subst (λ (x : State). Broke k n (replies_text (events_of s (a ++ b))) (reply_text (step x cut).1)) (sym (state_after-append s a b)) whole
+
+-- commands and then more commands
+pub Took-append : (s t u : State) (k m n : Intake) (a b : List Command) (p q r : ℕ) → Took s t k m a p q → Took t u m n b q r → Took s u k n (a ++ b) p r
+Took-append s t u k m n a b p q r first second =
+    let here : Took (state_after s a) u m n b q r = subst (λ (x : State). Took x u m n b q r) first.state second in
+    record {
+      state = here.state ∙ sym (state_after-append s a b);
+      wrote = wrote_behind s (state_after s a) k m n a b refl first.wrote here.wrote;
+      counted = omega (arith, first.counted, here.counted, refusals-append s a b);
+    }
+
+-- a count goes on from any number
+pub Took-from : (s t : State) (k m : Intake) (a : List Command) (p c : ℕ) → Took s t k m a 0 c → Took s t k m a p (p + c)
+Took-from s t k m a p c took = record { state = took.state; wrote = took.wrote; counted = omega (arith, took.counted) }
+
+-- a command whose reply was taken
+pub Took-one : (s t : State) (k m : Intake) (command : Command) (reply : Reply) (n : ℕ) → ◌≡◌ {A = State × Reply} (step s command) (t, reply) → Wrote k m (reply_text reply) → n ≡ refusal_count reply → Took s t k m (command ∷ []) 0 n
+Took-one s t k m command reply n is wrote count =
+    let text : reply_text reply ≡ reply_text (step s command).1 ++ [] = ap (λ (p : State × Reply). reply_text p.1) (sym is) ∙ sym (append-nil (reply_text (step s command).1)) in
+    record {
+      state = sym (ap (λ (p : State × Reply). p.0) is);
+      wrote = subst (λ (l : List ℕ). Wrote k m l) text wrote;
+      counted = omega (arith, count, ap (λ (p : State × Reply). refusal_count p.1) is);
+    }
+
+-- a command whose reply wasn't taken
+pub Stopped-one : (s t : State) (k m : Intake) (command : Command) (reply : Reply) (end : RunEnd) → ◌≡◌ {A = State × Reply} (step s command) (t, reply) → Lacks k m (reply_text reply) end → Stopped s k m (command ∷ []) end
+Stopped-one s t k m command reply WriteFault is lacks = record {
+  front = [];
+  cut = command;
+  others = [];
+  split = refl;
+  broke = subst (λ (l : List ℕ). Broke k m [] l) (ap (λ (p : State × Reply). reply_text p.1) (sym is)) lacks;
+}
+Stopped-one s t k m command reply OutOfMemory is lacks = record {
+  front = [];
+  others = command ∷ [];
+  split = refl;
+  wrote = subst (λ (x : Intake). Wrote k x []) (sym lacks) (Wrote-nil k);
+}
+Stopped-one s t k m command reply (Done refused) is lacks = absurd lacks
+Stopped-one s t k m command reply BadWords is lacks = absurd lacks
+Stopped-one s t k m command reply ReadFault is lacks = absurd lacks
+Stopped-one s t k m command reply TooLong is lacks = absurd lacks
+
+-- a command whose reply was offered
+pub Stopped-offered : (s t : State) (k m : Intake) (command : Command) (reply : Reply) (result : Result ℕ RunEnd) → ◌≡◌ {A = State × Reply} (step s command) (t, reply) → IfErr result (Lacks k m (reply_text reply)) → IfErr result (Stopped s k m (command ∷ []))
+Stopped-offered s t k m command reply (Ok n) is lacks = tt
+Stopped-offered s t k m command reply (Err end) is lacks = Stopped-one s t k m command reply end is lacks
+
+-- memory was wanting before any of the commands
+pub Stopped-none : (s : State) (k : Intake) (commands : List Command) → Stopped s k k commands OutOfMemory
+Stopped-none s k commands = record { front = []; others = commands; split = refl; wrote = Wrote-nil k }
+
+split_within : (a b c front others : List Command) → b ≡ front ++ others → a ++ (b ++ c) ≡ (a ++ front) ++ (others ++ c)
+split_within a b c front others is =
+    ap (λ (l : List Command). a ++ (l ++ c)) is ∙ ap (λ (l : List Command). a ++ l) (append_assoc front others c) ∙ sym (append_assoc a front (others ++ c))
+
+-- running stopped, behind other commands and before more
+pub Stopped-within : (s t : State) (k m n : Intake) (a b c : List Command) (p q : ℕ) (end : RunEnd) → Took s t k m a p q → Stopped t m n b end → Stopped s k n (a ++ (b ++ c)) end
+Stopped-within s t k m n a b c p q WriteFault first stopped = record {
+  front = a ++ stopped.front;
+  cut = stopped.cut;
+  others = stopped.others ++ c;
+  split = split_within a b c stopped.front (stopped.cut ∷ stopped.others) stopped.split;
+  broke = broke_behind s t k m n a stopped.front stopped.cut first.state first.wrote stopped.broke;
+}
+Stopped-within s t k m n a b c p q OutOfMemory first stopped = record {
+  front = a ++ stopped.front;
+  others = stopped.others ++ c;
+  split = split_within a b c stopped.front stopped.others stopped.split;
+  wrote = wrote_behind s t k m n a stopped.front first.state first.wrote stopped.wrote;
+}
+Stopped-within s t k m n a b c p q (Done refused) first stopped = absurd stopped
+Stopped-within s t k m n a b c p q BadWords first stopped = absurd stopped
+Stopped-within s t k m n a b c p q ReadFault first stopped = absurd stopped
+Stopped-within s t k m n a b c p q TooLong first stopped = absurd stopped

@@ -1,0 +1,16 @@
+//! The replies of the pool and the text of each.
+#![tactic(auto)]
+
+mod cycle;
+mod refusal;
+mod reply;
+mod rows;
+#[cfg(test)]
+mod tests;
+mod writing;
+
+pub use refusal::{Refusal, Room};
+pub use reply::{Reply, print_reply, refusals};
+pub use rows::{
+    AdRow, AdRows, HitRow, HitRows, OfferRow, OfferRows, SpinRow, SpinRows, TurnRow, TurnRows,
+};

@@ -1,0 +1,57 @@
+// The rows of replies of several lines.
+use pool_text::{Items, Names, Text};
+
+/// An ad of the pool: its name, the moment of its birth, its lifetime, and the jobs that claimed it and that it is
+/// offered to.
+#[derive(Debug, Drop)]
+pub struct AdRow {
+    pub name: Text,
+    pub born: u64,
+    pub lifetime: u64,
+    pub claimed: Option<Text>,
+    pub offered: Option<Text>,
+}
+
+/// The ads of a reply.
+pub type AdRows = Items<AdRow>;
+
+/// An ad that a query found, and the query's rank of it.
+#[derive(Debug, Drop)]
+pub struct HitRow {
+    pub name: Text,
+    pub rank: i64,
+}
+
+/// The hits of a reply.
+pub type HitRows = Items<HitRow>;
+
+/// An offer: the job and the names of its resources.
+#[derive(Debug, Drop)]
+pub struct OfferRow {
+    pub job: Text,
+    pub names: Names,
+}
+
+/// The offers of a turn.
+pub type OfferRows = Items<OfferRow>;
+
+/// A user's turn in a spin: the slice that the user had, and what was offered.
+#[derive(Debug, Drop)]
+pub struct TurnRow {
+    pub user: Text,
+    pub slice: u64,
+    pub offers: OfferRows,
+}
+
+/// The turns of a spin.
+pub type TurnRows = Items<TurnRow>;
+
+/// A spin of a negotiation cycle: how many resources were free, and the users' turns.
+#[derive(Debug, Drop)]
+pub struct SpinRow {
+    pub free: u64,
+    pub turns: TurnRows,
+}
+
+/// The spins of a cycle.
+pub type SpinRows = Items<SpinRow>;

@@ -1,4 +1,5 @@
 mod AddLemmas
+mod BackLemmas
 mod NestTrees
 mod QuoteLemmas
 mod QuotingLemmas

@@ -1,5 +1,6 @@
 pub mod Pieces
 pub mod Printed
 pub mod Quotes
+pub mod ReadBack
 pub mod Values
 pub mod Writing

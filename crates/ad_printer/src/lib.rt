@@ -8,5 +8,8 @@ mod quoting;
 mod value;
 mod writing;
 
-pub use laws::printed_trees_are_read;
+pub use laws::{
+    printed_ads_are_read_back, printed_phrases_are_read_back, printed_trees_are_read,
+    printing_is_one_to_one,
+};
 pub use printing::{print_ad, print_expr, print_value};

@@ -37,10 +37,7 @@ pub(crate) fn is_error(value: &Value) -> bool
 pub(crate) fn is_scalar(value: &Value) -> bool
     ensures { result ≡ is_scalar (plain value.now) }
 {
-    matches!(
-        value,
-        Value::Boolean(_) | Value::Integer(_) | Value::Str(_)
-    )
+    matches!(value, Value::Boolean(_) | Value::Integer(_) | Value::Str(_))
 }
 
 /// Whether the value is the Boolean true.

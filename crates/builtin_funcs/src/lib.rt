@@ -10,6 +10,8 @@ mod laws;
 mod lists;
 mod rows;
 mod string_lists;
+#[cfg(test)]
+mod tests;
 mod texts;
 
 pub use calls::{call, known};

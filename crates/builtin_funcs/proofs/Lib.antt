@@ -7,3 +7,4 @@ pub mod ItemLemmas
 pub mod CallLemmas
 pub mod TextLemmas
 pub mod CompareLemmas
+pub mod LawLemmas

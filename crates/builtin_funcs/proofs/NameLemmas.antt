@@ -17,9 +17,9 @@ not_true true never = absurd (never refl)
 lengths_apart : (a b : List ℕ) → eqb (length a) (length b) ≡ false → bytes_eq (folded a) (folded b) ≡ false
 lengths_apart a b apart =
     not_true _ (λ yes.
-        let same : folded a ≡ folded b = (bytes_eq-Decides (folded a) (folded b)).0 yes in
-        let lengths : length a ≡ length b = sym (length-map a to_ascii_lowercase) ∙ ap length same ∙ length-map b to_ascii_lowercase in
-        grind (arith, nat_tests))
+    let same : folded a ≡ folded b = (bytes_eq-Decides (folded a) (folded b)).0 yes in
+    let lengths : length a ≡ length b = sym (length-map a to_ascii_lowercase) ∙ ap length same ∙ length-map b to_ascii_lowercase in
+    grind (arith, nat_tests))
 
 passed_over : (same : Bool) (f : Function) (o : Option Function) → same ≡ false → cond same (Option.Some f) o ≡ o
 passed_over false f o is = refl

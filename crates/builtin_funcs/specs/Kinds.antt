@@ -36,8 +36,3 @@ is_scalar (boolean b) = true
 is_scalar (integer n) = true
 is_scalar (text bytes) = true
 is_scalar other = false
-
--- the Boolean true, and no other value
-abbrev pub is_true : Plain → Bool
-is_true (boolean b) = b
-is_true other = false

@@ -4,9 +4,10 @@ use Rattle.std.specs.List.{list_all, list_any}
 use Rattle.std.specs.Str.{bytes_eq}
 use Rattle.std.specs.Option.{option_map_or}
 use Rattle.pool_text.specs.declared.language.BinOp.{BinOp}
+use Rattle.ad_value.specs.Logic.{is_true}
 use Rattle.ad_value.specs.Plain.{Plain, error, boolean, text, list, elements}
 use Rattle.ad_value.specs.Operators.{binary_value, is_same}
-use Rattle.builtin_funcs.specs.Kinds.{is_scalar, is_true}
+use Rattle.builtin_funcs.specs.Kinds.{is_scalar}
 
 -- `a op b` is true
 abbrev pub compares : BinOp → Plain → Plain → Bool

@@ -8,9 +8,9 @@ use Rattle.std.specs.Fmt.{signed_decimal}
 use Rattle.std.specs.List.{flat_map, list_all, list_any, slice_split}
 use Rattle.std.specs.Str.{all_ascii_digits, bytes_eq}
 use Rattle.std.specs.Str.Parse.{signed_digits_value, without_leading_sign}
-use Rattle.pool_text.specs.Folding.{folded}
+use Rattle.pool_text.specs.Folding.{folded, text_order}
 use Rattle.ad_value.specs.Plain.{Plain, error, boolean, integer, text}
-use Rattle.ad_value.specs.Operators.{integer_or_error, number_of, on_number, text_order}
+use Rattle.ad_value.specs.Operators.{integer_or_error, number_of, on_number}
 use Rattle.builtin_funcs.specs.Kinds.{is_scalar}
 
 -- ---- from one kind to another
@@ -106,6 +106,10 @@ usual_delimiters = text (codes ", ")
 -- the longest runs of bytes that are no delimiters
 abbrev pub items_of : List ℕ → List ℕ → List (List ℕ)
 items_of delimiters bytes = filter (λ part. nat_lt 0 (length part)) (slice_split (λ byte. list_any (λ d. d == byte) delimiters) bytes)
+
+-- some bytes, of which none is a delimiter
+abbrev pub is_item : List ℕ → List ℕ → Bool
+is_item delimiters bytes = nat_lt 0 (length bytes) && not (list_any (λ byte. list_any (λ d. d == byte) delimiters) bytes)
 
 -- whether the text is one of the items
 abbrev pub string_list_member_value : Plain → Plain → Plain → Plain

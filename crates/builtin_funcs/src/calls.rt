@@ -29,12 +29,7 @@ pub fn known(name: &[u8], count: usize) -> bool
 /// else an argument of a kind that the function doesn't take gives Error. A result that weighs more than 65,536 is Error.
 /// `ifThenElse` chooses between its values here, and `size` of an Ad is Error: what they demand and what a frame holds
 /// is for the caller to know.
-pub fn call(
-    alloc: Global,
-    name: &[u8],
-    args: &Values,
-    moment: u64,
-) -> Result<Value, OutOfMemory>
+pub fn call(alloc: Global, name: &[u8], args: &Values, moment: u64) -> Result<Value, OutOfMemory>
     ensures { IfOk result (λ v. plain v ≡ call_value name.now (plains args.now) moment) }
 {
     match function_named(name) {

@@ -49,10 +49,8 @@ impl Function {
             Function::Strcat => true,
             Function::StringListSize => count == 1 || count == 2,
             Function::Substr | Function::StringListMember => count == 2 || count == 3,
-            Function::Member
-            | Function::IdenticalMember
-            | Function::Strcmp
-            | Function::Stricmp => count == 2,
+            Function::Member | Function::IdenticalMember | Function::Strcmp | Function::Stricmp =>
+                count == 2,
             Function::AnyCompare | Function::AllCompare | Function::IfThenElse => count == 3,
             _ => count == 1,
         }

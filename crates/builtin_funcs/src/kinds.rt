@@ -1,8 +1,9 @@
 // The kinds of values.
 ghost use Rattle.std.specs.Prelude.{◌≡◌};
 ghost use Rattle.ad_value.specs.Plain.{plain};
+ghost use Rattle.ad_value.specs.Logic.{is_true};
 ghost use Rattle.ad_value.specs.Operators.{number_of};
-ghost use Rattle.builtin_funcs.specs.Kinds.{is_error, is_scalar, is_true, is_undefined};
+ghost use Rattle.builtin_funcs.specs.Kinds.{is_error, is_scalar, is_undefined};
 
 use ad_value::Value;
 
@@ -36,10 +37,7 @@ pub(crate) fn is_error(value: &Value) -> bool
 pub(crate) fn is_scalar(value: &Value) -> bool
     ensures { result ≡ is_scalar (plain value.now) }
 {
-    matches!(
-        value,
-        Value::Boolean(_) | Value::Integer(_) | Value::Str(_)
-    )
+    matches!(value, Value::Boolean(_) | Value::Integer(_) | Value::Str(_))
 }
 
 /// Whether the value is the Boolean true.

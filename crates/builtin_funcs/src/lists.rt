@@ -57,7 +57,7 @@ pub(crate) fn all_compare(op: &Value, list: &Value, x: &Value) -> Value
 fn any_by_spelling(spelling: &[u8], items: &Values, x: &Value) -> Value
     ensures { plain result
         ≡ option_map_or (λ op. boolean (list_any (λ e. compares op e (plain x.now)) (plains items.now)))
-            (comparison_named spelling.now) error }
+        (comparison_named spelling.now) error }
 {
     match comparison_named(spelling) {
         Some(op) => Value::Boolean(any_compares(op, items, x)),
@@ -68,7 +68,7 @@ fn any_by_spelling(spelling: &[u8], items: &Values, x: &Value) -> Value
 fn all_by_spelling(spelling: &[u8], items: &Values, x: &Value) -> Value
     ensures { plain result
         ≡ option_map_or (λ op. boolean (list_all (λ e. compares op e (plain x.now)) (plains items.now)))
-            (comparison_named spelling.now) error }
+        (comparison_named spelling.now) error }
 {
     match comparison_named(spelling) {
         Some(op) => Value::Boolean(all_compare_with(op, items, x)),

@@ -65,12 +65,7 @@ fn row_of_one(alloc: Global, function: Function, x: &Value) -> Result<Value, Out
     })
 }
 
-fn row_of_two(
-    alloc: Global,
-    function: Function,
-    x: &Value,
-    y: &Value,
-) -> Result<Value, OutOfMemory>
+fn row_of_two(alloc: Global, function: Function, x: &Value, y: &Value) -> Result<Value, OutOfMemory>
     ensures { IfOk result (λ v. plain v ≡ row_of_two function (plain x.now) (plain y.now)) }
 {
     Ok(match function {

@@ -48,7 +48,7 @@ fn count_items(list: &[u8], delimiters: &[u8]) -> usize
 {
     let marks = marks(delimiters);
     list.split(|byte| is_marked(&marks, *byte))
-        .filter(|part| part.len() > 0)
+        .filter(|item| item.len() > 0)
         .count()
 }
 

@@ -11,11 +11,11 @@ pub returns-clause-count : goal.returns-clause-count
 returns-clause-count c =
     let marked : ℕ → Bool = λ byte. get_or c.marks-marks.result byte false in
     count_from_yields_List _ _ c.count.ensures.ran
-        (YieldsList-from_filter _ (λ (part : List ℕ). ltb 0 (length part))
-            (YieldsList-at c.filter.ensures.source
-                (YieldsList-from_slice_split _ marked c.args.list.now c.split.ensures.rest c.split.ensures.done c.split.ensures.closure (λ x b q k. search (rules, tests))))
-            c.filter.ensures.closure (λ x b q k. search (rules, tests)))
-        ∙ ap length (items_of-marks c.args.delimiters.now marked c.marks-marks.ensures c.args.list.now)
+    (YieldsList-from_filter _ (λ (part : List ℕ). ltb 0 (length part))
+    (YieldsList-at c.filter.ensures.source
+    (YieldsList-from_slice_split _ marked c.args.list.now c.split.ensures.rest c.split.ensures.done c.split.ensures.closure (λ x b q k. search (rules, tests))))
+    c.filter.ensures.closure (λ x b q k. search (rules, tests)))
+    ∙ ap length (items_of-marks c.args.delimiters.now marked c.marks-marks.ensures c.args.list.now)
 
 pub returns-clause-within : goal.returns-clause-within
 returns-clause-within c = rw (returns-clause-count c) (length-items_of c.args.delimiters.now c.args.list.now)

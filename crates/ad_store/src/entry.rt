@@ -1,0 +1,12 @@
+// An ad as it lies in the table of slots.
+use ad_tree::Ad;
+use pool_text::Text;
+
+#[derive(Debug, Drop)]
+pub(crate) struct Entry {
+    pub(crate) name: Text,
+    pub(crate) born: u64,
+    pub(crate) lifetime: u64,
+    pub(crate) size: u64,
+    pub(crate) ad: Ad,
+}

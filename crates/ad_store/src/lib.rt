@@ -1,0 +1,9 @@
+//! The ads that a pool holds, by name and in the order of their coming.
+#![tactic(auto)]
+
+mod answers;
+mod entry;
+mod store;
+
+pub use answers::{NoName, Put, PutFault};
+pub use store::Store;

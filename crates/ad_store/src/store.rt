@@ -1,0 +1,205 @@
+// The store: names in order, each with a slot, and the ads in a table of slots.
+ghost use Rattle.std.specs.Prelude.{◌≡◌, ◌+◌, ◌≤◌, ℕ, [], true, false, not, length, slice_get, option_map, bytes_eq, IsTrue, IfErr, IfNone, IfOk, IfSome, None, OnErr, OnOk, Some, Contains};
+ghost use Rattle.std.specs.Option.{option_map_or};
+ghost use Rattle.indexmap.specs.IndexMap.{get_by};
+ghost use Rattle.slab.specs.Slab.{ContainsKey, Updates, get};
+ghost use Rattle.ad_tree.specs.Ad.{ad_frames};
+ghost use Rattle.ad_store.specs.Answers.{IsCause, is_added, slot_put, slots_put};
+ghost use Rattle.ad_store.specs.Held.{IsEntered, adverts, are_held};
+ghost use Rattle.ad_store.specs.Stock.{ads_limit, text_held, text_limit};
+
+use crate::entry::Entry;
+use crate::{NoName, Put, PutFault};
+use ad_tree::Ad;
+use indexmap::IndexMap;
+use pool_steps::Steps;
+use pool_text::{OutOfMemory, Text};
+use slab::Slab;
+use std::alloc::Global;
+use std::sync::ledger::Ledger;
+
+const ADS_LIMIT: usize = 10_000;
+
+const TEXT_LIMIT: u64 = 33_554_432;
+
+/// The ads that are held, each under a name of its own, in the order in which their names came. An ad keeps the slot
+/// that it is given until it leaves, also where another takes its place.
+///
+/// A name is found by its hash, and a slot by its number; neither look-up takes memory.
+#[derive(Debug, Drop)]
+pub struct Store {
+    alloc: Global,
+    names: IndexMap<Vec<u8>, usize>,
+    table: Slab<Entry>,
+    text: u64,
+    ghost held: { IsTrue (are_held table names.entries) },
+    ghost counted: { text ≡ text_held (adverts table names.entries) },
+    ghost within: { text ≤ text_limit },
+    ghost few: { length names.entries ≤ ads_limit },
+}
+
+impl Store {
+    ghost use Rattle.ad_store.specs.Stock.{first_expired, has, is_live, lack, placed, slot_named, slots_without, without};
+    ghost use Rattle.ad_store.specs.Store.{stock_of};
+
+    /// A store that holds no ad, which takes no memory yet.
+    pub fn new(alloc: Global) -> Store
+        ensures { stock_of result ≡ record { ads = []; slots = [] } }
+    {
+        Store {
+            alloc,
+            names: IndexMap::new(alloc),
+            table: Slab::new(alloc),
+            text: 0,
+        }
+    }
+
+    /// Puts an ad under a name, in the place of the ad that has it, or else last in a new slot.
+    ///
+    /// `Full` exactly where the name is new and 10,000 ads are held; `FullText`, asked next, exactly where the texts of
+    /// the other ads and this one, of `text_len` bytes, are more than 33,554,432 bytes together. Where it isn't put
+    /// nothing changes.
+    pub fn put(
+        &mut self,
+        name: &[u8],
+        born: u64,
+        lifetime: u64,
+        text_len: u64,
+        ad: Ad,
+    ) -> Result<Put, PutFault>
+        ensures ads { OnOk result ((stock_of self.new).ads
+            ≡ placed (record { name = name.now; born = born; lifetime = lifetime; size = text_len; ad = ad_frames ad }) (stock_of self.old).ads) }
+        ensures slots { IfOk result (λ put. (stock_of self.new).slots ≡ slots_put put (stock_of self.old).slots) }
+        ensures slot { IfOk result (λ put. slot_named name.now (stock_of self.new) ≡ Some (slot_put put)) }
+        ensures added { IfOk result (λ put. is_added put ≡ not (has name.now (stock_of self.old).ads)) }
+        ensures room { OnOk result (lack name.now text_len (stock_of self.old).ads ≡ None) }
+        ensures cause { IfErr result (λ fault. IsCause fault (lack name.now text_len (stock_of self.old).ads)) }
+        ensures err { OnErr result (stock_of self.new ≡ stock_of self.old) }
+    {
+        let Some(slot) = self.slot_of(name) else {
+            return self.add(name, born, lifetime, text_len, ad);
+        };
+        let others = self.text - size_at(&self.table, slot);
+        if others.saturating_add(text_len) > TEXT_LIMIT {
+            return Err(PutFault::FullText);
+        }
+        renew(&mut self.table, slot, born, lifetime, text_len, ad);
+        self.text = others + text_len;
+        Ok(Put::Replaced(slot))
+    }
+
+    // Puts an ad under a new name.
+    fn add(
+        &mut self,
+        name: &[u8],
+        born: u64,
+        lifetime: u64,
+        size: u64,
+        ad: Ad,
+    ) -> Result<Put, PutFault>
+        requires { slot_named name.now (stock_of self.old) ≡ None }
+        ensures ads { OnOk result ((stock_of self.new).ads
+            ≡ placed (record { name = name.now; born = born; lifetime = lifetime; size = size; ad = ad_frames ad }) (stock_of self.old).ads) }
+        ensures slots { IfOk result (λ put. (stock_of self.new).slots ≡ slots_put put (stock_of self.old).slots) }
+        ensures slot { IfOk result (λ put. slot_named name.now (stock_of self.new) ≡ Some (slot_put put)) }
+        ensures added { IfOk result (λ put. is_added put ≡ not (has name.now (stock_of self.old).ads)) }
+        ensures room { OnOk result (lack name.now size (stock_of self.old).ads ≡ None) }
+        ensures cause { IfErr result (λ fault. IsCause fault (lack name.now size (stock_of self.old).ads)) }
+        ensures err { OnErr result (stock_of self.new ≡ stock_of self.old) }
+    {
+        if self.names.len() >= ADS_LIMIT {
+            return Err(PutFault::Full);
+        }
+        if self.text.saturating_add(size) > TEXT_LIMIT {
+            return Err(PutFault::FullText);
+        }
+        let entry = Entry {
+            name: Text::from_bytes(self.alloc, name)?,
+            born,
+            lifetime,
+            size,
+            ad,
+        };
+        let slot = enter(self.alloc, &mut self.names, &mut self.table, name, entry)?;
+        self.text += size;
+        Ok(Put::Added(slot))
+    }
+
+    /// Takes out the ad of a name, and gives the slot that it had. The other ads keep their order and their slots.
+    pub fn withdraw(&mut self, name: &[u8]) -> Result<usize, NoName>
+        ensures slot { IfOk result (λ slot. slot_named name.now (stock_of self.old) ≡ Some slot) }
+        ensures held { OnOk result (has name.now (stock_of self.old).ads ≡ true) }
+        ensures ads { OnOk result ((stock_of self.new).ads ≡ without name.now (stock_of self.old).ads) }
+        ensures slots { OnOk result ((stock_of self.new).slots ≡ slots_without name.now (stock_of self.old).ads (stock_of self.old).slots) }
+        ensures none { OnErr result (has name.now (stock_of self.old).ads ≡ false) }
+        ensures err { OnErr result (stock_of self.new ≡ stock_of self.old) }
+    {
+        let Some(slot) = self.slot_of(name) else {
+            return Err(NoName);
+        };
+        self.names.shift_remove(name);
+        let entry = self.table.remove(slot);
+        self.text -= entry.size;
+        Ok(slot)
+    }
+
+    /// How many ads are held.
+    pub fn len(&self) -> usize
+        ensures ads { result ≡ length (stock_of self.now).ads }
+        ensures slots { result ≡ length (stock_of self.now).slots }
+    {
+        self.names.len()
+    }
+
+    /// The slot of the ad of this name, `None` exactly where none is held.
+    pub fn slot_of(&self, name: &[u8]) -> Option<usize>
+        ensures slot { result ≡ slot_named name.now (stock_of self.now) }
+        ensures held { IfSome result (Contains (stock_of self.now).slots) }
+    {
+        self.names.get(name).copied()
+    }
+}
+
+// The length of the text of the ad in this slot.
+fn size_at(table: &Slab<Entry>, slot: usize) -> u64
+    ensures { result ≡ option_map_or (λ e. e.size) (get table.now slot) 0 }
+{
+    table.get(slot).map_or(0, |entry| entry.size)
+}
+
+// Puts an ad in the place of the one in this slot, whose name it takes.
+fn renew(table: &mut Slab<Entry>, slot: usize, born: u64, lifetime: u64, size: u64, ad: Ad)
+    requires { ContainsKey table.old slot }
+    ensures { IfSome (get table.old slot) (λ old. Updates table.old table.new slot
+        (Some (record { name = old.name; born = born; lifetime = lifetime; size = size; ad = ad }))) }
+{
+    let old = table.remove(slot);
+    table.insert_reserved(Entry {
+        name: old.name,
+        born,
+        lifetime,
+        size,
+        ad,
+    });
+}
+
+// Puts a new name last, with an entry in a slot of its own. Memory is taken first.
+fn enter(
+    alloc: Global,
+    names: &mut IndexMap<Vec<u8>, usize>,
+    table: &mut Slab<Entry>,
+    name: &[u8],
+    entry: Entry,
+) -> Result<usize, OutOfMemory>
+    requires { get_by (λ k. bytes_eq name.now k.items) names.old ≡ None }
+    ensures entered { IfOk result (λ slot. IsEntered names.old.entries names.new.entries table.old table.new name.now slot entry) }
+    ensures names { OnErr result (names.new.entries ≡ names.old.entries) }
+    ensures table { OnErr result (table.new.slots ≡ table.old.slots) }
+{
+    let key = Vec::from_slice(alloc, name)?;
+    names.reserve(1)?;
+    table.reserve(1)?;
+    let slot = table.vacant_key();
+    names.insert(key, slot)?;
+    Ok(table.insert_reserved(entry))
+}

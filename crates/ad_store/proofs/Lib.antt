@@ -1,3 +1,5 @@
 pub mod HeldLemmas
 pub mod Lookups
 pub mod ChangeLemmas
+pub mod EnterLemmas
+pub mod ReplaceLemmas

@@ -5,10 +5,10 @@ ghost use Rattle.indexmap.specs.IndexMap.{get_by};
 ghost use Rattle.slab.specs.Slab.{ContainsKey, Updates, get};
 ghost use Rattle.ad_tree.specs.Ad.{ad_frames};
 ghost use Rattle.ad_store.specs.Answers.{IsCause, is_added, slot_put, slots_put};
-ghost use Rattle.ad_store.specs.Held.{IsEntered, adverts, are_held};
+ghost use Rattle.ad_store.specs.Held.{IsEntered, adverts, are_held, named_content};
 ghost use Rattle.ad_store.specs.Stock.{ads_limit, text_held, text_limit};
 
-use crate::entry::Entry;
+use crate::entry::{Content, Entry};
 use crate::{NoName, Put, PutFault};
 use ad_tree::Ad;
 use indexmap::IndexMap;
@@ -76,51 +76,45 @@ impl Store {
         ensures cause { IfErr result (λ fault. IsCause fault (lack name.now text_len (stock_of self.old).ads)) }
         ensures err { OnErr result (stock_of self.new ≡ stock_of self.old) }
     {
+        let content = Content {
+            born,
+            lifetime,
+            size: text_len,
+            ad,
+        };
         let Some(slot) = self.slot_of(name) else {
-            return self.add(name, born, lifetime, text_len, ad);
+            return self.add(name, content);
         };
         let others = self.text - size_at(&self.table, slot);
         if others.saturating_add(text_len) > TEXT_LIMIT {
             return Err(PutFault::FullText);
         }
-        renew(&mut self.table, slot, born, lifetime, text_len, ad);
+        renew(&mut self.table, slot, content);
         self.text = others + text_len;
         Ok(Put::Replaced(slot))
     }
 
     // Puts an ad under a new name.
-    fn add(
-        &mut self,
-        name: &[u8],
-        born: u64,
-        lifetime: u64,
-        size: u64,
-        ad: Ad,
-    ) -> Result<Put, PutFault>
+    fn add(&mut self, name: &[u8], content: Content) -> Result<Put, PutFault>
         requires { slot_named name.now (stock_of self.old) ≡ None }
-        ensures ads { OnOk result ((stock_of self.new).ads
-            ≡ placed (record { name = name.now; born = born; lifetime = lifetime; size = size; ad = ad_frames ad }) (stock_of self.old).ads) }
+        ensures ads { OnOk result ((stock_of self.new).ads ≡ placed (named_content name.now content) (stock_of self.old).ads) }
         ensures slots { IfOk result (λ put. (stock_of self.new).slots ≡ slots_put put (stock_of self.old).slots) }
         ensures slot { IfOk result (λ put. slot_named name.now (stock_of self.new) ≡ Some (slot_put put)) }
         ensures added { IfOk result (λ put. is_added put ≡ not (has name.now (stock_of self.old).ads)) }
-        ensures room { OnOk result (lack name.now size (stock_of self.old).ads ≡ None) }
-        ensures cause { IfErr result (λ fault. IsCause fault (lack name.now size (stock_of self.old).ads)) }
+        ensures room { OnOk result (lack name.now content.size (stock_of self.old).ads ≡ None) }
+        ensures cause { IfErr result (λ fault. IsCause fault (lack name.now content.size (stock_of self.old).ads)) }
         ensures err { OnErr result (stock_of self.new ≡ stock_of self.old) }
     {
         if self.names.len() >= ADS_LIMIT {
             return Err(PutFault::Full);
         }
+        let size = content.size;
         if self.text.saturating_add(size) > TEXT_LIMIT {
             return Err(PutFault::FullText);
         }
-        let entry = Entry {
-            name: Text::from_bytes(self.alloc, name)?,
-            born,
-            lifetime,
-            size,
-            ad,
+        let Ok(slot) = enter(self.alloc, &mut self.names, &mut self.table, name, content) else {
+            return Err(PutFault::OutOfMemory);
         };
-        let slot = enter(self.alloc, &mut self.names, &mut self.table, name, entry)?;
         self.text += size;
         Ok(Put::Added(slot))
     }
@@ -139,7 +133,7 @@ impl Store {
         };
         self.names.shift_remove(name);
         let entry = self.table.remove(slot);
-        self.text -= entry.size;
+        self.text -= entry.content.size;
         Ok(slot)
     }
 
@@ -162,40 +156,41 @@ impl Store {
 
 // The length of the text of the ad in this slot.
 fn size_at(table: &Slab<Entry>, slot: usize) -> u64
-    ensures { result ≡ option_map_or (λ e. e.size) (get table.now slot) 0 }
+    ensures { result ≡ option_map_or (λ e. e.content.size) (get table.now slot) 0 }
 {
-    table.get(slot).map_or(0, |entry| entry.size)
+    table.get(slot).map_or(0, |entry| entry.content.size)
 }
 
 // Puts an ad in the place of the one in this slot, whose name it takes.
-fn renew(table: &mut Slab<Entry>, slot: usize, born: u64, lifetime: u64, size: u64, ad: Ad)
+fn renew(table: &mut Slab<Entry>, slot: usize, content: Content)
     requires { ContainsKey table.old slot }
-    ensures { IfSome (get table.old slot) (λ old. Updates table.old table.new slot
-        (Some (record { name = old.name; born = born; lifetime = lifetime; size = size; ad = ad }))) }
+    ensures { IfSome (get table.old slot)
+        (λ old. Updates table.old table.new slot (Some (record { name = old.name; content = content }))) }
 {
     let old = table.remove(slot);
     table.insert_reserved(Entry {
         name: old.name,
-        born,
-        lifetime,
-        size,
-        ad,
+        content,
     });
 }
 
-// Puts a new name last, with an entry in a slot of its own. Memory is taken first.
+// Puts a new name last, with an ad in a slot of its own. Memory is taken first.
 fn enter(
     alloc: Global,
     names: &mut IndexMap<Vec<u8>, usize>,
     table: &mut Slab<Entry>,
     name: &[u8],
-    entry: Entry,
+    content: Content,
 ) -> Result<usize, OutOfMemory>
     requires { get_by (λ k. bytes_eq name.now k.items) names.old ≡ None }
-    ensures entered { IfOk result (λ slot. IsEntered names.old.entries names.new.entries table.old table.new name.now slot entry) }
+    ensures entered { IfOk result (λ slot. IsEntered names.old.entries names.new.entries table.old table.new name.now slot content) }
     ensures names { OnErr result (names.new.entries ≡ names.old.entries) }
     ensures table { OnErr result (table.new.slots ≡ table.old.slots) }
 {
+    let entry = Entry {
+        name: Text::from_bytes(alloc, name)?,
+        content,
+    };
     let key = Vec::from_slice(alloc, name)?;
     names.reserve(1)?;
     table.reserve(1)?;

@@ -50,6 +50,7 @@ module _ (old new : Slab Entry) (key : ℕ) (entry : Entry) (name : List ℕ) (c
     where
       first : Parts old n names
       first = parts_of old n names held
+
       by_name : (b : Bool) → named name n.0 ≡ b → cond b (Some n.1) (lookup (named name) names) ≡ Some key → (lookup (named name) names ≡ Some key → are_held new names ≡ true) → are_held new (n ∷ names) ≡ true
       by_name true is at later =
           let here = some_inner n.1 key at in
@@ -74,6 +75,7 @@ module _ (old new : Slab Entry) (key : ℕ) (entry : Entry) (name : List ℕ) (c
     where
       first : Parts old n names
       first = parts_of old n names held
+
       by_name : (b : Bool) → named name n.0 ≡ b → cond b (Some n.1) (lookup (named name) names) ≡ Some key → (lookup (named name) names ≡ Some key → adverts new names ≡ placed (advert_of name (Some entry)) (adverts old names)) → adverts new (n ∷ names) ≡ cond b (advert_of name (Some entry) ∷ adverts old names) (advert_of n.0.items (get old n.1) ∷ placed (advert_of name (Some entry)) (adverts old names))
       by_name true is at later =
           let here = some_inner n.1 key at in
@@ -94,6 +96,7 @@ any_fewer test (n ∷ names) key none = by_name (test n.0) (any_fewer test names
   where
     parts : (eqb n.1 key ≡ false) × (list_any (λ s. eqb s key) (slots_of names) ≡ false)
     parts = neither _ _ none
+
     by_name : (b : Bool) → list_any (λ s. eqb s key) (slots_of (shift_remove_entry test names)) ≡ false → list_any (λ s. eqb s key) (slots_of (cond b names (n ∷ shift_remove_entry test names))) ≡ false
     by_name true fewer = parts.1
     by_name false fewer = ap (λ b. b || list_any (λ s. eqb s key) (slots_of (shift_remove_entry test names))) parts.0 ∙ fewer
@@ -105,8 +108,10 @@ module _ (old new : Slab Entry) (key : ℕ) (name : List ℕ) (changes : Updates
     where
       first : Parts old n names
       first = parts_of old n names held
+
       left : List Name
       left = shift_remove_entry (named name) names
+
       by_name : (b : Bool) → cond b (Some n.1) (lookup (named name) names) ≡ Some key → (lookup (named name) names ≡ Some key → are_held new (shift_remove_entry (named name) names) ≡ true) → are_held new (cond b names (n ∷ shift_remove_entry (named name) names)) ≡ true
       by_name true at later =
           let apart = subst (λ k. list_any (λ s. eqb s k) (slots_of names) ≡ false) (some_inner n.1 key at) first.apart in
@@ -124,6 +129,7 @@ module _ (old new : Slab Entry) (key : ℕ) (name : List ℕ) (changes : Updates
     where
       first : Parts old n names
       first = parts_of old n names held
+
       by_name : (b : Bool) → cond b (Some n.1) (lookup (named name) names) ≡ Some key → (lookup (named name) names ≡ Some key → adverts new (shift_remove_entry (named name) names) ≡ without name (adverts old names)) → adverts new (cond b names (n ∷ shift_remove_entry (named name) names)) ≡ cond b (adverts old names) (advert_of n.0.items (get old n.1) ∷ without name (adverts old names))
       by_name true at later =
           others_stay old new key None names changes (subst (λ k. list_any (λ s. eqb s k) (slots_of names) ≡ false) (some_inner n.1 key at) first.apart)
@@ -151,6 +157,7 @@ text_held-found table name key entry (n ∷ names) there found = sum_by-cons siz
   where
     here : Advert
     here = advert_of n.0.items (get table n.1)
+
     by_name : (b : Bool) → cond b (Some n.1) (lookup (named name) names) ≡ Some key → (lookup (named name) names ≡ Some key → text_held (adverts table names) ≡ text_held (without name (adverts table names)) + entry.content.size) → (advert_of n.0.items (get table n.1)).size + text_held (adverts table names) ≡ text_held (cond b (adverts table names) (advert_of n.0.items (get table n.1) ∷ without name (adverts table names))) + entry.content.size
     by_name true at later =
         let size : (advert_of n.0.items (get table n.1)).size ≡ entry.content.size = ap (λ o. (advert_of n.0.items o).size) (ap (get table) (some_inner n.1 key at) ∙ there) in
@@ -181,6 +188,7 @@ found_entry table name key (n ∷ names) found held = by_name (named name n.0) r
   where
     first : Parts table n names
     first = parts_of table n names held
+
     by_name : (b : Bool) → named name n.0 ≡ b → cond b (Some n.1) (lookup (named name) names) ≡ Some key → (lookup (named name) names ≡ Some key → (e : Entry) × (get table key ≡ Some e) × (e.name ≡ name)) → (e : Entry) × (get table key ≡ Some e) × (e.name ≡ name)
     by_name true is at later = (first.entry, ap (get table) (sym (some_inner n.1 key at)) ∙ first.held, first.named ∙ sym ((bytes_eq-Decides name n.0.items).0 is))
     by_name false is at later = later at

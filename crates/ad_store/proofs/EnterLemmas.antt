@@ -37,8 +37,8 @@ module _ (names later : List Name) (old new : Slab Entry) (name : List ℕ) (slo
   entered_held =
       ap (are_held new) e.last
       ∙ are_held-push new names (e.key, slot) (others_held old new slot _ names e.changes apart_from_names ∙ held)
-          (ap (λ o. option_map_or (λ x. bytes_eq x.name e.key.items) o false) e.changes.changed ∙ (bytes_eq-Decides name e.key.items).1 (sym e.spells))
-          apart_from_names
+      (ap (λ o. option_map_or (λ x. bytes_eq x.name e.key.items) o false) e.changes.changed ∙ (bytes_eq-Decides name e.key.items).1 (sym e.spells))
+      apart_from_names
 
   pub entered_ads : adverts new later ≡ adverts old names ++ named_content name content ∷ []
   entered_ads =

@@ -3,3 +3,4 @@ pub mod Lookups
 pub mod ChangeLemmas
 pub mod EnterLemmas
 pub mod ReplaceLemmas
+pub mod SlotLemmas

@@ -1,12 +1,12 @@
 // The store: names in order, each with a slot, and the ads in a table of slots.
-ghost use Rattle.std.specs.Prelude.{◌≡◌, ◌+◌, ◌≤◌, ℕ, [], true, false, not, length, slice_get, option_map, bytes_eq, IsTrue, IfErr, IfNone, IfOk, IfSome, None, OnErr, OnOk, Some, Contains};
+ghost use Rattle.std.specs.Prelude.{◌≡◌, ◌+◌, ◌≤◌, ℕ, [], true, false, not, filter, find, nat_lt, ◌<◌, length, slice_get, option_map, bytes_eq, IsTrue, IfErr, IfNone, IfOk, IfSome, None, OnErr, OnOk, Some, Contains};
 ghost use Rattle.std.specs.Option.{option_map_or};
 ghost use Rattle.indexmap.specs.IndexMap.{get_by};
 ghost use Rattle.slab.specs.Slab.{ContainsKey, Updates, get};
 ghost use Rattle.ad_tree.specs.Ad.{ad_frames};
 ghost use Rattle.ad_store.specs.Answers.{IsCause, is_added, slot_put, slots_put};
-ghost use Rattle.ad_store.specs.Held.{IsEntered, adverts, are_held, named_content};
-ghost use Rattle.ad_store.specs.Stock.{ads_limit, text_held, text_limit};
+ghost use Rattle.ad_store.specs.Held.{IsEntered, advert_of, adverts, are_held, named_content};
+ghost use Rattle.ad_store.specs.Stock.{ads_limit, is_live, text_held, text_limit};
 
 use crate::entry::{Content, Entry};
 use crate::{NoName, Put, PutFault};
@@ -39,7 +39,7 @@ pub struct Store {
 }
 
 impl Store {
-    ghost use Rattle.ad_store.specs.Stock.{first_expired, has, is_live, lack, placed, slot_named, slots_without, without};
+    ghost use Rattle.ad_store.specs.Stock.{Advert, first_expired, has, lack, placed, slot_named, slots_without, without};
     ghost use Rattle.ad_store.specs.Store.{stock_of};
 
     /// A store that holds no ad, which takes no memory yet.
@@ -145,6 +145,25 @@ impl Store {
         self.names.len()
     }
 
+    /// The slot of the ad at place `i` of the order, counted from 0.
+    pub fn at(&self, i: usize) -> usize
+        requires { i < length (stock_of self.now).slots }
+        ensures place { slice_get (stock_of self.now).slots i ≡ Some result }
+        ensures held { Contains (stock_of self.now).slots result }
+    {
+        let slots: &[usize] = self.names.values().as_slice();
+        slots[i]
+    }
+
+    /// The place in the order of the ad in this slot.
+    pub fn place(&self, slot: usize) -> usize
+        requires { Contains (stock_of self.now).slots slot }
+        ensures { slice_get (stock_of self.now).slots result ≡ Some slot }
+    {
+        let name = self.entry(slot).name.bytes();
+        self.names.get_index_of(name).unwrap_or(0)
+    }
+
     /// The slot of the ad of this name, `None` exactly where none is held.
     pub fn slot_of(&self, name: &[u8]) -> Option<usize>
         ensures slot { result ≡ slot_named name.now (stock_of self.now) }
@@ -152,6 +171,112 @@ impl Store {
     {
         self.names.get(name).copied()
     }
+
+    /// The slot of the first ad in order that isn't live at a moment, `None` exactly where all are.
+    pub fn next_expired(&self, now: u64) -> Option<usize>
+        ensures first { result ≡ first_expired now (stock_of self.now) }
+        ensures held { IfSome result (Contains (stock_of self.now).slots) }
+        ensures all_live { IfNone result (filter (is_live now) (stock_of self.now).ads ≡ (stock_of self.now).ads) }
+    {
+        first_expired(&self.table, self.names.values().as_slice(), now)
+    }
+
+    // What lies in a slot.
+    fn entry(&self, slot: usize) -> &Entry
+        requires { Contains (stock_of self.now).slots slot }
+        ensures entry { get self.now.table slot ≡ Some result.now }
+        ensures advert { (i : ℕ) → slice_get (stock_of self.now).slots i ≡ Some slot
+            → slice_get (stock_of self.now).ads i ≡ Some (named_content result.now.name result.now.content) }
+    {
+        &self.table[slot]
+    }
+
+    /// The name of the ad in this slot.
+    pub fn name(&self, slot: usize) -> &Text
+        requires { Contains (stock_of self.now).slots slot }
+        ensures { (i : ℕ) → slice_get (stock_of self.now).slots i ≡ Some slot
+            → option_map (λ a. a.name) (slice_get (stock_of self.now).ads i) ≡ Some result.now }
+    {
+        &self.entry(slot).name
+    }
+
+    /// The moment of the birth of the ad in this slot, in seconds.
+    pub fn born(&self, slot: usize) -> u64
+        requires { Contains (stock_of self.now).slots slot }
+        ensures { (i : ℕ) → slice_get (stock_of self.now).slots i ≡ Some slot
+            → option_map (λ a. a.born) (slice_get (stock_of self.now).ads i) ≡ Some result }
+    {
+        self.entry(slot).content.born
+    }
+
+    /// The lifetime of the ad in this slot, in seconds.
+    pub fn lifetime(&self, slot: usize) -> u64
+        requires { Contains (stock_of self.now).slots slot }
+        ensures { (i : ℕ) → slice_get (stock_of self.now).slots i ≡ Some slot
+            → option_map (λ a. a.lifetime) (slice_get (stock_of self.now).ads i) ≡ Some result }
+    {
+        self.entry(slot).content.lifetime
+    }
+
+    /// The ad in this slot. Counts one in `touch`.
+    pub fn look<T: Ledger>(&self, slot: usize, touch: &mut Steps<T>) -> &Ad
+        requires { Contains (stock_of self.now).slots slot }
+        ensures ad { (i : ℕ) → slice_get (stock_of self.now).slots i ≡ Some slot
+            → option_map (λ a. a.ad) (slice_get (stock_of self.now).ads i) ≡ Some (ad_frames result.now) }
+        ensures counted { touch.new ≡ touch.old + 1 }
+    {
+        touch.tick();
+        &self.entry(slot).content.ad
+    }
+
+    /// Law: no two ads have one name.
+    pub fn names_are_apart(&self)
+        ensures { (i j : ℕ) (a b : Advert)
+            → slice_get (stock_of self.now).ads i ≡ Some a
+            → slice_get (stock_of self.now).ads j ≡ Some b
+            → a.name ≡ b.name
+            → i ≡ j }
+    {
+        // The map's length comes with the fact that its keys differ.
+        let _len = self.names.len();
+    }
+
+    /// Law: no two ads have one slot.
+    pub fn slots_are_apart(&self)
+        ensures { (i j slot : ℕ)
+            → slice_get (stock_of self.now).slots i ≡ Some slot
+            → slice_get (stock_of self.now).slots j ≡ Some slot
+            → i ≡ j }
+    {
+        let _held = self.names.len();
+    }
+}
+
+// The first of the slots whose ad isn't live.
+fn first_expired(table: &Slab<Entry>, slots: &[usize], now: u64) -> Option<usize>
+    ensures { result ≡ find (λ slot. not (is_live now (advert_of [] (get table.now slot)))) slots.now }
+{
+    slots
+        .iter()
+        .copied()
+        .find(|slot| !is_live_at(table, *slot, now))
+}
+
+// Whether the ad in this slot is live.
+fn is_live_at(table: &Slab<Entry>, slot: usize, now: u64) -> bool
+    ensures { result ≡ is_live now (advert_of [] (get table.now slot)) }
+{
+    match table.get(slot) {
+        Some(entry) => is_within(now, entry.content.born, entry.content.lifetime),
+        None => false,
+    }
+}
+
+// Whether a moment is before the end of a lifetime, which may be out of 64 bits.
+fn is_within(now: u64, born: u64, lifetime: u64) -> bool
+    ensures { result ≡ nat_lt now (born + lifetime) }
+{
+    now < born || now - born < lifetime
 }
 
 // The length of the text of the ad in this slot.

@@ -27,10 +27,10 @@ pub invariant_of-self-2 : goal.invariant_of-self-2
 invariant_of-self-2 c =
     let old = c.args.self.now in
     record {
-        held = entered_held old.names.entries _ old.table _ c.args.name.now c.in-Ok.slot c.args.content c.in-Ok.ensures.entered old.held;
-        counted = entered_text old.names.entries _ old.table _ c.args.name.now c.in-Ok.slot c.args.content c.in-Ok.ensures.entered old.held old.text old.counted;
-        within = omega (arith, c.saturating_add.ensures, old.within);
-        few = omega (arith, c.len.ensures.len, entered_length old.names.entries _ old.table _ c.args.name.now c.in-Ok.slot c.args.content c.in-Ok.ensures.entered old.held)
+      held = entered_held old.names.entries _ old.table _ c.args.name.now c.in-Ok.slot c.args.content c.in-Ok.ensures.entered old.held;
+      counted = entered_text old.names.entries _ old.table _ c.args.name.now c.in-Ok.slot c.args.content c.in-Ok.ensures.entered old.held old.text old.counted;
+      within = omega (arith, c.saturating_add.ensures, old.within);
+      few = omega (arith, c.len.ensures.len, entered_length old.names.entries _ old.table _ c.args.name.now c.in-Ok.slot c.args.content c.in-Ok.ensures.entered old.held);
     }
 
 pub returns-clause-ads : goal.returns-clause-ads

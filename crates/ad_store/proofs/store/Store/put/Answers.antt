@@ -21,10 +21,10 @@ pub invariant_of-self : goal.invariant_of-self
 invariant_of-self c =
     let old = c.args.self.now in
     record {
-        held = renewed_held old.table old.names.entries c.args.name.now c.in-Some.slot old.text c.args.text_len _ old.held old.counted c.in-Some.ensures.slot c.size_at.ensures c.renew.new.table _ c.renew.ensures;
-        counted = renewed_text old.table old.names.entries c.args.name.now c.in-Some.slot old.text c.args.text_len _ old.held old.counted c.in-Some.ensures.slot c.size_at.ensures c.renew.new.table _ c.renew.ensures;
-        within = omega (arith, c.saturating_add.ensures);
-        few = old.few
+      held = renewed_held old.table old.names.entries c.args.name.now c.in-Some.slot old.text c.args.text_len _ old.held old.counted c.in-Some.ensures.slot c.size_at.ensures c.renew.new.table _ c.renew.ensures;
+      counted = renewed_text old.table old.names.entries c.args.name.now c.in-Some.slot old.text c.args.text_len _ old.held old.counted c.in-Some.ensures.slot c.size_at.ensures c.renew.new.table _ c.renew.ensures;
+      within = omega (arith, c.saturating_add.ensures);
+      few = old.few;
     }
 
 pub returns-clause-ads : goal.returns-clause-ads

@@ -25,12 +25,12 @@ invariant_of-self c =
     let found = found_from_stock old.table c.args.name.now old.names.entries _ c.in-Some.ensures.slot in
     let total = text_held-found old.table c.args.name.now c.in-Some.slot c.remove-entry.result old.names.entries c.remove-entry.ensures.value found in
     let left : adverts c.remove-entry.new.self c.shift_remove.new.self.entries ≡ without c.args.name.now (adverts old.table old.names.entries) =
-        ap (adverts c.remove-entry.new.self) c.shift_remove.ensures.entries ∙ gone_ads old.table c.remove-entry.new.self c.in-Some.slot c.args.name.now c.remove-entry.ensures.updates old.names.entries found old.held in
+    ap (adverts c.remove-entry.new.self) c.shift_remove.ensures.entries ∙ gone_ads old.table c.remove-entry.new.self c.in-Some.slot c.args.name.now c.remove-entry.ensures.updates old.names.entries found old.held in
     record {
-        held = ap (are_held c.remove-entry.new.self) c.shift_remove.ensures.entries ∙ gone_held old.table c.remove-entry.new.self c.in-Some.slot c.args.name.now c.remove-entry.ensures.updates old.names.entries found old.held;
-        counted = omega (arith, old.counted, total, ap text_held left);
-        within = omega (arith, old.within);
-        few = omega (arith, old.few, ap length c.shift_remove.ensures.entries, length-gone (named c.args.name.now) old.names.entries)
+      held = ap (are_held c.remove-entry.new.self) c.shift_remove.ensures.entries ∙ gone_held old.table c.remove-entry.new.self c.in-Some.slot c.args.name.now c.remove-entry.ensures.updates old.names.entries found old.held;
+      counted = omega (arith, old.counted, total, ap text_held left);
+      within = omega (arith, old.within);
+      few = omega (arith, old.few, ap length c.shift_remove.ensures.entries, length-gone (named c.args.name.now) old.names.entries);
     }
 
 pub returns-clause-held : goal.returns-clause-held

@@ -36,3 +36,9 @@ step s (command.Clock n) = clock s n
 step s (command.Eval expr) = eval s (expr_outcome expr)
 step s (command.Bad number) = refused s (why.Line number)
 step s other = refused s why.NotBuilt
+
+-- how many whole evaluations a command may make in a state
+unfoldable pub allowance : State → Command → ℕ
+allowance s (command.Eval expr) = 1
+allowance s (command.EvalIn name expr) = 1
+allowance s other = 0

@@ -1,5 +1,5 @@
 -- An ad takes the place of another, or leaves.
-use Rattle.std.proofs.Common.{◌≡◌, ◌≢◌, ℕ, ◌+◌, Bool, true, false, not, ◌&&◌, ◌||◌, cond, eqb, List, [], ◌∷◌, ◌++◌, map, length, Option, None, Some, Vec, is_some, bytes_eq, sum_by, refl, sym, ◌∙◌, ap, subst, arith}
+use Rattle.std.proofs.Common.{◌≡◌, ◌≢◌, ℕ, ◌+◌, ◌≤◌, Bool, true, false, not, ◌&&◌, ◌||◌, cond, eqb, List, [], ◌∷◌, ◌++◌, map, length, Option, None, Some, Vec, is_some, bytes_eq, sum_by, refl, sym, ◌∙◌, ap, subst, arith}
 use Rattle.std.specs.declared.alloc.Global.{Global}
 use Rattle.std.specs.List.{list_any}
 use Rattle.std.specs.Option.{option_map_or}
@@ -10,8 +10,8 @@ use Rattle.slab.specs.Slab.{Slab, Updates, get}
 use Rattle.indexmap.specs.IndexMap.{shift_remove_entry}
 use Rattle.ad_store.specs.declared.entry.Entry.{Entry}
 use Rattle.ad_store.specs.Held.{advert_of, adverts, are_held, holds, slots_of}
-use Rattle.ad_store.specs.Stock.{Advert, has, is_named, placed, slots_without, text_held, without}
-use Rattle.ad_store.proofs.HeldLemmas.{Name, Parts, both, different, neither, negated, others_held, others_stay, parts_of}
+use Rattle.ad_store.specs.Stock.{Advert, has, is_named, placed, slot_beside, slots_without, text_held, without}
+use Rattle.ad_store.proofs.HeldLemmas.{Name, Parts, both, different, neither, has-lookup, negated, others_held, others_stay, parts_of, slot_beside-lookup}
 use Rattle.ad_store.proofs.Lookups.{lookup}
 
 -- the names' test
@@ -50,6 +50,7 @@ module _ (old new : Slab Entry) (key : ℕ) (entry : Entry) (name : List ℕ) (c
     where
       first : Parts old n names
       first = parts_of old n names held
+
       by_name : (b : Bool) → named name n.0 ≡ b → cond b (Some n.1) (lookup (named name) names) ≡ Some key → (lookup (named name) names ≡ Some key → are_held new names ≡ true) → are_held new (n ∷ names) ≡ true
       by_name true is at later =
           let here = some_inner n.1 key at in
@@ -74,6 +75,7 @@ module _ (old new : Slab Entry) (key : ℕ) (entry : Entry) (name : List ℕ) (c
     where
       first : Parts old n names
       first = parts_of old n names held
+
       by_name : (b : Bool) → named name n.0 ≡ b → cond b (Some n.1) (lookup (named name) names) ≡ Some key → (lookup (named name) names ≡ Some key → adverts new names ≡ placed (advert_of name (Some entry)) (adverts old names)) → adverts new (n ∷ names) ≡ cond b (advert_of name (Some entry) ∷ adverts old names) (advert_of n.0.items (get old n.1) ∷ placed (advert_of name (Some entry)) (adverts old names))
       by_name true is at later =
           let here = some_inner n.1 key at in
@@ -94,6 +96,7 @@ any_fewer test (n ∷ names) key none = by_name (test n.0) (any_fewer test names
   where
     parts : (eqb n.1 key ≡ false) × (list_any (λ s. eqb s key) (slots_of names) ≡ false)
     parts = neither _ _ none
+
     by_name : (b : Bool) → list_any (λ s. eqb s key) (slots_of (shift_remove_entry test names)) ≡ false → list_any (λ s. eqb s key) (slots_of (cond b names (n ∷ shift_remove_entry test names))) ≡ false
     by_name true fewer = parts.1
     by_name false fewer = ap (λ b. b || list_any (λ s. eqb s key) (slots_of (shift_remove_entry test names))) parts.0 ∙ fewer
@@ -105,8 +108,10 @@ module _ (old new : Slab Entry) (key : ℕ) (name : List ℕ) (changes : Updates
     where
       first : Parts old n names
       first = parts_of old n names held
+
       left : List Name
       left = shift_remove_entry (named name) names
+
       by_name : (b : Bool) → cond b (Some n.1) (lookup (named name) names) ≡ Some key → (lookup (named name) names ≡ Some key → are_held new (shift_remove_entry (named name) names) ≡ true) → are_held new (cond b names (n ∷ shift_remove_entry (named name) names)) ≡ true
       by_name true at later =
           let apart = subst (λ k. list_any (λ s. eqb s k) (slots_of names) ≡ false) (some_inner n.1 key at) first.apart in
@@ -124,6 +129,7 @@ module _ (old new : Slab Entry) (key : ℕ) (name : List ℕ) (changes : Updates
     where
       first : Parts old n names
       first = parts_of old n names held
+
       by_name : (b : Bool) → cond b (Some n.1) (lookup (named name) names) ≡ Some key → (lookup (named name) names ≡ Some key → adverts new (shift_remove_entry (named name) names) ≡ without name (adverts old names)) → adverts new (cond b names (n ∷ shift_remove_entry (named name) names)) ≡ cond b (adverts old names) (advert_of n.0.items (get old n.1) ∷ without name (adverts old names))
       by_name true at later =
           others_stay old new key None names changes (subst (λ k. list_any (λ s. eqb s k) (slots_of names) ≡ false) (some_inner n.1 key at) first.apart)
@@ -145,15 +151,16 @@ abbrev size_of : Advert → ℕ
 size_of advert = advert.size
 
 -- the texts together are those of the others and the text of the one that is found
-pub text_held-found : (table : Slab Entry) (name : List ℕ) (key : ℕ) (entry : Entry) (names : List Name) → get table key ≡ Some entry → lookup (named name) names ≡ Some key → text_held (adverts table names) ≡ text_held (without name (adverts table names)) + entry.size
+pub text_held-found : (table : Slab Entry) (name : List ℕ) (key : ℕ) (entry : Entry) (names : List Name) → get table key ≡ Some entry → lookup (named name) names ≡ Some key → text_held (adverts table names) ≡ text_held (without name (adverts table names)) + entry.content.size
 text_held-found table name key entry [] there found = absurd (cc)
 text_held-found table name key entry (n ∷ names) there found = sum_by-cons size_of (advert_of n.0.items (get table n.1)) (adverts table names) ∙ by_name (named name n.0) found (λ rest. text_held-found table name key entry names there rest)
   where
     here : Advert
     here = advert_of n.0.items (get table n.1)
-    by_name : (b : Bool) → cond b (Some n.1) (lookup (named name) names) ≡ Some key → (lookup (named name) names ≡ Some key → text_held (adverts table names) ≡ text_held (without name (adverts table names)) + entry.size) → (advert_of n.0.items (get table n.1)).size + text_held (adverts table names) ≡ text_held (cond b (adverts table names) (advert_of n.0.items (get table n.1) ∷ without name (adverts table names))) + entry.size
+
+    by_name : (b : Bool) → cond b (Some n.1) (lookup (named name) names) ≡ Some key → (lookup (named name) names ≡ Some key → text_held (adverts table names) ≡ text_held (without name (adverts table names)) + entry.content.size) → (advert_of n.0.items (get table n.1)).size + text_held (adverts table names) ≡ text_held (cond b (adverts table names) (advert_of n.0.items (get table n.1) ∷ without name (adverts table names))) + entry.content.size
     by_name true at later =
-        let size : (advert_of n.0.items (get table n.1)).size ≡ entry.size = ap (λ o. (advert_of n.0.items o).size) (ap (get table) (some_inner n.1 key at) ∙ there) in
+        let size : (advert_of n.0.items (get table n.1)).size ≡ entry.content.size = ap (λ o. (advert_of n.0.items o).size) (ap (get table) (some_inner n.1 key at) ∙ there) in
         omega arith
     by_name false at later =
         let first = sum_by-cons size_of (advert_of n.0.items (get table n.1)) (without name (adverts table names)) in
@@ -171,3 +178,34 @@ text_held-placed advert (other ∷ ads) = by_name (is_named advert.name other) (
         let put = sum_by-cons size_of other (placed advert ads) in
         let left = sum_by-cons size_of other (without advert.name ads) in
         omega arith
+
+-- ---- what is found
+
+-- the slot of a name has its entry
+pub found_entry : (table : Slab Entry) (name : List ℕ) (key : ℕ) (names : List Name) → lookup (named name) names ≡ Some key → are_held table names ≡ true → (e : Entry) × (get table key ≡ Some e) × (e.name ≡ name)
+found_entry table name key [] found held = absurd (cc)
+found_entry table name key (n ∷ names) found held = by_name (named name n.0) refl found (λ rest. found_entry table name key names rest first.rest)
+  where
+    first : Parts table n names
+    first = parts_of table n names held
+
+    by_name : (b : Bool) → named name n.0 ≡ b → cond b (Some n.1) (lookup (named name) names) ≡ Some key → (lookup (named name) names ≡ Some key → (e : Entry) × (get table key ≡ Some e) × (e.name ≡ name)) → (e : Entry) × (get table key ≡ Some e) × (e.name ≡ name)
+    by_name true is at later = (first.entry, ap (get table) (sym (some_inner n.1 key at)) ∙ first.held, first.named ∙ sym ((bytes_eq-Decides name n.0.items).0 is))
+    by_name false is at later = later at
+
+-- a slot that is told is one that is found
+pub found_from_stock : (table : Slab Entry) (name : List ℕ) (names : List Name) (o : Option ℕ) → o ≡ slot_beside (is_named name) (adverts table names) (slots_of names) → lookup (named name) names ≡ o
+found_from_stock table name names o told = slot_beside-lookup table name names ∙ sym told
+
+pub has_from_stock : (table : Slab Entry) (name : List ℕ) (names : List Name) (o : Option ℕ) → o ≡ slot_beside (is_named name) (adverts table names) (slots_of names) → has name (adverts table names) ≡ is_some o
+has_from_stock table name names o told = has-lookup table name names ∙ ap is_some (found_from_stock table name names o told)
+
+-- ---- fewer names
+
+by_test : (b : Bool) (n : Name) (names left : List Name) → length left ≤ length names → length (cond b names (n ∷ left)) ≤ length (n ∷ names)
+by_test true n names left fewer = omega arith
+by_test false n names left fewer = omega arith
+
+pub length-gone : (test : Vec ℕ Global → Bool) (names : List Name) → length (shift_remove_entry test names) ≤ length names
+length-gone test [] = omega arith
+length-gone test (n ∷ names) = by_test (test n.0) n names (shift_remove_entry test names) (length-gone test names)

@@ -74,6 +74,7 @@ vacant_apart table key (n ∷ names) held vacant = by_slot (eqb n.1 key) refl (v
   where
     first : Parts table n names
     first = parts_of table n names held
+
     by_slot : (b : Bool) → eqb n.1 key ≡ b → list_any (λ s. eqb s key) (slots_of names) ≡ false → (b || list_any (λ s. eqb s key) (slots_of names)) ≡ false
     by_slot false is rest = rest
     by_slot true is rest = let same : n.1 ≡ key = grind (arith, nat_tests) in let e = first.held in let e2 = subst (λ k. get table k ≡ Some first.entry) same e in absurd (cc)
@@ -130,7 +131,7 @@ are_held-push table (m ∷ names) n held new apart =
     let first = both _ _ whole.0 in
     let out = neither _ _ apart in
     let still : list_any (λ s. eqb s m.1) (slots_of (names ++ n ∷ [])) ≡ false =
-        ap (list_any (λ s. eqb s m.1)) (slots_of-push names n) ∙ any_push m.1 (slots_of names) n.1 (negated _ first.1) (eqb_flip m.1 n.1 out.0) in
+    ap (list_any (λ s. eqb s m.1)) (slots_of-push names n) ∙ any_push m.1 (slots_of names) n.1 (negated _ first.1) (eqb_flip m.1 n.1 out.0) in
     ap (λ b. (b && not (list_any (λ s. eqb s m.1) (slots_of (names ++ n ∷ [])))) && are_held table (names ++ n ∷ [])) first.0
     ∙ ap (λ b. not b && are_held table (names ++ n ∷ [])) still
     ∙ are_held-push table names n whole.1 new out.1

@@ -5,6 +5,7 @@ use Rattle.std.specs.List.{list_any}
 use Rattle.std.specs.Option.{option_map_or}
 use Rattle.slab.specs.Slab.{Slab, Updates, get}
 use Rattle.ad_tree.specs.Ad.{ad_frames}
+use Rattle.ad_store.specs.declared.entry.Content.{Content}
 use Rattle.ad_store.specs.declared.entry.Entry.{Entry}
 use Rattle.ad_store.specs.Stock.{Advert}
 
@@ -12,11 +13,15 @@ use Rattle.ad_store.specs.Stock.{Advert}
 abbrev pub advert_of : List ℕ → Option Entry → Advert
 advert_of name entry = record {
   name = name;
-  born = option_map_or (λ e. e.born) entry 0;
-  lifetime = option_map_or (λ e. e.lifetime) entry 0;
-  size = option_map_or (λ e. e.size) entry 0;
-  ad = option_map_or (λ e. ad_frames e.ad) entry [];
+  born = option_map_or (λ e. e.content.born) entry 0;
+  lifetime = option_map_or (λ e. e.content.lifetime) entry 0;
+  size = option_map_or (λ e. e.content.size) entry 0;
+  ad = option_map_or (λ e. ad_frames e.content.ad) entry [];
 }
+
+-- a content under a name
+abbrev pub named_content : List ℕ → Content → Advert
+named_content name content = record { name = name; born = content.born; lifetime = content.lifetime; size = content.size; ad = ad_frames content.ad }
 
 -- the ads in order
 abbrev pub adverts : Slab Entry → List (Vec ℕ Global × ℕ) → List Advert
@@ -35,10 +40,10 @@ abbrev pub are_held : Slab Entry → List (Vec ℕ Global × ℕ) → Bool
 are_held table [] = true
 are_held table (n ∷ names) = (holds table n && not (list_any (λ slot. slot == n.1) (slots_of names))) && are_held table names
 
--- a name went last, with a slot that was vacant and has this entry
-pub record IsEntered (names later : List (Vec ℕ Global × ℕ)) (old new : Slab Entry) (name : List ℕ) (slot : ℕ) (entry : Entry) : Type 0 where
+-- a name went last, with a slot that was vacant and has this content
+pub record IsEntered (names later : List (Vec ℕ Global × ℕ)) (old new : Slab Entry) (name : List ℕ) (slot : ℕ) (content : Content) : Type 0 where
   pub key : Vec ℕ Global
   pub spells : key.items ≡ name
   pub last : later ≡ names ++ (key, slot) ∷ []
   pub vacant : get old slot ≡ None
-  pub changes : Updates old new slot (Some entry)
+  pub changes : Updates old new slot (Some (record { name = name; content = content }))

@@ -2,3 +2,4 @@ pub mod Answers
 pub mod Held
 pub mod Stock
 pub mod Store
+pub mod Holdings

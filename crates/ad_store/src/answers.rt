@@ -1,8 +1,4 @@
 // What the calls of a store answer.
-ghost use Rattle.std.specs.Prelude.{◌≡◌};
-ghost use Rattle.ad_store.specs.declared.answers.PutFault.TheVariants as faults;
-
-use pool_text::OutOfMemory;
 use thiserror::Error;
 
 /// Where an ad was put: in a new slot, or in the slot of the ad that had its name.
@@ -23,14 +19,6 @@ pub enum PutFault {
     FullText,
     #[error("out of memory")]
     OutOfMemory,
-}
-
-impl From<OutOfMemory> for PutFault {
-    ghost from_gives = { λ _ fault. fault ≡ faults.OutOfMemory };
-
-    fn from(_: OutOfMemory) -> Self {
-        PutFault::OutOfMemory
-    }
 }
 
 /// No ad of the name is held.

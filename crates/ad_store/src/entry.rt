@@ -5,6 +5,12 @@ use pool_text::Text;
 #[derive(Debug, Drop)]
 pub(crate) struct Entry {
     pub(crate) name: Text,
+    pub(crate) content: Content,
+}
+
+/// What is held under a name.
+#[derive(Debug, Drop)]
+pub(crate) struct Content {
     pub(crate) born: u64,
     pub(crate) lifetime: u64,
     pub(crate) size: u64,

@@ -3,7 +3,9 @@
 
 mod answers;
 mod entry;
+mod holdings;
 mod store;
 
 pub use answers::{NoName, Put, PutFault};
+pub use holdings::{Held, Holdings};
 pub use store::Store;

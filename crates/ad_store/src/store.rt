@@ -1,14 +1,14 @@
 // The store: names in order, each with a slot, and the ads in a table of slots.
-ghost use Rattle.std.specs.Prelude.{◌≡◌, ◌+◌, ◌≤◌, ℕ, [], true, false, not, length, slice_get, option_map, bytes_eq, IsTrue, IfErr, IfNone, IfOk, IfSome, None, OnErr, OnOk, Some, Contains};
+ghost use Rattle.std.specs.Prelude.{◌≡◌, ◌+◌, ◌≤◌, ℕ, [], true, false, not, filter, find, nat_lt, ◌<◌, length, slice_get, option_map, bytes_eq, IsTrue, IfErr, IfNone, IfOk, IfSome, None, OnErr, OnOk, Some, Contains};
 ghost use Rattle.std.specs.Option.{option_map_or};
 ghost use Rattle.indexmap.specs.IndexMap.{get_by};
 ghost use Rattle.slab.specs.Slab.{ContainsKey, Updates, get};
 ghost use Rattle.ad_tree.specs.Ad.{ad_frames};
 ghost use Rattle.ad_store.specs.Answers.{IsCause, is_added, slot_put, slots_put};
-ghost use Rattle.ad_store.specs.Held.{IsEntered, adverts, are_held};
-ghost use Rattle.ad_store.specs.Stock.{ads_limit, text_held, text_limit};
+ghost use Rattle.ad_store.specs.Held.{IsEntered, advert_of, adverts, are_held, named_content};
+ghost use Rattle.ad_store.specs.Stock.{ads_limit, is_live, text_held, text_limit};
 
-use crate::entry::Entry;
+use crate::entry::{Content, Entry};
 use crate::{NoName, Put, PutFault};
 use ad_tree::Ad;
 use indexmap::IndexMap;
@@ -39,7 +39,7 @@ pub struct Store {
 }
 
 impl Store {
-    ghost use Rattle.ad_store.specs.Stock.{first_expired, has, is_live, lack, placed, slot_named, slots_without, without};
+    ghost use Rattle.ad_store.specs.Stock.{Advert, first_expired, has, lack, placed, slot_named, slots_without, without};
     ghost use Rattle.ad_store.specs.Store.{stock_of};
 
     /// A store that holds no ad, which takes no memory yet.
@@ -76,51 +76,45 @@ impl Store {
         ensures cause { IfErr result (λ fault. IsCause fault (lack name.now text_len (stock_of self.old).ads)) }
         ensures err { OnErr result (stock_of self.new ≡ stock_of self.old) }
     {
+        let content = Content {
+            born,
+            lifetime,
+            size: text_len,
+            ad,
+        };
         let Some(slot) = self.slot_of(name) else {
-            return self.add(name, born, lifetime, text_len, ad);
+            return self.add(name, content);
         };
         let others = self.text - size_at(&self.table, slot);
         if others.saturating_add(text_len) > TEXT_LIMIT {
             return Err(PutFault::FullText);
         }
-        renew(&mut self.table, slot, born, lifetime, text_len, ad);
+        renew(&mut self.table, slot, content);
         self.text = others + text_len;
         Ok(Put::Replaced(slot))
     }
 
     // Puts an ad under a new name.
-    fn add(
-        &mut self,
-        name: &[u8],
-        born: u64,
-        lifetime: u64,
-        size: u64,
-        ad: Ad,
-    ) -> Result<Put, PutFault>
+    fn add(&mut self, name: &[u8], content: Content) -> Result<Put, PutFault>
         requires { slot_named name.now (stock_of self.old) ≡ None }
-        ensures ads { OnOk result ((stock_of self.new).ads
-            ≡ placed (record { name = name.now; born = born; lifetime = lifetime; size = size; ad = ad_frames ad }) (stock_of self.old).ads) }
+        ensures ads { OnOk result ((stock_of self.new).ads ≡ placed (named_content name.now content) (stock_of self.old).ads) }
         ensures slots { IfOk result (λ put. (stock_of self.new).slots ≡ slots_put put (stock_of self.old).slots) }
         ensures slot { IfOk result (λ put. slot_named name.now (stock_of self.new) ≡ Some (slot_put put)) }
         ensures added { IfOk result (λ put. is_added put ≡ not (has name.now (stock_of self.old).ads)) }
-        ensures room { OnOk result (lack name.now size (stock_of self.old).ads ≡ None) }
-        ensures cause { IfErr result (λ fault. IsCause fault (lack name.now size (stock_of self.old).ads)) }
+        ensures room { OnOk result (lack name.now content.size (stock_of self.old).ads ≡ None) }
+        ensures cause { IfErr result (λ fault. IsCause fault (lack name.now content.size (stock_of self.old).ads)) }
         ensures err { OnErr result (stock_of self.new ≡ stock_of self.old) }
     {
         if self.names.len() >= ADS_LIMIT {
             return Err(PutFault::Full);
         }
+        let size = content.size;
         if self.text.saturating_add(size) > TEXT_LIMIT {
             return Err(PutFault::FullText);
         }
-        let entry = Entry {
-            name: Text::from_bytes(self.alloc, name)?,
-            born,
-            lifetime,
-            size,
-            ad,
+        let Ok(slot) = enter(self.alloc, &mut self.names, &mut self.table, name, content) else {
+            return Err(PutFault::OutOfMemory);
         };
-        let slot = enter(self.alloc, &mut self.names, &mut self.table, name, entry)?;
         self.text += size;
         Ok(Put::Added(slot))
     }
@@ -139,7 +133,7 @@ impl Store {
         };
         self.names.shift_remove(name);
         let entry = self.table.remove(slot);
-        self.text -= entry.size;
+        self.text -= entry.content.size;
         Ok(slot)
     }
 
@@ -151,6 +145,25 @@ impl Store {
         self.names.len()
     }
 
+    /// The slot of the ad at place `i` of the order, counted from 0.
+    pub fn at(&self, i: usize) -> usize
+        requires { i < length (stock_of self.now).slots }
+        ensures place { slice_get (stock_of self.now).slots i ≡ Some result }
+        ensures held { Contains (stock_of self.now).slots result }
+    {
+        let slots: &[usize] = self.names.values().as_slice();
+        slots[i]
+    }
+
+    /// The place in the order of the ad in this slot.
+    pub fn place(&self, slot: usize) -> usize
+        requires { Contains (stock_of self.now).slots slot }
+        ensures { slice_get (stock_of self.now).slots result ≡ Some slot }
+    {
+        let name = self.entry(slot).name.bytes();
+        self.names.get_index_of(name).unwrap_or(0)
+    }
+
     /// The slot of the ad of this name, `None` exactly where none is held.
     pub fn slot_of(&self, name: &[u8]) -> Option<usize>
         ensures slot { result ≡ slot_named name.now (stock_of self.now) }
@@ -158,44 +171,151 @@ impl Store {
     {
         self.names.get(name).copied()
     }
+
+    /// The slot of the first ad in order that isn't live at a moment, `None` exactly where all are.
+    pub fn next_expired(&self, now: u64) -> Option<usize>
+        ensures first { result ≡ first_expired now (stock_of self.now) }
+        ensures held { IfSome result (Contains (stock_of self.now).slots) }
+        ensures all_live { IfNone result (filter (is_live now) (stock_of self.now).ads ≡ (stock_of self.now).ads) }
+    {
+        first_expired(&self.table, self.names.values().as_slice(), now)
+    }
+
+    // What lies in a slot.
+    fn entry(&self, slot: usize) -> &Entry
+        requires { Contains (stock_of self.now).slots slot }
+        ensures entry { get self.now.table slot ≡ Some result.now }
+        ensures advert { (i : ℕ) → slice_get (stock_of self.now).slots i ≡ Some slot
+            → slice_get (stock_of self.now).ads i ≡ Some (named_content result.now.name result.now.content) }
+    {
+        &self.table[slot]
+    }
+
+    /// The name of the ad in this slot.
+    pub fn name(&self, slot: usize) -> &Text
+        requires { Contains (stock_of self.now).slots slot }
+        ensures { (i : ℕ) → slice_get (stock_of self.now).slots i ≡ Some slot
+            → option_map (λ a. a.name) (slice_get (stock_of self.now).ads i) ≡ Some result.now }
+    {
+        &self.entry(slot).name
+    }
+
+    /// The moment of the birth of the ad in this slot, in seconds.
+    pub fn born(&self, slot: usize) -> u64
+        requires { Contains (stock_of self.now).slots slot }
+        ensures { (i : ℕ) → slice_get (stock_of self.now).slots i ≡ Some slot
+            → option_map (λ a. a.born) (slice_get (stock_of self.now).ads i) ≡ Some result }
+    {
+        self.entry(slot).content.born
+    }
+
+    /// The lifetime of the ad in this slot, in seconds.
+    pub fn lifetime(&self, slot: usize) -> u64
+        requires { Contains (stock_of self.now).slots slot }
+        ensures { (i : ℕ) → slice_get (stock_of self.now).slots i ≡ Some slot
+            → option_map (λ a. a.lifetime) (slice_get (stock_of self.now).ads i) ≡ Some result }
+    {
+        self.entry(slot).content.lifetime
+    }
+
+    /// The ad in this slot. Counts one in `touch`.
+    pub fn look<T: Ledger>(&self, slot: usize, touch: &mut Steps<T>) -> &Ad
+        requires { Contains (stock_of self.now).slots slot }
+        ensures ad { (i : ℕ) → slice_get (stock_of self.now).slots i ≡ Some slot
+            → option_map (λ a. a.ad) (slice_get (stock_of self.now).ads i) ≡ Some (ad_frames result.now) }
+        ensures counted { touch.new ≡ touch.old + 1 }
+    {
+        touch.tick();
+        &self.entry(slot).content.ad
+    }
+
+    /// Law: no two ads have one name.
+    pub fn names_are_apart(&self)
+        ensures { (i j : ℕ) (a b : Advert)
+            → slice_get (stock_of self.now).ads i ≡ Some a
+            → slice_get (stock_of self.now).ads j ≡ Some b
+            → a.name ≡ b.name
+            → i ≡ j }
+    {
+        // The map's length comes with the fact that its keys differ.
+        let _len = self.names.len();
+    }
+
+    /// Law: no two ads have one slot.
+    pub fn slots_are_apart(&self)
+        ensures { (i j slot : ℕ)
+            → slice_get (stock_of self.now).slots i ≡ Some slot
+            → slice_get (stock_of self.now).slots j ≡ Some slot
+            → i ≡ j }
+    {
+        let _held = self.names.len();
+    }
+}
+
+// The first of the slots whose ad isn't live.
+fn first_expired(table: &Slab<Entry>, slots: &[usize], now: u64) -> Option<usize>
+    ensures { result ≡ find (λ slot. not (is_live now (advert_of [] (get table.now slot)))) slots.now }
+{
+    slots
+        .iter()
+        .copied()
+        .find(|slot| !is_live_at(table, *slot, now))
+}
+
+// Whether the ad in this slot is live.
+fn is_live_at(table: &Slab<Entry>, slot: usize, now: u64) -> bool
+    ensures { result ≡ is_live now (advert_of [] (get table.now slot)) }
+{
+    match table.get(slot) {
+        Some(entry) => is_within(now, entry.content.born, entry.content.lifetime),
+        None => false,
+    }
+}
+
+// Whether a moment is before the end of a lifetime, which may be out of 64 bits.
+fn is_within(now: u64, born: u64, lifetime: u64) -> bool
+    ensures { result ≡ nat_lt now (born + lifetime) }
+{
+    now < born || now - born < lifetime
 }
 
 // The length of the text of the ad in this slot.
 fn size_at(table: &Slab<Entry>, slot: usize) -> u64
-    ensures { result ≡ option_map_or (λ e. e.size) (get table.now slot) 0 }
+    ensures { result ≡ option_map_or (λ e. e.content.size) (get table.now slot) 0 }
 {
-    table.get(slot).map_or(0, |entry| entry.size)
+    table.get(slot).map_or(0, |entry| entry.content.size)
 }
 
 // Puts an ad in the place of the one in this slot, whose name it takes.
-fn renew(table: &mut Slab<Entry>, slot: usize, born: u64, lifetime: u64, size: u64, ad: Ad)
+fn renew(table: &mut Slab<Entry>, slot: usize, content: Content)
     requires { ContainsKey table.old slot }
-    ensures { IfSome (get table.old slot) (λ old. Updates table.old table.new slot
-        (Some (record { name = old.name; born = born; lifetime = lifetime; size = size; ad = ad }))) }
+    ensures { IfSome (get table.old slot)
+        (λ old. Updates table.old table.new slot (Some (record { name = old.name; content = content }))) }
 {
     let old = table.remove(slot);
     table.insert_reserved(Entry {
         name: old.name,
-        born,
-        lifetime,
-        size,
-        ad,
+        content,
     });
 }
 
-// Puts a new name last, with an entry in a slot of its own. Memory is taken first.
+// Puts a new name last, with an ad in a slot of its own. Memory is taken first.
 fn enter(
     alloc: Global,
     names: &mut IndexMap<Vec<u8>, usize>,
     table: &mut Slab<Entry>,
     name: &[u8],
-    entry: Entry,
+    content: Content,
 ) -> Result<usize, OutOfMemory>
     requires { get_by (λ k. bytes_eq name.now k.items) names.old ≡ None }
-    ensures entered { IfOk result (λ slot. IsEntered names.old.entries names.new.entries table.old table.new name.now slot entry) }
+    ensures entered { IfOk result (λ slot. IsEntered names.old.entries names.new.entries table.old table.new name.now slot content) }
     ensures names { OnErr result (names.new.entries ≡ names.old.entries) }
     ensures table { OnErr result (table.new.slots ≡ table.old.slots) }
 {
+    let entry = Entry {
+        name: Text::from_bytes(alloc, name)?,
+        content,
+    };
     let key = Vec::from_slice(alloc, name)?;
     names.reserve(1)?;
     table.reserve(1)?;

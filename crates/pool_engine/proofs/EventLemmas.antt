@@ -2,6 +2,7 @@
 use Rattle.std.proofs.Common.{◌≡◌, ℕ, ◌+◌, ◌≤◌, List, [], ◌∷◌, ◌++◌, length, refl, sym, ◌∙◌, ap, inl, inr, arith}
 use Rattle.std.proofs.lemmas.Bool.{cases_Bool}
 use Rattle.std.proofs.lemmas.Grind.{flat_map-append}
+use Rattle.std.proofs.lemmas.List.Sums.{sum_by-append}
 use Rattle.pool_script.specs.declared.command.Command.{Command}
 use Rattle.pool_replies.specs.declared.reply.Reply.{Reply}
 use Rattle.pool_replies.specs.Replies.{is_refused, refusal_count, reply_text}
@@ -40,9 +41,5 @@ pub refusals-le : (s : State) (commands : List Command) → refusals_of (events_
 refusals-le s [] = omega arith
 refusals-le s (c ∷ commands) = omega (arith, refusal_count-le (step s c).1, refusals-le (step s c).0 commands)
 
-allowed_of-append : (a b : List Event) → allowed_of (a ++ b) ≡ allowed_of a + allowed_of b
-allowed_of-append [] b = omega arith
-allowed_of-append (x ∷ a) b = let more = allowed_of-append a b in omega arith
-
 pub allowed-append : (s : State) (a b : List Command) → allowed_of (events_of s (a ++ b)) ≡ allowed_of (events_of s a) + allowed_of (events_of (state_after s a) b)
-allowed-append s a b = ap allowed_of (events_of-append s a b) ∙ allowed_of-append (events_of s a) (events_of (state_after s a) b)
+allowed-append s a b = ap allowed_of (events_of-append s a b) ∙ sum_by-append (λ event. allowance event.before event.command) (events_of s a) (events_of (state_after s a) b)

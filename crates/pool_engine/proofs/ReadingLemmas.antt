@@ -132,7 +132,7 @@ stopped_ends s t k m n pool bytes a b refused OutOfMemory within gave due in_tim
       due = subst (λ (l : List Command). AreDue t bytes l) split due;
       in_time = omega (arith, in_time, length-append a stopped.front);
       wrote = wrote_behind opening pool k.sink m.sink n.sink a stopped.front took.state took.wrote stopped.wrote;
-      cost = cost_next opening pool k.tops m.tops n.tops a stopped.front stopped.others [] took.state took.cost stopped.cost;
+      cost = cost_next opening pool k.tops m.tops n.tops a stopped.front stopped.others took.state took.cost stopped.cost;
     }
 stopped_ends s t k m n pool bytes a b refused (Done count) within gave due in_time took stopped = absurd stopped
 stopped_ends s t k m n pool bytes a b refused BadWords within gave due in_time took stopped = absurd stopped

@@ -115,12 +115,11 @@ cost_cut s t x y z a front cut is first second =
     let both = cost_behind s t x y z a (front ++ cut ∷ []) is first second in
     omega (arith, both, ap (λ (l : List Command). allowed_of (events_of s l)) (append_assoc a front (cut ∷ [])))
 
--- the evaluations up to the next command, behind other commands and before more
-pub cost_next : (s t : State) (x y z : ℕ) (a front others c : List Command) → t ≡ state_after s a → y ≤ x + allowed_of (events_of s a) → z ≤ y + allowed_of (events_of t (front ++ take 1 others)) → z ≤ x + allowed_of (events_of s ((a ++ front) ++ take 1 (others ++ c)))
-cost_next s t x y z a front others c is first second =
-    let more = next-le t front others c in
-    let both = cost_behind s t x y z a (front ++ take 1 (others ++ c)) is first (omega (arith, second, more)) in
-    omega (arith, both, ap (λ (l : List Command). allowed_of (events_of s l)) (append_assoc a front (take 1 (others ++ c))))
+-- the evaluations up to the next command, behind other commands
+pub cost_next : (s t : State) (x y z : ℕ) (a front others : List Command) → t ≡ state_after s a → y ≤ x + allowed_of (events_of s a) → z ≤ y + allowed_of (events_of t (front ++ take 1 others)) → z ≤ x + allowed_of (events_of s ((a ++ front) ++ take 1 others))
+cost_next s t x y z a front others is first second =
+    let both = cost_behind s t x y z a (front ++ take 1 others) is first second in
+    omega (arith, both, ap (λ (l : List Command). allowed_of (events_of s l)) (append_assoc a front (take 1 others)))
 
 split_within : (a b c front others : List Command) → b ≡ front ++ others → a ++ (b ++ c) ≡ (a ++ front) ++ (others ++ c)
 split_within a b c front others is =
@@ -141,7 +140,7 @@ Stopped-within s t k m n a b c p q OutOfMemory first stopped = record {
   others = stopped.others ++ c;
   split = split_within a b c stopped.front stopped.others stopped.split;
   wrote = wrote_behind s t k.sink m.sink n.sink a stopped.front first.state first.wrote stopped.wrote;
-  cost = cost_next s t k.tops m.tops n.tops a stopped.front stopped.others c first.state first.cost stopped.cost;
+  cost = cost_next s t k.tops m.tops n.tops a stopped.front (stopped.others ++ c) first.state first.cost (omega (arith, stopped.cost, next-le t stopped.front stopped.others c));
 }
 Stopped-within s t k m n a b c p q (Done refused) first stopped = absurd stopped
 Stopped-within s t k m n a b c p q BadWords first stopped = absurd stopped

@@ -2,14 +2,14 @@
 use Rattle.std.proofs.Common.{◌≡◌, ◌≢◌, ℕ, ◌+◌, ◌≤◌, List, [], ◌∷◌, ◌++◌, length, Option, None, Some, IfSome, refl, sym, ◌∙◌, ap, inl, inr, arith, length-append, append_assoc}
 use Rattle.std.proofs.lemmas.List.{append-nil}
 use Rattle.std.specs.Io.KnownBytes.{Consumes}
-use Rattle.pool_io.specs.Flow.{Supply, Intake}
+use Rattle.pool_io.specs.Flow.{Supply}
 use Rattle.pool_script.specs.Commands.{ended_commands, whole_commands}
 use Rattle.pool_script.specs.declared.command.Command.{Command}
 use Rattle.pool_script.proofs.CountLemmas.{ended_before_whole}
 use Rattle.pool_replies.specs.Replies.{reply_text}
 use Rattle.pool_engine.specs.declared.run.RunEnd.{RunEnd}
 use Rattle.pool_engine.specs.declared.run.RunEnd.TheVariants.{Done, BadWords, ReadFault, WriteFault, TooLong, OutOfMemory}
-use Rattle.pool_engine.specs.Ends.{AreDue, Ends, IsWriteFault}
+use Rattle.pool_engine.specs.Ends.{AreDue, Effects, Ends, IsWriteFault}
 use Rattle.pool_engine.specs.Events.{events_of, replies_text, state_after}
 use Rattle.pool_engine.specs.State.{State, opening}
 use Rattle.pool_engine.specs.Step.{step}
@@ -33,7 +33,7 @@ replies-length s front others cut =
     omega (arith, text, here, next)
 
 -- what a failed sink was sure of is less than the text of all replies
-unsure_left : (left right : Option (List ℕ)) (s t : Supply) (k m : Intake) → s.left ≡ left → t.left ≡ right → (fault : IsWriteFault s t k m) → Consumes left right fault.bytes → IfSome left (λ bytes. length (replies_text (events_of opening (whole_commands bytes))) ≤ k.sure → ⊥)
+unsure_left : (left right : Option (List ℕ)) (s t : Supply) (k m : Effects) → s.left ≡ left → t.left ≡ right → (fault : IsWriteFault s t k m) → Consumes left right fault.bytes → IfSome left (λ bytes. length (replies_text (events_of opening (whole_commands bytes))) ≤ k.sink.sure → ⊥)
 unsure_left None right s t k m from to fault consumed = tt
 unsure_left (Some all) None s t k m from to fault consumed = absurd consumed
 unsure_left (Some all) (Some more) s t k m from to fault consumed = λ sure.
@@ -51,7 +51,7 @@ always None Q q = tt
 always (Some x) Q q = q x
 
 -- a run over a sink that was sure of all replies doesn't end with its fault
-pub Ends-sure : (s t : Supply) (k m : Intake) (end : RunEnd) → Ends s t k m end → IfSome s.left (λ bytes. length (replies_text (events_of opening (whole_commands bytes))) ≤ k.sure → end ≢ WriteFault)
+pub Ends-sure : (s t : Supply) (k m : Effects) (end : RunEnd) → Ends s t k m end → IfSome s.left (λ bytes. length (replies_text (events_of opening (whole_commands bytes))) ≤ k.sink.sure → end ≢ WriteFault)
 Ends-sure s t k m WriteFault fault = if_some s.left _ _ (λ bytes unsure sure is. unsure sure) (unsure_left s.left t.left s t k m refl refl fault fault.gave.consumed)
 Ends-sure s t k m (Done refused) ends = always s.left _ (λ bytes sure is. absurd (cc))
 Ends-sure s t k m BadWords ends = always s.left _ (λ bytes sure is. absurd (cc))

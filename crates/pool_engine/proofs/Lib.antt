@@ -1,3 +1,4 @@
+mod AdLemmas
 mod Cases
 mod EndLemmas
 mod EventLemmas

@@ -7,7 +7,7 @@ use Rattle.pool_script.specs.declared.command.Command.{Command}
 use Rattle.pool_replies.specs.Replies.{reply_text}
 use Rattle.pool_engine.specs.declared.run.RunEnd.{RunEnd}
 use Rattle.pool_engine.specs.declared.run.RunEnd.TheVariants.{Done, BadWords, ReadFault, WriteFault, TooLong, OutOfMemory}
-use Rattle.pool_engine.specs.Events.{events_of, refusals_of, replies_text, state_after}
+use Rattle.pool_engine.specs.Events.{allowed_of, events_of, refusals_of, replies_text, state_after}
 use Rattle.pool_engine.specs.Limits.{input_limit}
 use Rattle.pool_engine.specs.State.{opening}
 use Rattle.pool_engine.specs.Step.{step}
@@ -42,6 +42,14 @@ pub record Broke (k m : Intake) (text last : List ℕ) : Type 0 where
   pub rose : Rose k.faults m.faults
   pub unsure : k.sure < length text + length last
 
+-- what a run changes besides the source and the pool: the sink, and the count of whole evaluations
+pub record Effects : Type 0 where
+  pub sink : Intake
+  pub tops : ℕ
+
+abbrev pub effects : Intake → ℕ → Effects
+effects sink tops = record { sink = sink; tops = tops }
+
 -- the bytes that were read before the last read
 abbrev pub before_last : Supply → List ℕ → List ℕ
 before_last t bytes = take (length bytes - t.latest) bytes
@@ -49,20 +57,22 @@ before_last t bytes = take (length bytes - t.latest) bytes
 -- ---- the ends
 
 -- all of the input was read and all replies were taken
-pub record IsDone (s t : Supply) (k m : Intake) (refused : ℕ) : Type 0 where
+pub record IsDone (s t : Supply) (k m : Effects) (refused : ℕ) : Type 0 where
   pub bytes : List ℕ
   pub within : length bytes ≤ input_limit
   pub gave : Gave s t bytes
   pub at_end : IsAtEnd t.left
-  pub wrote : Wrote k m (replies_text (events_of opening (whole_commands bytes)))
+  pub wrote : Wrote k.sink m.sink (replies_text (events_of opening (whole_commands bytes)))
   pub counted : refused ≡ refusals_of (events_of opening (whole_commands bytes))
+  pub cost : m.tops ≤ k.tops + allowed_of (events_of opening (whole_commands bytes))
 
 -- the source failed: the replies to the commands that had ended were taken
-pub record IsReadFault (s t : Supply) (k m : Intake) : Type 0 where
+pub record IsReadFault (s t : Supply) (k m : Effects) : Type 0 where
   pub bytes : List ℕ
   pub within : length bytes ≤ input_limit
   pub lost : Lost s t bytes
-  pub wrote : Wrote k m (replies_text (events_of opening (ended_commands bytes)))
+  pub wrote : Wrote k.sink m.sink (replies_text (events_of opening (ended_commands bytes)))
+  pub cost : m.tops ≤ k.tops + allowed_of (events_of opening (ended_commands bytes))
 
 -- the commands to run after these bytes: those that have ended, or all of them where nothing is left to read
 abbrev pub AreDue : Supply → List ℕ → List Command → Type 0
@@ -70,7 +80,7 @@ AreDue t bytes commands = (commands ≡ ended_commands bytes) ⊎ ((commands ≡
 
 -- the sink failed at the reply to a command that was due: the replies to the commands before it were taken, and they are no
 -- fewer than had ended before the last read
-pub record IsWriteFault (s t : Supply) (k m : Intake) : Type 0 where
+pub record IsWriteFault (s t : Supply) (k m : Effects) : Type 0 where
   pub bytes : List ℕ
   pub within : length bytes ≤ input_limit
   pub gave : Gave s t bytes
@@ -79,19 +89,21 @@ pub record IsWriteFault (s t : Supply) (k m : Intake) : Type 0 where
   pub others : List Command
   pub due : AreDue t bytes (front ++ cut ∷ others)
   pub in_time : length (ended_commands (before_last t bytes)) ≤ length front
-  pub broke : Broke k m (replies_text (events_of opening front)) (reply_text (step (state_after opening front) cut).1)
+  pub broke : Broke k.sink m.sink (replies_text (events_of opening front)) (reply_text (step (state_after opening front) cut).1)
+  pub cost : m.tops ≤ k.tops + allowed_of (events_of opening (front ++ cut ∷ []))
 
 -- one byte past the limit was read: the replies to the commands that had ended before it were taken
-pub record IsTooLong (s t : Supply) (k m : Intake) : Type 0 where
+pub record IsTooLong (s t : Supply) (k m : Effects) : Type 0 where
   pub bytes : List ℕ
   pub last : ℕ
   pub full : length bytes ≡ input_limit
   pub gave : Gave s t (bytes ++ last ∷ [])
-  pub wrote : Wrote k m (replies_text (events_of opening (ended_commands bytes)))
+  pub wrote : Wrote k.sink m.sink (replies_text (events_of opening (ended_commands bytes)))
+  pub cost : m.tops ≤ k.tops + allowed_of (events_of opening (ended_commands bytes))
 
 -- memory was wanting: the replies to the first of the commands that were due were taken, each whole, and no fewer than had
--- ended before the last read
-pub record IsOutOfMemory (s t : Supply) (k m : Intake) : Type 0 where
+-- ended before the last read; at most the next command may have made evaluations besides
+pub record IsOutOfMemory (s t : Supply) (k m : Effects) : Type 0 where
   pub bytes : List ℕ
   pub within : length bytes ≤ input_limit
   pub gave : Gave s t bytes
@@ -99,10 +111,11 @@ pub record IsOutOfMemory (s t : Supply) (k m : Intake) : Type 0 where
   pub others : List Command
   pub due : AreDue t bytes (front ++ others)
   pub in_time : length (ended_commands (before_last t bytes)) ≤ length front
-  pub wrote : Wrote k m (replies_text (events_of opening front))
+  pub wrote : Wrote k.sink m.sink (replies_text (events_of opening front))
+  pub cost : m.tops ≤ k.tops + allowed_of (events_of opening (front ++ take 1 others))
 
 -- a run ended so, from these states of source and sink to those
-abbrev pub Ends : Supply → Supply → Intake → Intake → RunEnd → Type 0
+abbrev pub Ends : Supply → Supply → Effects → Effects → RunEnd → Type 0
 Ends s t k m (Done refused) = IsDone s t k m refused
 Ends s t k m BadWords = (t ≡ s) × (m ≡ k)
 Ends s t k m ReadFault = IsReadFault s t k m

@@ -1,11 +1,11 @@
 -- What happens as commands run one after the other.
-use Rattle.std.specs.Prelude.{ℕ, ◌+◌, List, [], ◌∷◌}
+use Rattle.std.specs.Prelude.{ℕ, ◌+◌, List, [], ◌∷◌, sum_by}
 use Rattle.std.specs.List.{flat_map}
 use Rattle.pool_script.specs.declared.command.Command.{Command}
 use Rattle.pool_replies.specs.declared.reply.Reply.{Reply}
 use Rattle.pool_replies.specs.Replies.{refusal_count, reply_text}
 use Rattle.pool_engine.specs.State.{State}
-use Rattle.pool_engine.specs.Step.{step}
+use Rattle.pool_engine.specs.Step.{allowance, step}
 
 -- a command that ran: the state before it, the command, the state behind it, and the reply
 pub record Event : Type 0 where
@@ -36,3 +36,7 @@ replies_text events = flat_map (λ event. reply_text event.reply) events
 abbrev pub refusals_of : List Event → ℕ
 refusals_of [] = 0
 refusals_of (event ∷ events) = refusal_count event.reply + refusals_of events
+
+-- how many whole evaluations the commands may have made
+abbrev pub allowed_of : List Event → ℕ
+allowed_of events = sum_by (λ event. allowance event.before event.command) events

@@ -1,15 +1,22 @@
 -- What a command makes of the state, and the reply to it.
-use Rattle.std.specs.Prelude.{ℕ, List, nat_lt, Result, Ok, Err, if◌then◌else◌}
-use Rattle.ad_tree.specs.Inline.{Inline, phrase_tree}
+use Rattle.std.specs.Prelude.{ℕ, ◌-◌, List, length, filter, find, map, nat_lt, Option, None, Some, Result, Ok, Err, if◌then◌else◌}
+use Rattle.ad_tree.specs.Inline.{Inline, ad_of, phrase_tree}
 use Rattle.ad_tree.specs.Tree.{Tree}
 use Rattle.ad_parser.specs.declared.fault.ParseFault.{ParseFault}
-use Rattle.ad_parser.proofs.Outcomes.{expr_outcome}
+use Rattle.ad_parser.proofs.Outcomes.{ad_outcome, expr_outcome}
+use Rattle.ad_printer.specs.Values.{printed_frame}
+use Rattle.ad_store.specs.Stock.{Advert, has, is_live, is_named, lack, placed, without}
+use Rattle.ad_store.specs.declared.answers.PutFault.{PutFault}
+use Rattle.ad_store.specs.declared.answers.PutFault.TheVariants as fault
 use Rattle.pool_script.specs.declared.command.Command.{Command}
 use Rattle.pool_script.specs.declared.command.Command.TheVariants as command
 use Rattle.pool_replies.specs.declared.refusal.Refusal.{Refusal}
 use Rattle.pool_replies.specs.declared.refusal.Refusal.TheVariants as why
+use Rattle.pool_replies.specs.declared.refusal.Room.{Room}
+use Rattle.pool_replies.specs.declared.refusal.Room.TheVariants as room
 use Rattle.pool_replies.specs.declared.reply.Reply.{Reply}
 use Rattle.pool_replies.specs.declared.reply.Reply.TheVariants as reply
+use Rattle.pool_replies.specs.declared.rows.AdRow.{AdRow}
 use Rattle.pool_engine.specs.State.{State}
 use Rattle.pool_engine.specs.Values.{is_built, value, value_text}
 
@@ -17,9 +24,57 @@ use Rattle.pool_engine.specs.Values.{is_built, value, value_text}
 abbrev pub refused : State → Refusal → State × Reply
 refused s reason = (s, reply.Refused reason)
 
--- `clock N`: the clock doesn't go back
+-- the ads that are live
+abbrev pub live_ads : ℕ → List Advert → List Advert
+live_ads now ads = filter (is_live now) ads
+
+-- `clock N`: the clock doesn't go back, and the ads that are no longer live leave
 abbrev pub clock : State → ℕ → State × Reply
-clock s n = if nat_lt n s.moment then refused s why.ClockBack else (record s { moment = n }, reply.Clock n 0)
+clock s n = if nat_lt n s.moment then refused s why.ClockBack else (record { moment = n; ads = live_ads n s.ads }, reply.Clock n (length s.ads - length (live_ads n s.ads)))
+
+-- ---- ads
+
+-- what a store lacks room for
+abbrev pub room_of : PutFault → Room
+room_of fault.Full = room.Ads
+room_of other = room.AdText
+
+-- an ad is put, unless there is no room for it
+abbrev pub put_ad : State → Advert → Option PutFault → State × Reply
+put_ad s advert (Some lacking) = refused s (why.Full (room_of lacking))
+put_ad s advert None = (record { moment = s.moment; ads = placed advert s.ads }, if has advert.name s.ads then reply.Replaced advert.name else reply.Advertised advert.name)
+
+-- `advertise NAME LIFETIME` and a block of so many bytes, by what its text is
+abbrev pub advertise : State → List ℕ → ℕ → ℕ → Result Inline ParseFault → State × Reply
+advertise s name lifetime size (Err fault) = refused s (why.AdText fault)
+advertise s name lifetime size (Ok x) = put_ad s (record { name = name; born = s.moment; lifetime = lifetime; size = size; ad = ad_of x }) (lack name size s.ads)
+
+-- `withdraw NAME`
+abbrev pub withdraw : State → List ℕ → State × Reply
+withdraw s name = if has name s.ads then (record { moment = s.moment; ads = without name s.ads }, reply.Withdrawn name) else refused s why.UnknownName
+
+-- the ad of a name
+abbrev pub ad_named : List ℕ → List Advert → Option Advert
+ad_named name ads = find (is_named name) ads
+
+-- an ad is printed
+abbrev pub show_ad : State → Option Advert → State × Reply
+show_ad s None = refused s why.UnknownName
+show_ad s (Some advert) = (s, reply.Shown (printed_frame advert.ad 0))
+
+-- `show NAME`
+abbrev pub show : State → List ℕ → State × Reply
+show s name = show_ad s (ad_named name s.ads)
+
+-- the row of an ad
+abbrev pub ad_row : Advert → AdRow
+ad_row advert = record { name = advert.name; born = advert.born; lifetime = advert.lifetime; claimed = None; offered = None }
+
+-- `list`
+abbrev pub list : State → State × Reply
+list s = (s, reply.Ads (map ad_row s.ads))
+
+-- ---- expressions
 
 -- the value of an expression, where it can be found today
 abbrev pub eval_tree : State → Tree → State × Reply
@@ -33,6 +88,21 @@ eval s (Err fault) = refused s (why.AdText fault)
 -- the state behind a command, and the reply to it
 unfoldable pub step : State → Command → State × Reply
 step s (command.Clock n) = clock s n
+step s (command.Advertise name lifetime block) = advertise s name lifetime (length block) (ad_outcome block)
+step s (command.Withdraw name) = withdraw s name
+step s (command.Show name) = show s name
+step s command.List = list s
 step s (command.Eval expr) = eval s (expr_outcome expr)
 step s (command.Bad number) = refused s (why.Line number)
 step s other = refused s why.NotBuilt
+
+-- how many whole evaluations a command may make in a state
+unfoldable pub allowance : State → Command → ℕ
+allowance s (command.Eval expr) = 1
+allowance s (command.EvalIn name expr) = 1
+allowance s other = 0
+
+-- how many ads of the store a command may look into
+unfoldable pub looks : Command → ℕ
+looks (command.Show name) = 1
+looks other = 0

@@ -1,6 +1,7 @@
 //! The pool: runs the commands of a script that a source gives, and offers the replies to a sink.
 #![tactic(auto)]
 
+mod ads;
 mod eval;
 mod pool;
 mod run;

@@ -1,5 +1,5 @@
 // The pool and its steps.
-ghost use Rattle.std.specs.Prelude.{◌≡◌, true, false, IfOk, IsErr, IsTrue, OnErr};
+ghost use Rattle.std.specs.Prelude.{◌≡◌, ◌+◌, ◌≤◌, true, false, IfOk, IsErr, IsTrue, OnErr};
 ghost use Rattle.ad_parser.proofs.Outcomes.{expr_outcome};
 ghost use Rattle.ad_tree.specs.Tree.{tree};
 ghost use Rattle.pool_script.specs.Form.{is_expr, is_within_form};
@@ -8,111 +8,144 @@ ghost use Rattle.pool_replies.specs.Replies.{is_printable};
 ghost use Rattle.pool_engine.specs.State.{opening};
 ghost use Rattle.pool_engine.specs.Step as steps;
 
+use crate::ads::{advertise, expire, rows, show, withdraw};
 use crate::eval::{evaluate, is_built, print_value};
 use ad_parser::{ParseFault, parse_expr};
+use ad_store::Store;
 use ad_tree::Expr;
 use pool_replies::{Refusal, Reply};
 use pool_script::Command;
+use pool_steps::Steps;
 use pool_text::OutOfMemory;
 use std::alloc::Global;
-use std::marker::Model;
+use std::sync::ledger::Ledger;
 
 /// A pool. Where a step answers `OutOfMemory`, the pool is spent: each later step answers that, and does nothing.
 #[derive(Drop)]
 pub struct Pool {
     alloc: Global,
     moment: u64,
+    store: Store,
     spent: bool,
 }
 
-impl Model for Pool {
-    ghost use Rattle.pool_engine.specs.State.{Standing};
-
-    ghost Value = { Standing };
-
-    ghost view = { λ p. record { state = record { moment = p.moment }; spent = p.spent } };
-}
-
 impl Pool {
-    /// The pool at moment 0.
+    ghost use Rattle.pool_engine.specs.Pool.{is_spent, state_of};
+
+    /// The pool at moment 0, with no ads.
+    #[tactic(auto, unfolding(crate::specs::Pool::state_of, crate::specs::Pool::is_spent))]
     pub fn new(alloc: Global) -> Pool
-        ensures { result ≡ record { state = opening; spent = false } }
+        ensures state { state_of result ≡ opening }
+        ensures spent { is_spent result ≡ false }
     {
         Pool {
             alloc,
             moment: 0,
+            store: Store::new(alloc),
             spent: false,
         }
     }
 
-    /// Runs a command.
-    pub fn step(&mut self, command: &Command) -> Result<Reply, OutOfMemory>
+    /// Runs a command. It counts in `tops` the whole evaluations, one at most for `eval` and none for any other command, and in
+    /// `touch` the ads of the store that are looked into.
+    #[tactic(auto, unfolding(crate::specs::Pool::state_of, crate::specs::Pool::is_spent))]
+    pub fn step<F: Ledger, T: Ledger>(
+        &mut self,
+        command: &Command,
+        tops: &mut Steps<F>,
+        touch: &mut Steps<T>,
+    ) -> Result<Reply, OutOfMemory>
         requires { IsTrue (is_within_form command.now) }
-        ensures step { IfOk result (λ reply. steps.step self.old.state command.now ≡ (self.new.state, reply)) }
+        ensures step { IfOk result (λ reply. steps.step (state_of self.old) command.now ≡ (state_of self.new, reply)) }
         ensures printable { IfOk result (λ reply. IsTrue (is_printable reply)) }
-        ensures memory { OnErr result (self.new.spent ≡ true) }
-        ensures spent { self.old.spent ≡ true → IsErr result × (self.new ≡ self.old) }
+        ensures memory { OnErr result (is_spent self.new ≡ true) }
+        ensures cost { tops.new ≤ tops.old + steps.allowance (state_of self.old) command.now }
+        ensures looks { touch.new ≤ touch.old + steps.looks command.now }
+        ensures spent { is_spent self.old ≡ true → IsErr result × (self.new ≡ self.old) }
     {
         if self.spent {
             return Err(OutOfMemory);
         }
-        let answered = self.answer(command);
+        let answered = self.answer(command, tops, touch);
         self.spent = answered.is_err();
         answered
     }
 
-    #[tactic(auto, unfolding(crate::specs::Step::step, pool_script::specs::Form::is_within_form, pool_replies::specs::Replies::is_printable, pool_replies::specs::Refusals::is_printable_refusal))]
-    fn answer(&mut self, command: &Command) -> Result<Reply, OutOfMemory>
+    #[tactic(auto, unfolding(crate::specs::Pool::state_of, crate::specs::Step::step, crate::specs::Step::allowance, crate::specs::Step::looks, pool_script::specs::Form::is_within_form, pool_replies::specs::Replies::is_printable, pool_replies::specs::Refusals::is_printable_refusal))]
+    fn answer<F: Ledger, T: Ledger>(
+        &mut self,
+        command: &Command,
+        tops: &mut Steps<F>,
+        touch: &mut Steps<T>,
+    ) -> Result<Reply, OutOfMemory>
         requires { IsTrue (is_within_form command.now) }
-        ensures step { IfOk result (λ reply. steps.step self.old.state command.now ≡ (self.new.state, reply)) }
+        ensures step { IfOk result (λ reply. steps.step (state_of self.old) command.now ≡ (state_of self.new, reply)) }
         ensures printable { IfOk result (λ reply. IsTrue (is_printable reply)) }
+        ensures cost { tops.new ≤ tops.old + steps.allowance (state_of self.old) command.now }
+        ensures looks { touch.new ≤ touch.old + steps.looks command.now }
     {
         match command {
-            Command::Clock(n) => Ok(self.clock(*n)),
-            Command::Eval(expr) => self.eval(expr.bytes()),
+            Command::Clock(n) => self.clock(*n),
+            Command::Advertise {
+                name,
+                lifetime,
+                block,
+            } => advertise(
+                self.alloc,
+                &mut self.store,
+                self.moment,
+                name,
+                *lifetime,
+                block.bytes(),
+            ),
+            Command::Withdraw(name) => withdraw(&mut self.store, self.moment, name),
+            Command::Show(name) => show(self.alloc, &self.store, self.moment, name.bytes(), touch),
+            Command::List => Ok(Reply::Ads(rows(self.alloc, &self.store)?)),
+            Command::Eval(expr) => self.eval(expr.bytes(), tops),
             Command::Bad(number) => Ok(Reply::Refused(Refusal::Line(*number))),
             _ => Ok(Reply::Refused(Refusal::NotBuilt)),
         }
     }
 
-    #[tactic(auto, unfolding(pool_replies::specs::Replies::is_printable, pool_replies::specs::Refusals::is_printable_refusal))]
-    fn clock(&mut self, n: u64) -> Reply
-        ensures step { steps.clock self.old.state n ≡ (self.new.state, result) }
-        ensures printable { IsTrue (is_printable result) }
+    #[tactic(auto, unfolding(crate::specs::Pool::state_of, pool_replies::specs::Replies::is_printable, pool_replies::specs::Refusals::is_printable_refusal))]
+    fn clock(&mut self, n: u64) -> Result<Reply, OutOfMemory>
+        ensures step { IfOk result (λ reply. steps.clock (state_of self.old) n ≡ (state_of self.new, reply)) }
+        ensures printable { IfOk result (λ reply. IsTrue (is_printable reply)) }
     {
         if n < self.moment {
-            return Reply::Refused(Refusal::ClockBack);
+            return Ok(Reply::Refused(Refusal::ClockBack));
         }
+        let expired = expire(&mut self.store, n)?;
         self.moment = n;
-        Reply::Clock {
-            moment: n,
-            expired: 0,
-        }
+        Ok(Reply::Clock { moment: n, expired })
     }
 
-    #[tactic(auto, unfolding(pool_replies::specs::Replies::is_printable, pool_replies::specs::Refusals::is_printable_refusal))]
-    fn eval(&self, expr: &[u8]) -> Result<Reply, OutOfMemory>
+    #[tactic(auto, unfolding(crate::specs::Pool::state_of, pool_replies::specs::Replies::is_printable, pool_replies::specs::Refusals::is_printable_refusal))]
+    fn eval<F: Ledger>(&self, expr: &[u8], tops: &mut Steps<F>) -> Result<Reply, OutOfMemory>
         requires { IsTrue (is_expr expr.now) }
-        ensures step { IfOk result (λ reply. steps.eval self.now.state (expr_outcome expr.now) ≡ (self.now.state, reply)) }
+        ensures step { IfOk result (λ reply. steps.eval (state_of self.now) (expr_outcome expr.now) ≡ (state_of self.now, reply)) }
         ensures printable { IfOk result (λ reply. IsTrue (is_printable reply)) }
+        ensures cost { tops.new ≤ tops.old + 1 }
     {
         let phrase = match parse_expr(self.alloc, expr) {
             Ok(phrase) => phrase,
             Err(fault) => return Ok(Reply::Refused(Refusal::AdText(told(fault)?))),
         };
-        let reply = self.eval_tree(&phrase.expr);
+        let reply = self.eval_tree(&phrase.expr, tops);
         drop(phrase);
         reply
     }
 
-    #[tactic(auto, unfolding(pool_replies::specs::Replies::is_printable, pool_replies::specs::Refusals::is_printable_refusal))]
-    fn eval_tree(&self, expr: &Expr) -> Result<Reply, OutOfMemory>
-        ensures step { IfOk result (λ reply. steps.eval_tree self.now.state (tree expr.now) ≡ (self.now.state, reply)) }
+    #[tactic(auto, unfolding(crate::specs::Pool::state_of, pool_replies::specs::Replies::is_printable, pool_replies::specs::Refusals::is_printable_refusal))]
+    fn eval_tree<F: Ledger>(&self, expr: &Expr, tops: &mut Steps<F>) -> Result<Reply, OutOfMemory>
+        ensures step { IfOk result (λ reply. steps.eval_tree (state_of self.now) (tree expr.now) ≡ (state_of self.now, reply)) }
         ensures printable { IfOk result (λ reply. IsTrue (is_printable reply)) }
+        ensures cost { tops.new ≤ tops.old + 1 }
     {
         if !is_built(expr) {
             return Ok(Reply::Refused(Refusal::NotBuilt));
         }
+        tops.tick();
         let value = evaluate(self.alloc, expr)?;
         let text = print_value(self.alloc, &value);
         drop(value);
@@ -121,7 +154,7 @@ impl Pool {
 }
 
 /// The fault as one of a text; want of memory is none.
-fn told(fault: ParseFault) -> Result<ParseFault, OutOfMemory>
+pub(crate) fn told(fault: ParseFault) -> Result<ParseFault, OutOfMemory>
     ensures { IfOk result (λ f. (f ≡ fault) × (is_fault_of_text f ≡ true)) }
 {
     match fault {

@@ -2,15 +2,17 @@
 ghost use Rattle.std.specs.Prelude.{◌≡◌, ◌≢◌, ◌↔◌, ◌≤◌, ◌<◌, [], length, IsTrue, IfOk, IfSome};
 ghost use Rattle.pool_io.specs.Flow.{Reads, Rose};
 ghost use Rattle.pool_script.specs.Commands.{whole_commands};
-ghost use Rattle.pool_engine.specs.Ends.{Ends, IsDoneOrOutOfMemory, LeavesAtMost, end_of, status_of};
+ghost use Rattle.pool_engine.specs.Ends.{Ends, IsDoneOrOutOfMemory, LeavesAtMost, effects, end_of, status_of};
 ghost use Rattle.pool_engine.specs.Events.{events_of, replies_text};
 ghost use Rattle.pool_engine.specs.Limits.{input_limit};
 ghost use Rattle.pool_engine.specs.State.{opening};
 
 use crate::session::Session;
 use pool_io::{Failed, Sink, Source};
+use pool_steps::Steps;
 use pool_text::{OutOfMemory, Text};
 use std::alloc::Global;
+use std::sync::ledger::Ledger;
 
 // An input may have so many bytes.
 const INPUT_LIMIT: usize = 1 << 30;
@@ -63,14 +65,18 @@ impl RunEnd {
 }
 
 /// Runs the script that a source gives: reads it to its end, runs each command as soon as it has ended, and offers each
-/// reply to the sink as one piece before the next read. No byte is read after the first one past the limit.
-pub fn run_pool<S: Source, K: Sink>(
+/// reply to the sink as one piece before the next read. No byte is read after the first one past the limit. It counts in
+/// `tops` the whole evaluations of the commands, and in `touch` the ads of the store that are looked into.
+pub fn run_pool<S: Source, K: Sink, F: Ledger, T: Ledger>(
     alloc: Global,
     words: &[Text],
     source: &mut S,
     sink: &mut K,
+    tops: &mut Steps<F>,
+    touch: &mut Steps<T>,
 ) -> RunEnd
-    ensures ends { Ends (S.shows source.old) (S.shows source.new) (K.shows sink.old) (K.shows sink.new) result }
+    ensures ends { Ends (S.shows source.old) (S.shows source.new)
+        (effects (K.shows sink.old) tops.old) (effects (K.shows sink.new) tops.new) result }
 
     // No word is built, so any word is a wrong one, and then nothing was read or written.
     ensures words { (result ≡ RunEnd.BadWords) ↔ (0 < length words.now) }
@@ -90,15 +96,22 @@ pub fn run_pool<S: Source, K: Sink>(
     if words.len() > 0 {
         return RunEnd::BadWords;
     }
-    match run_input(alloc, source, sink) {
+    match run_input(alloc, source, sink, tops, touch) {
         Ok(refused) => RunEnd::Done { refused },
         Err(end) => end,
     }
 }
 
 // The number of refusals of a run that read and answered all, or why another run ended.
-fn run_input<S: Source, K: Sink>(alloc: Global, source: &mut S, sink: &mut K) -> Result<u64, RunEnd>
-    ensures ends { Ends (S.shows source.old) (S.shows source.new) (K.shows sink.old) (K.shows sink.new) (end_of result) }
+fn run_input<S: Source, K: Sink, F: Ledger, T: Ledger>(
+    alloc: Global,
+    source: &mut S,
+    sink: &mut K,
+    tops: &mut Steps<F>,
+    touch: &mut Steps<T>,
+) -> Result<u64, RunEnd>
+    ensures ends { Ends (S.shows source.old) (S.shows source.new)
+        (effects (K.shows sink.old) tops.old) (effects (K.shows sink.new) tops.new) (end_of result) }
     ensures words { result ≢ Err RunEnd.BadWords }
 {
     let mut buffer = [0; READ_SIZE];
@@ -109,13 +122,13 @@ fn run_input<S: Source, K: Sink>(alloc: Global, source: &mut S, sink: &mut K) ->
             return Err(RunEnd::ReadFault);
         };
         if count == 0 {
-            return session.finish(sink);
+            return session.finish(sink, tops, touch);
         }
-        session.feed(&buffer[..count], sink)?;
+        session.feed(&buffer[..count], sink, tops, touch)?;
         left -= count;
     }
     match read_piece(source, &mut buffer, 1) {
-        Ok(0) => session.finish(sink),
+        Ok(0) => session.finish(sink, tops, touch),
         Ok(_) => Err(RunEnd::TooLong),
         Err(_) => Err(RunEnd::ReadFault),
     }

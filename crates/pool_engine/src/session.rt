@@ -4,7 +4,8 @@ ghost use Rattle.pool_script.specs.Commands.{ended_commands, whole_commands};
 ghost use Rattle.pool_script.specs.Form.{is_within_form};
 ghost use Rattle.pool_script.specs.Standing.{Stands};
 ghost use Rattle.pool_replies.specs.Replies.{is_printable, refusal_count, reply_text};
-ghost use Rattle.pool_engine.specs.Ends.{Wrote};
+ghost use Rattle.pool_engine.specs.Ends.{Wrote, effects};
+ghost use Rattle.pool_engine.specs.Pool.{state_of};
 ghost use Rattle.pool_engine.specs.Session.{Lacks, Stopped, Took};
 ghost use Rattle.pool_engine.specs.State.{State, opening};
 
@@ -12,7 +13,9 @@ use crate::{Pool, RunEnd};
 use pool_io::{Sink, write_all};
 use pool_replies::{Reply, print_reply, refusals};
 use pool_script::{Command, Script};
+use pool_steps::Steps;
 use std::alloc::Global;
+use std::sync::ledger::Ledger;
 
 /// The script so far, the pool behind its commands, and how many of them were refused.
 #[derive(Drop)]
@@ -28,7 +31,7 @@ impl Session {
         ensures script { Stands result.script [] 0 }
         ensures waiting { result.script.waiting ≡ [] }
         ensures over { result.script.over ≡ false }
-        ensures pool { result.pool.state ≡ opening }
+        ensures pool { state_of result.pool ≡ opening }
         ensures refused { result.refused ≡ 0 }
     {
         Session {
@@ -40,13 +43,21 @@ impl Session {
     }
 
     /// Runs the commands that end in a further piece of the script.
-    pub(crate) fn feed<K: Sink>(&mut self, piece: &[u8], sink: &mut K) -> Result<(), RunEnd>
+    pub(crate) fn feed<K: Sink, F: Ledger, T: Ledger>(
+        &mut self,
+        piece: &[u8],
+        sink: &mut K,
+        tops: &mut Steps<F>,
+        touch: &mut Steps<T>,
+    ) -> Result<(), RunEnd>
         requires over { self.old.script.over ≡ false }
         requires waiting { self.old.script.waiting ≡ [] }
         requires room { self.old.refused + length (ended_commands (self.old.script.rest ++ piece.now)) < 2 ^ 64 }
-        ensures took { OnOk result (Took self.old.pool.state self.new.pool.state (K.shows sink.old) (K.shows sink.new)
+        ensures took { OnOk result (Took (state_of self.old.pool) (state_of self.new.pool)
+            (effects (K.shows sink.old) tops.old) (effects (K.shows sink.new) tops.new)
             (ended_commands (self.old.script.rest ++ piece.now)) self.old.refused self.new.refused) }
-        ensures stopped { IfErr result (Stopped self.old.pool.state (K.shows sink.old) (K.shows sink.new)
+        ensures stopped { IfErr result (Stopped (state_of self.old.pool)
+            (effects (K.shows sink.old) tops.old) (effects (K.shows sink.new) tops.new)
             (ended_commands (self.old.script.rest ++ piece.now))) }
         ensures waiting { OnOk result (self.new.script.waiting ≡ []) }
         ensures over { OnOk result (self.new.script.over ≡ false) }
@@ -54,30 +65,44 @@ impl Session {
             → (m : ℕ) × Stands self.new.script (bytes ++ piece.now) m) }
     {
         self.script.feed(piece)?;
-        self.run_waiting(sink)
+        self.run_waiting(sink, tops, touch)
     }
 
     /// Runs the commands that the end of the script gives, and answers how many of all were refused.
-    pub(crate) fn finish<K: Sink>(mut self, sink: &mut K) -> Result<u64, RunEnd>
+    pub(crate) fn finish<K: Sink, F: Ledger, T: Ledger>(
+        mut self,
+        sink: &mut K,
+        tops: &mut Steps<F>,
+        touch: &mut Steps<T>,
+    ) -> Result<u64, RunEnd>
         requires over { self.script.over ≡ false }
         requires waiting { self.script.waiting ≡ [] }
         requires room { self.refused + length (whole_commands self.script.rest) < 2 ^ 64 }
-        ensures took { IfOk result (λ refused. (t : State) × Took self.pool.state t (K.shows sink.old) (K.shows sink.new)
+        ensures took { IfOk result (λ refused. (t : State) × Took (state_of self.pool) t
+            (effects (K.shows sink.old) tops.old) (effects (K.shows sink.new) tops.new)
             (whole_commands self.script.rest) self.refused refused) }
-        ensures stopped { IfErr result (Stopped self.pool.state (K.shows sink.old) (K.shows sink.new)
+        ensures stopped { IfErr result (Stopped (state_of self.pool)
+            (effects (K.shows sink.old) tops.old) (effects (K.shows sink.new) tops.new)
             (whole_commands self.script.rest)) }
     {
         self.script.end()?;
-        self.run_waiting(sink)?;
+        self.run_waiting(sink, tops, touch)?;
         Ok(self.refused)
     }
 
     /// Runs the commands that wait.
-    fn run_waiting<K: Sink>(&mut self, sink: &mut K) -> Result<(), RunEnd>
+    fn run_waiting<K: Sink, F: Ledger, T: Ledger>(
+        &mut self,
+        sink: &mut K,
+        tops: &mut Steps<F>,
+        touch: &mut Steps<T>,
+    ) -> Result<(), RunEnd>
         requires { self.old.refused + length self.old.script.waiting < 2 ^ 64 }
-        ensures took { OnOk result (Took self.old.pool.state self.new.pool.state (K.shows sink.old) (K.shows sink.new)
+        ensures took { OnOk result (Took (state_of self.old.pool) (state_of self.new.pool)
+            (effects (K.shows sink.old) tops.old) (effects (K.shows sink.new) tops.new)
             self.old.script.waiting self.old.refused self.new.refused) }
-        ensures stopped { IfErr result (Stopped self.old.pool.state (K.shows sink.old) (K.shows sink.new)
+        ensures stopped { IfErr result (Stopped (state_of self.old.pool)
+            (effects (K.shows sink.old) tops.old) (effects (K.shows sink.new) tops.new)
             self.old.script.waiting) }
         ensures waiting { OnOk result (self.new.script.waiting ≡ []) }
         ensures over { self.new.script.over ≡ self.old.script.over }
@@ -85,25 +110,29 @@ impl Session {
             → (m : ℕ) × Stands self.new.script bytes m }
     {
         while let Some(command) = self.script.take() {
-            self.refused += run_command(self.alloc, &mut self.pool, command, sink)?;
+            self.refused += run_command(self.alloc, &mut self.pool, command, sink, tops, touch)?;
         }
         Ok(())
     }
 }
 
 /// Runs a command and offers its reply. Answers how many refusals that is, 0 or 1.
-fn run_command<K: Sink>(
+fn run_command<K: Sink, F: Ledger, T: Ledger>(
     alloc: Global,
     pool: &mut Pool,
     command: Command,
     sink: &mut K,
+    tops: &mut Steps<F>,
+    touch: &mut Steps<T>,
 ) -> Result<u64, RunEnd>
     requires { IsTrue (is_within_form command) }
-    ensures took { IfOk result (λ n. Took pool.old.state pool.new.state (K.shows sink.old) (K.shows sink.new) (command ∷ []) 0 n) }
-    ensures stopped { IfErr result (Stopped pool.old.state (K.shows sink.old) (K.shows sink.new) (command ∷ [])) }
+    ensures took { IfOk result (λ n. Took (state_of pool.old) (state_of pool.new)
+        (effects (K.shows sink.old) tops.old) (effects (K.shows sink.new) tops.new) (command ∷ []) 0 n) }
+    ensures stopped { IfErr result (Stopped (state_of pool.old)
+        (effects (K.shows sink.old) tops.old) (effects (K.shows sink.new) tops.new) (command ∷ [])) }
     ensures one { IfOk result (λ n. n ≤ 1) }
 {
-    let answered = pool.step(&command);
+    let answered = pool.step(&command, tops, touch);
     drop(command);
     let reply = answered?;
     let offered = offer(alloc, &reply, sink);

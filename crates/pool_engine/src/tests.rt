@@ -1,12 +1,17 @@
 // Scripts with their replies, over sources and sinks in memory that are cut and fail.
 #![tactic(auto, unfolding(pool_script::specs::Form::is_within_form))]
 
+ghost use Rattle.std.specs.Prelude.{◌≡◌};
+
 use crate::*;
 use pool_io::{MemorySink, MemorySource};
 use pool_replies::{Refusal, Reply};
 use pool_script::Command;
+use pool_steps::Steps;
 use pool_text::{OutOfMemory, Slots, Text};
 use std::alloc::Global;
+use std::marker::Brand;
+use std::sync::ledger::{Blank, Ledger};
 use std::test::Fail;
 
 // The number of the one call that fails, or of none where it is 0.
@@ -30,13 +35,41 @@ fn run(
     let mut source = MemorySource::new(text, most.0.max(1), calls(alloc, source_fails)?);
     let mut sink = MemorySink::new(alloc, most.1.max(1), 1 << 20, calls(alloc, sink_fails)?)?;
     let words = Vec::new(alloc);
-    let end = run_pool(alloc, &words, &mut source, &mut sink);
+    let end = run_counted::<Brand, Brand>(
+        alloc,
+        &words,
+        &mut source,
+        &mut sink,
+        Blank::new(1),
+        Blank::new(1),
+    );
     let written = Text::from_bytes(alloc, sink.taken())?;
     Ok((end, written))
 }
 
+// Runs a script with counters of its own.
+fn run_counted<F: Ledger, T: Ledger>(
+    alloc: Global,
+    words: &[Text],
+    source: &mut MemorySource,
+    sink: &mut MemorySink,
+    tops: Blank,
+    touch: Blank,
+) -> RunEnd
+    requires tops_name { tops.name ≡ F.name }
+    requires tops_parts { tops.parts ≡ F.parts }
+    requires tops_one { tops.parts ≡ 1 }
+    requires touch_name { touch.name ≡ T.name }
+    requires touch_parts { touch.parts ≡ T.parts }
+    requires touch_one { touch.parts ≡ 1 }
+{
+    let mut tops = Steps::<F>::new(tops);
+    let mut touch = Steps::<T>::new(touch);
+    run_pool(alloc, words, source, sink, &mut tops, &mut touch)
+}
+
 /// Scripts with how many commands are refused, and the replies.
-const SCRIPTS: [(&[u8], u64, &[u8]); 10] = [
+const SCRIPTS: [(&[u8], u64, &[u8]); 11] = [
     (b"", 0, b""),
     (
         b"eval false && error\neval error && false\neval true && undefined\n",
@@ -59,6 +92,11 @@ const SCRIPTS: [(&[u8], u64, &[u8]); 10] = [
         b"clock 5\nclock 5\nclock 4\nclock x\nclock 1000000000000\nclock 1000000000001",
         3,
         b"clock 5 expired 0\nclock 5 expired 0\nrefused 7 clock goes back\nrefused 3 wrong words\nclock 1000000000000 expired 0\nrefused 3 wrong words\n",
+    ),
+    (
+        b"advertise a 5\n[ x = 1 ]\n.\nclock 2\nadvertise b 5\n[ ]\n.\nadvertise a 4\n[ y = { } ]\n.\nlist\nshow a\nclock 6\nwithdraw a\nshow a\nclock 7\nlist\nadvertise c 1\n[\n.\n",
+        3,
+        b"advertised a\nclock 2 expired 0\nadvertised b\nreplaced a\nads 2\na 2 4 free\nb 2 5 free\n[ y = { } ]\nclock 6 expired 1\nrefused 8 name not known\nrefused 8 name not known\nclock 7 expired 1\nads 0\nrefused 6 grammar\n",
     ),
     (
         b"query\n# no comment\n.\nquery\neval 1\n",
@@ -181,7 +219,14 @@ fn any_word_is_wrong(rt: HostRuntime) -> Result<(), Fail> {
     let text = Text::from_bytes(alloc, b"eval 1")?;
     let mut source = MemorySource::new(text, 4096, Slots::new(alloc));
     let mut sink = MemorySink::new(alloc, 4096, 100, Slots::new(alloc))?;
-    let end = run_pool(alloc, &words, &mut source, &mut sink);
+    let end = run_counted::<Brand, Brand>(
+        alloc,
+        &words,
+        &mut source,
+        &mut sink,
+        Blank::new(1),
+        Blank::new(1),
+    );
     assert!(rt; end == RunEnd::BadWords);
     assert_eq!(rt; sink.taken(), b"".as_slice());
     Ok(())
@@ -203,20 +248,39 @@ fn statuses(rt: HostRuntime) {
     }
 }
 
+// The replies to two commands of one pool.
+fn two_steps<F: Ledger, T: Ledger>(
+    alloc: Global,
+    tops: Blank,
+    touch: Blank,
+) -> Result<(Reply, Reply), OutOfMemory>
+    requires tops_name { tops.name ≡ F.name }
+    requires tops_parts { tops.parts ≡ F.parts }
+    requires tops_one { tops.parts ≡ 1 }
+    requires touch_name { touch.name ≡ T.name }
+    requires touch_parts { touch.parts ≡ T.parts }
+    requires touch_one { touch.parts ≡ 1 }
+{
+    let mut tops = Steps::<F>::new(tops);
+    let mut touch = Steps::<T>::new(touch);
+    let mut pool = Pool::new(alloc);
+    let first = pool.step(&Command::Clock(7), &mut tops, &mut touch)?;
+    let second = pool.step(&Command::Clock(6), &mut tops, &mut touch)?;
+    Ok((first, second))
+}
+
 #[test]
 fn a_pool_steps(rt: HostRuntime) -> Result<(), Fail> {
-    let mut pool = Pool::new(rt.alloc());
-    let reply = pool.step(&Command::Clock(7))?;
+    let (first, second) = two_steps::<Brand, Brand>(rt.alloc(), Blank::new(1), Blank::new(1))?;
     assert!(rt;
         matches!(
-            reply,
+            first,
             Reply::Clock {
                 moment: 7,
                 expired: 0
             }
         )
     );
-    let reply = pool.step(&Command::Clock(6))?;
-    assert!(rt; matches!(reply, Reply::Refused(Refusal::ClockBack)));
+    assert!(rt; matches!(second, Reply::Refused(Refusal::ClockBack)));
     Ok(())
 }

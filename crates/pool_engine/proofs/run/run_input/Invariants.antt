@@ -1,10 +1,12 @@
 use Rattle.std.proofs.Common.{◌≡◌, length}
+use Rattle.pool_engine.specs.Ends.{effects}
+use Rattle.pool_engine.specs.Pool.{state_of}
 use Rattle.pool_engine.proofs.ReadingLemmas.{Reading}
 use Rattle.pool_engine.proofs.run.run_input.Given as goal
 
 abbrev pub invariant-loop-left : goal.invariant-loop-left
 invariant-loop-left g l = record {
-  reading : Reading (g.S.Source.shows l.initial.source) (g.S.Source.shows l.source) (g.K.Sink.shows l.initial.sink) (g.K.Sink.shows l.sink) l.session.script l.session.pool.state l.session.refused l.left;
+  reading : Reading (g.S.Source.shows l.initial.source) (g.S.Source.shows l.source) (effects (g.K.Sink.shows l.initial.sink) l.initial.tops) (effects (g.K.Sink.shows l.sink) l.tops) l.session.script (state_of l.session.pool) l.session.refused l.left;
   room : length l.buffer ≡ 4096;
 }
 

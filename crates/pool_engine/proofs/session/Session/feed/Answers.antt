@@ -1,0 +1,6 @@
+use Rattle.std.proofs.Common.{◌++◌, ℕ, List}
+use Rattle.pool_engine.proofs.AdLemmas.{always_ok}
+use Rattle.pool_engine.proofs.session.Session.feed.Goals as goal
+
+pub returns-clause-stands : goal.returns-clause-stands
+returns-clause-stands g c = always_ok c.run_waiting.result _ (λ bytes n stands. c.run_waiting.ensures.stands (bytes ++ c.args.piece.now) n (c.in_ok-feed.ensures.stands bytes n stands))

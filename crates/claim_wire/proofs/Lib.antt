@@ -1,0 +1,2 @@
+mod CustomerLemmas
+mod ListLemmas

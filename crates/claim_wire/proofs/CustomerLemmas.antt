@@ -110,3 +110,116 @@ ask-keeps sent r s phases.Idle is = record {
 ask-keeps sent r s phases.Asked is = quiet sent s
 ask-keeps sent r s phases.Holding is = quiet sent s
 ask-keeps sent r s phases.Leaving is = quiet sent s
+
+-- the message that was sent is the one that is meant
+some-is : {A : Type 0} (a b : A) → Some a ≡ Some b → a ≡ b
+some-is a b e = cc
+
+kind-is : (kind : MessageKind) (s : CustomerState) (m : Message) → Some (message_of kind s) ≡ Some m → m.kind ≡ kind
+kind-is kind s m sends = ap (λ (n : Message). n.kind) (sym (some-is (message_of kind s) m sends))
+
+left-is : (kind : MessageKind) (s t : CustomerState) (m : Message) → Some (message_of kind s) ≡ Some m → t.number ≡ s.number → IsAway t.phase → (m.customer ≡ s.id) × IsPast m.number t
+left-is kind s t m sends number away =
+    let same : message_of kind s ≡ m = some-is (message_of kind s) m sends in
+    (ap (λ (n : Message). n.customer) (sym same), inr (ap (λ (n : Message). n.number) (sym same) ∙ sym number, away))
+
+pub again-keeps : (sent : List Message) (s : CustomerState) (phase : Phase) → s.phase ≡ phase → Keeps sent s s (again_by phase s)
+again-keeps sent s phases.Idle is = quiet sent s
+again-keeps sent s phases.Asked is =
+    stays sent s _ (λ m sends grants. let kind : m.kind ≡ kinds.Ask = kind-is kinds.Ask s m sends in absurd (cc)) (λ m sends leaves. let kind : m.kind ≡ kinds.Ask = kind-is kinds.Ask s m sends in absurd (cc))
+again-keeps sent s phases.Holding is = quiet sent s
+again-keeps sent s phases.Leaving is =
+    stays sent s _ (λ m sends grants. let kind : m.kind ≡ kinds.Leave = kind-is kinds.Leave s m sends in absurd (cc)) (λ m sends leaves. left-is kinds.Leave s s m sends refl (subst IsAway (sym is) tt))
+
+-- where the phase alone changes, to one in which the claim is no longer asked for or held
+targeted-in : (target : Option ℕ) (phase other : Phase) (n : ℕ) → phase ≢ phases.Idle → IsTargeted target phase n → IsTargeted target other n
+targeted-in None phase other n busy is = absurd (busy is)
+targeted-in (Some r) phase other n busy is = is
+
+leaves-to : (sent : List Message) (s : CustomerState) → s.phase ≢ phases.Idle → Keeps sent s (in_phase phases.Leaving s) (Some (message_of kinds.Leave s))
+leaves-to sent s busy = record {
+  same = refl;
+  past = λ k p. elim p [ inl less ↦ inl less | inr same ↦ inr (same.0, tt) ];
+  targeted = targeted-in s.target s.phase phases.Leaving s.number busy;
+  holding = λ held. absurd (cc);
+  no_grant = λ m sends grants. let kind : m.kind ≡ kinds.Leave = kind-is kinds.Leave s m sends in absurd (cc);
+  left = λ m sends leaves. left-is kinds.Leave s (in_phase phases.Leaving s) m sends refl tt;
+}
+
+pub leave-keeps : (sent : List Message) (s : CustomerState) (phase : Phase) → s.phase ≡ phase → Keeps sent s (leave_by phase s).0 (leave_by phase s).1
+leave-keeps sent s phases.Idle is = quiet sent s
+leave-keeps sent s phases.Asked is = leaves-to sent s (λ idle. absurd (cc))
+leave-keeps sent s phases.Holding is = leaves-to sent s (λ idle. absurd (cc))
+leave-keeps sent s phases.Leaving is = quiet sent s
+
+-- a restart
+pub restart-keeps : (sent : List Message) (s : CustomerState) (target : Option ℕ) → s.target ≡ target → Keeps sent s (in_phase (phase_again target) s) None
+restart-keeps sent s None is = record {
+  same = refl;
+  past = λ k p. elim p [ inl less ↦ inl less | inr same ↦ inr (same.0, tt) ];
+  targeted = λ old. subst (λ o. IsTargeted o phases.Idle s.number) (sym is) refl;
+  holding = λ held. absurd (cc);
+  no_grant = λ m sends. absurd (cc);
+  left = λ m sends. absurd (cc);
+}
+restart-keeps sent s (Some r) is = record {
+  same = refl;
+  past = λ k p. elim p [ inl less ↦ inl less | inr same ↦ inr (same.0, tt) ];
+  targeted = λ old. let n : 0 < s.number = subst (λ o. IsTargeted o s.phase s.number) is old in subst (λ o. IsTargeted o phases.Leaving s.number) (sym is) n;
+  holding = λ held. absurd (cc);
+  no_grant = λ m sends. absurd (cc);
+  left = λ m sends. absurd (cc);
+}
+
+-- ---- messages that come
+
+target-is : (o : Option ℕ) (r : ℕ) → is_target o r ≡ true → o ≡ Some r
+target-is None r is = absurd (cc)
+target-is (Some t) r is = ap Some (eqb-true t r is)
+
+-- the phase alone changes to Holding, by a grant that was sent
+grants-to : (sent : List Message) (s : CustomerState) (m : Message) → s.phase ≡ phases.Asked → m.kind ≡ kinds.Grant → m.customer ≡ s.id → Contains sent m → s.target ≡ Some m.resource → s.number ≡ m.number → Keeps sent s (in_phase phases.Holding s) None
+grants-to sent s m asked kind to has target number = record {
+  same = refl;
+  past = λ k p. elim p [ inl less ↦ inl less | inr same ↦ absurd (subst IsAway asked same.1) ];
+  targeted = targeted-in s.target s.phase phases.Holding s.number (λ idle. absurd (cc));
+  holding = λ held. inr (m.resource, target, subst (Contains sent) message has);
+  no_grant = λ n sends. absurd (cc);
+  left = λ n sends. absurd (cc);
+}
+  where
+    message : m ≡ grant_message s.id m.resource s.number
+    message =
+        ap (λ (k : MessageKind). record { kind = k; customer = m.customer; resource = m.resource; number = m.number }) kind
+        ∙ ap (λ (c : ℕ). grant_message c m.resource m.number) to ∙ ap (λ (k : ℕ). grant_message s.id m.resource k) (sym number)
+
+gone-to : (sent : List Message) (s : CustomerState) → s.phase ≡ phases.Leaving → Keeps sent s (record { id = s.id; number = s.number; target = None; phase = phases.Idle }) None
+gone-to sent s leaving = record {
+  same = refl;
+  past = λ k p. elim p [ inl less ↦ inl less | inr same ↦ inr (same.0, tt) ];
+  targeted = λ old. refl;
+  holding = λ held. absurd (cc);
+  no_grant = λ n sends. absurd (cc);
+  left = λ n sends. absurd (cc);
+}
+
+take-by : (sent : List Message) (s : CustomerState) (m : Message) (phase : Phase) (kind : MessageKind) → s.phase ≡ phase → m.kind ≡ kind → m.customer ≡ s.id → Contains sent m → s.target ≡ Some m.resource → s.number ≡ m.number → Keeps sent s (take_by phase kind s) None
+take-by sent s m phases.Asked kinds.Grant is kind to has target number = grants-to sent s m is kind to has target number
+take-by sent s m phases.Leaving kinds.Gone is kind to has target number = gone-to sent s is
+take-by sent s m phases.Asked kinds.Ask is kind to has target number = quiet sent s
+take-by sent s m phases.Asked kinds.Leave is kind to has target number = quiet sent s
+take-by sent s m phases.Asked kinds.Gone is kind to has target number = quiet sent s
+take-by sent s m phases.Leaving kinds.Ask is kind to has target number = quiet sent s
+take-by sent s m phases.Leaving kinds.Grant is kind to has target number = quiet sent s
+take-by sent s m phases.Leaving kinds.Leave is kind to has target number = quiet sent s
+take-by sent s m phases.Idle kind is k to has target number = quiet sent s
+take-by sent s m phases.Holding kind is k to has target number = quiet sent s
+
+take-if : (sent : List Message) (s : CustomerState) (m : Message) (mine : Bool) → is_for m s ≡ mine → m.customer ≡ s.id → Contains sent m → Keeps sent s (cond mine (take_by s.phase m.kind s) s) None
+take-if sent s m true is to has =
+    let both = and_parts (is_target s.target m.resource) (eqb s.number m.number) is in
+    take-by sent s m s.phase m.kind refl refl to has (target-is s.target m.resource both.0) (eqb-true s.number m.number both.1)
+take-if sent s m false is to has = quiet sent s
+
+pub take-keeps : (sent : List Message) (s : CustomerState) (m : Message) → m.customer ≡ s.id → Contains sent m → Keeps sent s (take m s) None
+take-keeps sent s m to has = take-if sent s m (is_for m s) refl to has

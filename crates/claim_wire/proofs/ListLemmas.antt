@@ -59,7 +59,7 @@ raised-at : (freed : List ℕ) (i j k : ℕ) → (get_or (set freed i (max (get_
 raised-at [] i j k = inl refl
 raised-at (x ∷ xs) zero zero k = larger x k
   where
-    larger : (a b : ℕ) → (max a b ≡ a) ⊎ ((0 ≡ 0) × (max a b ≡ b) × (a ≤ b))
+    larger : (a b : ℕ) → (max a b ≡ a) ⊎ ((zero ≡ zero) × (max a b ≡ b) × (a ≤ b))
     larger a b = elim (cases_lt a b) [ inl less ↦ inr (refl, omega arith, omega arith) | inr most ↦ inl (omega arith) ]
 raised-at (x ∷ xs) zero (suc j) k = inl refl
 raised-at (x ∷ xs) (suc i) zero k = inl refl

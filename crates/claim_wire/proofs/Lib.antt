@@ -1,0 +1,4 @@
+mod CustomerLemmas
+mod ListLemmas
+mod ResourceLemmas
+mod WireLemmas

@@ -1,4 +1,0 @@
-mod CustomerLemmas
-mod ListLemmas
-mod ResourceLemmas
-mod WireLemmas

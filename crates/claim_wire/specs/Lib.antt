@@ -1,4 +1,0 @@
-pub mod Customers
-pub mod Facts
-pub mod Resources
-pub mod Wires

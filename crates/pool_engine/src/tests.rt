@@ -35,14 +35,7 @@ fn run(
     let mut source = MemorySource::new(text, most.0.max(1), calls(alloc, source_fails)?);
     let mut sink = MemorySink::new(alloc, most.1.max(1), 1 << 20, calls(alloc, sink_fails)?)?;
     let words = Vec::new(alloc);
-    let end = run_counted::<Brand, Brand>(
-        alloc,
-        &words,
-        &mut source,
-        &mut sink,
-        Blank::new(1),
-        Blank::new(1),
-    );
+    let end = run_uncounted(alloc, &words, &mut source, &mut sink);
     let written = Text::from_bytes(alloc, sink.taken())?;
     Ok((end, written))
 }
@@ -66,6 +59,15 @@ fn run_counted<F: Ledger, T: Ledger>(
     let mut tops = Steps::<F>::new(tops);
     let mut touch = Steps::<T>::new(touch);
     run_pool(alloc, words, source, sink, &mut tops, &mut touch)
+}
+
+fn run_uncounted(
+    alloc: Global,
+    words: &[Text],
+    source: &mut MemorySource,
+    sink: &mut MemorySink,
+) -> RunEnd {
+    run_counted::<Brand, Brand>(alloc, words, source, sink, Blank::new(1), Blank::new(1))
 }
 
 /// Scripts with how many commands are refused, and the replies.
@@ -219,14 +221,7 @@ fn any_word_is_wrong(rt: HostRuntime) -> Result<(), Fail> {
     let text = Text::from_bytes(alloc, b"eval 1")?;
     let mut source = MemorySource::new(text, 4096, Slots::new(alloc));
     let mut sink = MemorySink::new(alloc, 4096, 100, Slots::new(alloc))?;
-    let end = run_counted::<Brand, Brand>(
-        alloc,
-        &words,
-        &mut source,
-        &mut sink,
-        Blank::new(1),
-        Blank::new(1),
-    );
+    let end = run_uncounted(alloc, &words, &mut source, &mut sink);
     assert!(rt; end == RunEnd::BadWords);
     assert_eq!(rt; sink.taken(), b"".as_slice());
     Ok(())

@@ -1,0 +1,7 @@
+use Rattle.classad_pool.proofs.run_script.Given as goal
+
+abbrev pub ghosts-run_uncounted-F-Ledger : goal.ghosts-run_uncounted-F-Ledger
+ghosts-run_uncounted-F-Ledger a = record { name = a.tops.name; parts = a.tops.parts }
+
+abbrev pub ghosts-run_uncounted-T-Ledger : goal.ghosts-run_uncounted-T-Ledger
+ghosts-run_uncounted-T-Ledger a = record { name = a.touch.name; parts = a.touch.parts }

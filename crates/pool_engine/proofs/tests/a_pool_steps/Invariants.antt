@@ -1,0 +1,7 @@
+use Rattle.pool_engine.proofs.tests.a_pool_steps.Given as goal
+
+abbrev pub ghosts-two_steps-F-Ledger : goal.ghosts-two_steps-F-Ledger
+ghosts-two_steps-F-Ledger g a = record { name = a.tops.name; parts = a.tops.parts }
+
+abbrev pub ghosts-two_steps-T-Ledger : goal.ghosts-two_steps-T-Ledger
+ghosts-two_steps-T-Ledger g a = record { name = a.touch.name; parts = a.touch.parts }

@@ -1,0 +1,7 @@
+use Rattle.pool_engine.proofs.tests.run_uncounted.Given as goal
+
+abbrev pub ghosts-run_counted-F-Ledger : goal.ghosts-run_counted-F-Ledger
+ghosts-run_counted-F-Ledger a = record { name = a.tops.name; parts = a.tops.parts }
+
+abbrev pub ghosts-run_counted-T-Ledger : goal.ghosts-run_counted-T-Ledger
+ghosts-run_counted-T-Ledger a = record { name = a.touch.name; parts = a.touch.parts }

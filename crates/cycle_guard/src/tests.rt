@@ -33,7 +33,10 @@ fn states(rt: HostRuntime) -> Result<(), Fail> {
     }
     for n in (0..12).rev() {
         advance(&mut guard, n)?;
-        assert!(rt; matches!(guard.state(pos(n / 2)), Seen::Pending) || n < 2, "{n}");
+        assert!(rt;
+            matches!(guard.state(pos(n / 2)), Seen::Pending) || n < 2,
+            "{n}"
+        );
     }
     for n in 0..12 {
         let Seen::Done(Value::Integer(value), height) = guard.state(pos(n)) else {

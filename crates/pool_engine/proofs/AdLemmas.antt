@@ -1,10 +1,8 @@
 -- Ads beside their slots, and ads that leave.
-use Rattle.std.proofs.Common.{◌≡◌, ℕ, zero, suc, ◌+◌, ◌<◌, Bool, true, false, not, ◌||◌, List, [], ◌∷◌, ◌++◌, length, map, take, filter, find, Option, None, Some, slice_get, option_map, Result, Ok, Err, OnOk, OnErr, refl, sym, ◌∙◌, ap, inl, inr, arith}
+use Rattle.std.proofs.Common.{◌≡◌, ℕ, zero, suc, ◌+◌, ◌<◌, Bool, true, false, not, List, [], ◌∷◌, ◌++◌, length, map, take, find, None, Some, slice_get, option_map, Result, Ok, Err, OnOk, OnErr, refl, sym, ◌∙◌, ap, inl, inr, arith}
 use Rattle.std.proofs.lemmas.Bool.{cases_Bool}
 use Rattle.std.proofs.lemmas.List.{length-map}
-use Rattle.std.specs.List.{list_any}
 use Rattle.std.specs.Cmp.Lexicographic.{bytes_decides}
-use Rattle.std.specs.Str.{bytes_eq}
 use Rattle.ad_store.specs.declared.store.Store.{Store}
 use Rattle.ad_store.specs.Store.{stock_of}
 use Rattle.pool_replies.specs.declared.rows.AdRow.{AdRow}

@@ -3,7 +3,7 @@ use Rattle.std.proofs.Common.{◌≡◌, ◌≢◌, ℕ, ◌+◌, ◌≤◌, Lis
 use Rattle.std.proofs.lemmas.List.{append-nil}
 use Rattle.std.specs.Io.KnownBytes.{Consumes}
 use Rattle.pool_io.specs.Flow.{Supply}
-use Rattle.pool_script.specs.Commands.{ended_commands, whole_commands}
+use Rattle.pool_script.specs.Commands.{whole_commands}
 use Rattle.pool_script.specs.declared.command.Command.{Command}
 use Rattle.pool_script.proofs.CountLemmas.{ended_before_whole}
 use Rattle.pool_replies.specs.Replies.{reply_text}

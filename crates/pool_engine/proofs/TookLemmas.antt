@@ -8,7 +8,7 @@ use Rattle.pool_replies.specs.Replies.{refusal_count, reply_text}
 use Rattle.pool_engine.specs.declared.run.RunEnd.{RunEnd}
 use Rattle.pool_engine.specs.declared.run.RunEnd.TheVariants.{Done, BadWords, ReadFault, WriteFault, TooLong, OutOfMemory}
 use Rattle.pool_engine.specs.Ends.{Broke, Effects, Wrote}
-use Rattle.pool_engine.specs.Events.{allowed_of, events_of, refusals_of, replies_text, state_after}
+use Rattle.pool_engine.specs.Events.{allowed_of, events_of, replies_text, state_after}
 use Rattle.pool_engine.specs.Session.{Lacks, Stopped, Took}
 use Rattle.pool_engine.specs.State.{State}
 use Rattle.pool_engine.specs.Step.{allowance, step}

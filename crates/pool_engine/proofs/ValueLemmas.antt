@@ -1,11 +1,11 @@
 -- Chains of `&&` and `||`, element by element.
-use Rattle.std.proofs.Common.{◌≡◌, ℕ, zero, suc, ◌≤◌, Bool, true, false, List, [], ◌∷◌, length, drop, Option, None, Some, slice_get, refl, sym, ◌∙◌, ap, arith}
+use Rattle.std.proofs.Common.{◌≡◌, ℕ, zero, suc, Bool, true, false, List, [], ◌∷◌, drop, Some, slice_get, refl, sym, ◌∙◌, ap}
 use Rattle.ad_tree.specs.Tree.{Tree, Trees, none, more, pack}
 use Rattle.ad_value.specs.Logic.{and_value, or_value, and_is_decided, or_is_decided}
 use Rattle.ad_value.specs.declared.value.Value.{fold-roll-Value}
 use Rattle.ad_value.specs.declared.value.Value.TheVariants as value
 use Rattle.ad_value.specs.Plain.{Plain, undefined, error, boolean, integer, text, list, ad_at, plain, value_step, values_step}
-use Rattle.pool_engine.specs.Values.{are_built, conjunction, disjunction}
+use Rattle.pool_engine.specs.Values.{conjunction, disjunction}
 
 -- the trees of a list from a place on: the one there, and those behind it
 pub pack-drop : (ts : List Tree) (i : ℕ) (t : Tree) → slice_get ts i ≡ Some t → pack (drop i ts) ≡ more t (pack (drop (suc i) ts))

@@ -1,5 +1,5 @@
 -- Writes one after the other.
-use Rattle.std.proofs.Common.{ℕ, ◌+◌, ◌≤◌, ◌<◌, List, [], ◌++◌, length, take, Result, Ok, Err, IsOk, refl, sym, ◌∙◌, subst, inl, inr, arith, length-append, append_assoc}
+use Rattle.std.proofs.Common.{ℕ, ◌<◌, List, [], ◌++◌, length, take, Ok, Err, IsOk, refl, sym, ◌∙◌, subst, inl, inr, arith, length-append, append_assoc}
 use Rattle.std.specs.Io.KnownBytes.{Appends}
 use Rattle.pool_io.specs.Flow.{Intake, WritesAll}
 use Rattle.pool_io.proofs.KnownLemmas.{Appends-append, Appends-nil}

@@ -3,7 +3,7 @@ use Rattle.std.specs.Prelude.{ℕ, Bool, true, false, ◌&&◌, List, [], codes}
 use Rattle.std.specs.Fmt.{signed_decimal}
 use Rattle.pool_text.specs.declared.language.Lit.{Lit}
 use Rattle.pool_text.specs.declared.language.Lit.TheVariants.{Str}
-use Rattle.ad_tree.specs.Tree.{Label, literal, all, any, Tree, node, Trees, none, more}
+use Rattle.ad_tree.specs.Tree.{literal, all, any, Tree, node, Trees, none, more}
 use Rattle.ad_value.specs.Logic.{and_value, or_value}
 use Rattle.ad_value.specs.Plain.{Plain, undefined, error, boolean, integer, plain_of_lit}
 

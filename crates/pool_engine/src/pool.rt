@@ -1,5 +1,5 @@
 // The pool and its steps.
-ghost use Rattle.std.specs.Prelude.{◌≡◌, ◌+◌, ◌≤◌, true, false, IfOk, IsErr, IsTrue, OnErr};
+ghost use Rattle.std.specs.Prelude.{◌≡◌, ◌+◌, ◌≤◌, true, false, IfOk, IsErr, IsTrue, OnErr, OnOk};
 ghost use Rattle.ad_parser.proofs.Outcomes.{expr_outcome};
 ghost use Rattle.ad_tree.specs.Tree.{tree};
 ghost use Rattle.pool_script.specs.Form.{is_expr, is_within_form};
@@ -58,6 +58,7 @@ impl Pool {
         requires { IsTrue (is_within_form command.now) }
         ensures step { IfOk result (λ reply. steps.step (state_of self.old) command.now ≡ (state_of self.new, reply)) }
         ensures printable { IfOk result (λ reply. IsTrue (is_printable reply)) }
+        ensures fresh { OnOk result (is_spent self.new ≡ false) }
         ensures memory { OnErr result (is_spent self.new ≡ true) }
         ensures cost { tops.new ≤ tops.old + steps.allowance (state_of self.old) command.now }
         ensures looks { touch.new ≤ touch.old + steps.looks command.now }

@@ -1,5 +1,5 @@
-use Rattle.std.proofs.Common.{◌≡◌, ◌+◌, ◌*◌, ◌<◌, suc, ◌&&◌, Bool, true, false, drop, add-one, sym, ◌∙◌, ap, arith}
-use Rattle.ad_tree.specs.Tree.{Trees, pack, size, size_all, tree, trees}
+use Rattle.std.proofs.Common.{◌≡◌, suc, ◌&&◌, Bool, true, false, drop, add-one, sym, ◌∙◌, ap, arith}
+use Rattle.ad_tree.specs.Tree.{Trees, pack, tree, trees}
 use Rattle.ad_tree.proofs.TreeLemmas.{size-at}
 use Rattle.pool_engine.specs.Values.{are_built, is_built}
 use Rattle.pool_engine.proofs.ValueLemmas.{pack-drop}

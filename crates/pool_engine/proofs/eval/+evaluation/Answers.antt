@@ -1,8 +1,8 @@
-use Rattle.std.proofs.Common.{◌≡◌, ◌+◌, ◌*◌, ◌<◌, suc, true, false, drop, add-one, sym, ◌∙◌, ap, rules, arith}
-use Rattle.ad_tree.specs.Tree.{Trees, pack, size, size_all, tree, trees}
+use Rattle.std.proofs.Common.{suc, true, false, drop, add-one, sym, ◌∙◌, ap, arith}
+use Rattle.ad_tree.specs.Tree.{Trees, pack, tree, trees}
 use Rattle.ad_tree.proofs.TreeLemmas.{size-at}
 use Rattle.ad_value.specs.Logic.{and_value, or_value}
-use Rattle.ad_value.specs.Plain.{Plain, boolean, plain}
+use Rattle.ad_value.specs.Plain.{Plain, plain}
 use Rattle.pool_engine.specs.Values.{conjunction, disjunction}
 use Rattle.pool_engine.proofs.ValueLemmas.{plain-Boolean, pack-drop, is_logical, is_logical-boolean, is_logical-and, is_logical-or, conjunction-decided, disjunction-decided}
 use Rattle.pool_engine.proofs.eval.+evaluation.Goals as goal

@@ -1,4 +1,4 @@
-use Rattle.std.proofs.Common.{refl, arith, length-take}
+use Rattle.std.proofs.Common.{arith, length-take}
 use Rattle.std.proofs.lemmas.Result.{err_from_is_err_and}
 use Rattle.pool_engine.specs.Pool.{state_of}
 use Rattle.pool_engine.proofs.ReadingLemmas.{Reading-finish, Reading-past, Reading-piece, Reading-room, Reading-room_last, Reading-stopped, take_one}

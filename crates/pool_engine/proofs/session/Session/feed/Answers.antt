@@ -1,4 +1,4 @@
-use Rattle.std.proofs.Common.{◌++◌, ℕ, List}
+use Rattle.std.proofs.Common.{◌++◌}
 use Rattle.pool_engine.proofs.AdLemmas.{always_ok}
 use Rattle.pool_engine.proofs.session.Session.feed.Goals as goal
 

@@ -14,9 +14,10 @@ fn pos(n: u32) -> Pos {
 
 // One step on: what is unseen becomes pending, and what is pending gets its number as its value and its height.
 fn advance(guard: &mut Guard, n: u32) -> Result<(), OutOfMemory> {
-    match guard.state(pos(n)) {
-        Seen::Unseen => guard.enter(pos(n))?,
-        Seen::Pending => guard.finish(pos(n), Value::Integer(i64::from(n)), n),
+    let at = pos(n);
+    match guard.state(at) {
+        Seen::Unseen => guard.enter(at)?,
+        Seen::Pending => guard.finish(at, Value::Integer(i64::from(n)), n),
         Seen::Done(_, _) => {}
     }
     Ok(())

@@ -1,28 +1,59 @@
+// What names find, worked out by hand.
+ghost use Rattle.std.specs.Prelude.{◌≡◌, ◌<◌, ◌≤◌, length};
+ghost use Rattle.ad_tree.specs.Draft.{draft_frames};
+
 use crate::{Found, World};
 use ad_tree::{Ad, Draft, Expr, Port, Ports, Scope};
 use pool_text::{AdPlace, Lit, OutOfMemory, Text};
 use std::alloc::Global;
-use std::process::Abort;
 use std::test::Fail;
 
-// An ad with so many inner frames in its root, and with these attributes by frame and name.
-fn ad(
-    rt: &impl Abort,
-    alloc: Global,
-    inner: &[&'static str],
-    names: &[(u32, &'static str)],
-) -> Result<Ad, OutOfMemory> {
+// Defines a name in the root of a draft.
+fn define(alloc: Global, draft: &mut Draft, name: &str) -> Result<(), OutOfMemory>
+    requires { 0 < length (draft_frames draft.old) }
+    ensures { length (draft_frames draft.new) ≡ length (draft_frames draft.old) }
+{
+    let name = Text::from_bytes(alloc, name.as_bytes())?;
+    draft.define(0, name, Expr::Literal(Lit::Undefined))
+}
+
+// Defines a name in the root as an ad literal with these two names.
+fn nest(alloc: Global, draft: &mut Draft, name: &str, names: [&str; 2]) -> Result<(), OutOfMemory>
+    requires { 0 < length (draft_frames draft.old) }
+    ensures { length (draft_frames draft.old) ≤ length (draft_frames draft.new) }
+{
+    let first = Text::from_bytes(alloc, names[0].as_bytes())?;
+    let second = Text::from_bytes(alloc, names[1].as_bytes())?;
+    let name = Text::from_bytes(alloc, name.as_bytes())?;
+    let frame = draft.frame(0)?;
+    draft.define(frame, first, Expr::Literal(Lit::Undefined))?;
+    draft.define(frame, second, Expr::Literal(Lit::Undefined))?;
+    draft.define(0, name, Expr::Frame(frame))
+}
+
+// A request with three frames in its root.
+fn request(alloc: Global) -> Result<Ad, OutOfMemory> {
     let mut draft = Draft::new(alloc);
-    for name in inner {
-        let frame = draft.frame(0)?;
-        let name = Text::from_bytes(alloc, name.as_bytes())?;
-        draft.define(0, name, Expr::Frame(frame))?;
-    }
-    for (frame, name) in names {
-        assert!(rt; (*frame as usize) < draft.count());
-        let name = Text::from_bytes(alloc, name.as_bytes())?;
-        draft.define(*frame, name, Expr::Literal(Lit::Undefined))?;
-    }
+    nest(alloc, &mut draft, "one", ["x", "p"])?;
+    nest(alloc, &mut draft, "two", ["q", "r"])?;
+    nest(alloc, &mut draft, "three", ["q", "r"])?;
+    define(alloc, &mut draft, "x")?;
+    define(alloc, &mut draft, "a")?;
+    draft.finish()
+}
+
+// A resource with one attribute, and one with a frame in its root.
+fn first_resource(alloc: Global) -> Result<Ad, OutOfMemory> {
+    let mut draft = Draft::new(alloc);
+    define(alloc, &mut draft, "z")?;
+    draft.finish()
+}
+
+fn second_resource(alloc: Global) -> Result<Ad, OutOfMemory> {
+    let mut draft = Draft::new(alloc);
+    nest(alloc, &mut draft, "in", ["deep", "deeper"])?;
+    define(alloc, &mut draft, "x")?;
+    define(alloc, &mut draft, "y")?;
     draft.finish()
 }
 
@@ -58,14 +89,9 @@ fn spelled(alloc: Global, found: Found) -> Result<String, Fail> {
 #[test]
 fn looks(rt: HostRuntime) -> Result<(), Fail> {
     let alloc = rt.alloc();
-    let request = ad(
-        &rt,
-        alloc,
-        &["one", "two", "three"],
-        &[(0, "x"), (0, "a"), (1, "x"), (1, "p")],
-    )?;
-    let first = ad(&rt, alloc, &[], &[(0, "z")])?;
-    let second = ad(&rt, alloc, &["in"], &[(0, "x"), (0, "y"), (1, "deep")])?;
+    let request = request(alloc)?;
+    let first = first_resource(alloc)?;
+    let second = second_resource(alloc)?;
     let mut ports = Ports::new(alloc);
     for (i, label) in ["a", "b", "c"].iter().enumerate() {
         let label = Text::from_bytes(alloc, label.as_bytes())?;
@@ -87,7 +113,7 @@ fn looks(rt: HostRuntime) -> Result<(), Fail> {
     }
     assert_eq!(rt; world.request_place(), AdPlace { ad: 0, frame: 2 });
     assert_eq!(rt; world.resource_place(), AdPlace { ad: 2, frame: 0 });
-    assert_eq!(rt; world.attributes(), 12);
+    assert_eq!(rt; world.attributes(), 17);
     assert_eq!(rt; world.size_of(AdPlace { ad: 0, frame: 0 }), 5);
     assert_eq!(rt; world.moment(), 7);
     Ok(())

@@ -1,0 +1,17 @@
+//! The values of expressions in the world of docked ads, and with them requirements, ranks and docks.
+#![tactic(auto)]
+
+mod branch;
+mod calls;
+mod chains;
+mod evaluation;
+mod laws;
+mod outcome;
+mod reference;
+mod scene;
+mod top;
+
+pub use laws::{
+    circles_have_no_value, equal_worlds_are_evaluated_alike, more_references_keep_a_value,
+};
+pub use top::{dock, rank, requirement, value};

@@ -5,6 +5,8 @@ mod laws;
 mod operators;
 mod printing;
 mod quoting;
+#[cfg(test)]
+mod tests;
 mod value;
 mod writing;
 

@@ -12,7 +12,7 @@ pub struct Held<'a> {
 
 /// What is known of the resources' offers and claims, by their slots.
 pub trait Holdings {
-    ghost use Rattle.std.specs.Prelude.{◌≡◌, ℕ, Bool, Option, Some, length, max, option_map, slice_get};
+    ghost use Rattle.std.specs.Prelude.{◌≡◌, ℕ, Bool, Option, Some, IfSome, length, max, option_map, slice_get};
     ghost use Rattle.ad_store.specs.Holdings.{Holding, holding_of};
 
     /// Whether the resource in a slot is offered.
@@ -27,11 +27,9 @@ pub trait Holdings {
 
     /// Who holds the resource in this slot, `None` exactly where it isn't claimed.
     fn holder(&self, slot: usize) -> Option<Held<'_>>
-        ensures { option_map holding_of result ≡ holding self.now slot };
+        ensures who { option_map holding_of result ≡ holding self.now slot }
 
-    /// The resource stands at its port in its holder's list.
-    ghost stands: { (s : Self) (slot : ℕ) (h : Holding) → holding s slot ≡ Some h → slice_get h.slots h.port ≡ Some slot };
-
-    /// The list has a resource for each port of the request, or one where it has none.
-    ghost fills: { (s : Self) (slot : ℕ) (h : Holding) → holding s slot ≡ Some h → length h.slots ≡ max 1 (length h.request.ports) };
+        // The resource stands at its port, and there is a resource for each port, or one where there are none.
+        ensures stands { IfSome result (λ h. slice_get h.slots.now h.port ≡ Some slot) }
+        ensures fills { IfSome result (λ h. length h.slots.now ≡ max 1 (length h.request.now.ports)) };
 }

@@ -17,7 +17,7 @@ const FIRST: usize = 8;
 
 /// What is known of an attribute: nothing yet, that it was entered, or its value with the least number of references that it
 /// needs, the one to itself included.
-#[derive(Debug)]
+#[derive(Clone, Copy, Debug)]
 pub enum Seen<'a> {
     Unseen,
     Pending,

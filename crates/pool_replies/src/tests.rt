@@ -140,16 +140,28 @@ fn a_cycle_leaves_out_turns_without_offers(rt: HostRuntime) -> Result<(), Fail> 
 fn refusals_have_their_lines(rt: HostRuntime) -> Result<(), Fail> {
     let alloc = rt.alloc();
     let unknown = Reply::Refused(Refusal::Line(2));
-    assert_eq!(rt; print_reply(alloc, &unknown)?.bytes(), b"refused 2 unknown command\n".as_slice());
+    assert_eq!(rt;
+        print_reply(alloc, &unknown)?.bytes(),
+        b"refused 2 unknown command\n".as_slice()
+    );
     assert_eq!(rt; refusals(&unknown), 1);
     let lexical = Reply::Refused(Refusal::AdText(ParseFault::Lex {
         kind: LexKind::Decimal,
         place: 12,
     }));
-    assert_eq!(rt; print_reply(alloc, &lexical)?.bytes(), b"refused 6 lexical 5 at 12\n".as_slice());
+    assert_eq!(rt;
+        print_reply(alloc, &lexical)?.bytes(),
+        b"refused 6 lexical 5 at 12\n".as_slice()
+    );
     let full = Reply::Refused(Refusal::Full(Room::JobText));
-    assert_eq!(rt; print_reply(alloc, &full)?.bytes(), b"refused 10 too much job text\n".as_slice());
+    assert_eq!(rt;
+        print_reply(alloc, &full)?.bytes(),
+        b"refused 10 too much job text\n".as_slice()
+    );
     let stale = Reply::Refused(Refusal::Stale(name(alloc, b"m1")?));
-    assert_eq!(rt; print_reply(alloc, &stale)?.bytes(), b"refused 12 stale m1\n".as_slice());
+    assert_eq!(rt;
+        print_reply(alloc, &stale)?.bytes(),
+        b"refused 12 stale m1\n".as_slice()
+    );
     Ok(())
 }

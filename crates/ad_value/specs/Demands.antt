@@ -1,5 +1,5 @@
 -- The operators that don't demand all that they are given. A result is none where the bound on references was passed; so is the whole where a part that is demanded is none.
-use Rattle.std.specs.Prelude.{ℕ, pos, negsuc, true, false, List, [], ◌∷◌, Option, None, Some, option_map, option_and_then, slice_get, unwrap_or, if◌then◌else◌}
+use Rattle.std.specs.Prelude.{ℕ, ℤ, pos, negsuc, true, false, List, [], ◌∷◌, Option, None, Some, option_map, option_and_then, slice_get, unwrap_or, if◌then◌else◌}
 use Rattle.pool_text.specs.declared.language.AdPlace.{AdPlace}
 use Rattle.ad_value.specs.Plain.{Plain, undefined, error, boolean, integer, text, list, ad_at, Plains, plains_of, elements}
 use Rattle.ad_value.specs.Limits.{bounded}
@@ -43,9 +43,10 @@ selected look name (ad_at place) = look place name
 selected look name undefined = Some undefined
 selected look name base = Some error
 
--- the element of a list at an index
-abbrev pub element : Plains → ℕ → Plain
-element items n = unwrap_or (slice_get (elements items) n) error
+-- the element of a list at an index from 0, Error where there is none
+abbrev pub element : Plains → ℤ → Plain
+element items (pos n) = unwrap_or (slice_get (elements items) n) error
+element items (negsuc n) = error
 
 -- `base[index]`, by the first line that fits
 abbrev pub subscripted : (AdPlace → List ℕ → Option Plain) → Plain → Plain → Option Plain
@@ -53,6 +54,6 @@ subscripted look error index = Some error
 subscripted look base error = Some error
 subscripted look undefined index = Some undefined
 subscripted look base undefined = Some undefined
-subscripted look (list items) (integer (pos n)) = Some (element items n)
+subscripted look (list items) (integer n) = Some (element items n)
 subscripted look (ad_at place) (text name) = look place name
 subscripted look base index = Some error

@@ -8,9 +8,9 @@ use Rattle.std.specs.Fmt.{signed_decimal}
 use Rattle.std.specs.List.{flat_map, list_all, list_any, slice_split}
 use Rattle.std.specs.Str.{all_ascii_digits, bytes_eq}
 use Rattle.std.specs.Str.Parse.{signed_digits_value, without_leading_sign}
-use Rattle.pool_text.specs.Folding.{folded}
+use Rattle.pool_text.specs.Folding.{folded, text_order}
 use Rattle.ad_value.specs.Plain.{Plain, error, boolean, integer, text}
-use Rattle.ad_value.specs.Operators.{integer_or_error, number_of, on_number, text_order}
+use Rattle.ad_value.specs.Operators.{integer_or_error, number_of, on_number}
 use Rattle.builtin_funcs.specs.Kinds.{is_scalar}
 
 -- ---- from one kind to another

@@ -2,5 +2,7 @@
 #![tactic(auto)]
 
 mod guard;
+#[cfg(test)]
+mod tests;
 
 pub use guard::{Guard, Seen};

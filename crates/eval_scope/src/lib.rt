@@ -3,6 +3,8 @@
 
 mod found;
 mod look;
+#[cfg(test)]
+mod tests;
 mod world;
 
 pub use found::Found;

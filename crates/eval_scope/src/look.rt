@@ -20,13 +20,7 @@ impl<'a> World<'a> {
     {
         match scope {
             Scope::Bare => self.find_bare(at, name),
-            Scope::My => self.find_in(
-                AdPlace {
-                    ad: at.ad,
-                    frame: 0,
-                },
-                name,
-            ),
+            Scope::My => self.find_in(root_of(at.ad), name),
             Scope::Target => self.find_beyond(at.ad, name),
         }
     }
@@ -78,10 +72,7 @@ impl<'a> World<'a> {
         }
         for port in 0..self.docked_ports() {
             if self.is_labelled(port, name) {
-                return Found::Place(AdPlace {
-                    ad: port as u32 + 1,
-                    frame: 0,
-                });
+                return Found::Place(root_of(port as u32 + 1));
             }
         }
         Found::Nothing
@@ -96,4 +87,11 @@ impl<'a> World<'a> {
             None => Found::Nothing,
         }
     }
+}
+
+// The root of an ad.
+fn root_of(ad: u32) -> AdPlace
+    ensures { result ≡ record { ad = ad; frame = 0 } }
+{
+    AdPlace { ad, frame: 0 }
 }

@@ -13,7 +13,7 @@ returns-in-Bare-clause-there c =
 pub returns-in-My-clause-there : goal.returns-in-My-clause-there
 returns-in-My-clause-there c =
     let w = world_of c.args.self.now in
-    subst (IsThere w) (sym c.find_in.ensures) (IsThere-at w c.args.name.now (in_frame (record { ad = c.args.at.ad; frame = 0 })))
+    subst (IsThere w) (sym c.find_in.ensures) (IsThere-at w c.args.name.now (in_frame c.root_of.result))
 
 pub returns-in-Target-clause-there : goal.returns-in-Target-clause-there
 returns-in-Target-clause-there c =

@@ -13,7 +13,8 @@ returns-then-is_labelled c =
     let request : 0 ≡ c.args.ad = omega arith in
     let within : k < length w.docked = omega arith in
     let next : k + 1 ≡ suc k = add-one k in
-    ap (λ (n : ℕ). Found.Place (record { ad = n; frame = 0 })) next
+    ap Found.Place c.root_of.ensures
+    ∙ ap (λ (n : ℕ). Found.Place (record { ad = n; frame = 0 })) next
     ∙ sym (label-found w name (suc k) k w.ports w.docked within (c.is_labelled.ensures ∙ ap Some c.if-is_labelled.true))
     ∙ c.loop-port.invariant
     ∙ ap (λ (n : ℕ). first_found w name (labels w n)) request

@@ -1,0 +1,12 @@
+mod ChainLemmas
+mod CountLemmas
+mod ElementLemmas
+mod EnterLemmas
+pub mod KeptLemmas
+mod MeasureLemmas
+mod MoreLemmas
+mod NodeLemmas
+mod PartLemmas
+mod ReferenceLemmas
+mod SceneLemmas
+mod ValueLemmas

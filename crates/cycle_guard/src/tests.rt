@@ -1,0 +1,45 @@
+use crate::{Guard, Seen};
+use ad_value::Value;
+use pool_text::{OutOfMemory, Pos};
+use std::test::Fail;
+
+// Attribute `n` of frames of two.
+fn pos(n: u32) -> Pos {
+    Pos {
+        ad: 0,
+        frame: n / 2,
+        attr: n % 2,
+    }
+}
+
+// One step on: what is unseen becomes pending, and what is pending gets its number as its value and its height.
+fn advance(guard: &mut Guard, n: u32) -> Result<(), OutOfMemory> {
+    match guard.state(pos(n)) {
+        Seen::Unseen => guard.enter(pos(n))?,
+        Seen::Pending => guard.finish(pos(n), Value::Integer(i64::from(n)), n),
+        Seen::Done(_, _) => {}
+    }
+    Ok(())
+}
+
+// The first eight and the others, entered in turn and finished from the last on.
+#[test]
+fn states(rt: HostRuntime) -> Result<(), Fail> {
+    let mut guard = Guard::new(rt.alloc());
+    for n in 0..12 {
+        assert!(rt; matches!(guard.state(pos(n)), Seen::Unseen), "{n}");
+        advance(&mut guard, n)?;
+        assert!(rt; matches!(guard.state(pos(n)), Seen::Pending), "{n}");
+    }
+    for n in (0..12).rev() {
+        advance(&mut guard, n)?;
+        assert!(rt; matches!(guard.state(pos(n / 2)), Seen::Pending) || n < 2, "{n}");
+    }
+    for n in 0..12 {
+        let Seen::Done(Value::Integer(value), height) = guard.state(pos(n)) else {
+            panic!(rt; "{n} isn't done");
+        };
+        assert_eq!(rt; (*value, height), (i64::from(n), n));
+    }
+    Ok(())
+}

@@ -9,4 +9,5 @@ mod NodeLemmas
 mod PartLemmas
 mod ReferenceLemmas
 mod SceneLemmas
+mod TopLemmas
 mod ValueLemmas

@@ -1,0 +1,1650 @@
+use Rattle.std.proofs.Common.{◌≡◌, ◌≤◌, ◌<◌, ◌+◌, ◌-◌, ◌*◌, ℕ, zero, suc, Bool, true, false, List, [], ◌∷◌, ◌++◌, length, drop, Option, None, Some, IfOk, IsSome, option_map, max, rules, arith, add-one, refl, ap, sym, ◌∙◌, subst}
+use Rattle.std.specs.Option.{option_and_then}
+use Rattle.pool_text.specs.declared.language.AdPlace.{AdPlace}
+use Rattle.pool_text.specs.declared.language.Pos.{Pos}
+use Rattle.ad_tree.specs.declared.tree.Expr.{Expr}
+use Rattle.ad_tree.specs.Tree.{Tree, Trees, pack, size, size_all, tree, trees, node, frame, none, more, one, two, three, literal, name, unary, binary, all, any, choice, select, subscript, call}
+use Rattle.ad_tree.specs.Tree.{list as list_node}
+use Rattle.ad_tree.proofs.TreeLemmas.{size-positive, size-at, pack-drop, tree-And, tree-Binary, tree-Call, tree-Cond, tree-Frame, tree-List, tree-Literal, tree-Name, tree-Or, tree-Select, tree-Subscript, tree-Unary}
+use Rattle.ad_value.specs.Plain.{Plain, ad_at, boolean, error, list, plain, plain_of_lit, plains, plains_of, undefined}
+use Rattle.ad_value.specs.Limits.{bounded}
+use Rattle.ad_value.specs.Logic.{and_value, or_value}
+use Rattle.ad_value.specs.Operators.{binary_value, unary_value}
+use Rattle.ad_value.specs.Demands.{all_demanded, chosen, conjunction, disjunction, list_value, selected, subscripted}
+use Rattle.cycle_guard.specs.Sights.{done, pending, unseen}
+use Rattle.cycle_guard.specs.Shown.{sight_of}
+use Rattle.eval_scope.specs.World.{expr_of, frame_of_attribute}
+use Rattle.ad_eval.specs.declared.outcome.Outcome.{Outcome}
+use Rattle.ad_eval.specs.declared.outcome.Several.{Several}
+use Rattle.ad_eval.specs.declared.reference.Reference.{Reference}
+use Rattle.ad_eval.specs.Kept.{Answers, AnswersAll, Counts, IsReached, Ready}
+use Rattle.ad_eval.specs.Node.{attribute_value, called, conditional, function_value}
+use Rattle.ad_eval.specs.Reference.{IsInWorld, value_of}
+use Rattle.ad_eval.specs.Scene.{results_in, values_in, world_in}
+use Rattle.ad_eval.specs.Value.{value_at, value_with}
+use Rattle.ad_eval.proofs.KeptLemmas.{IsPartly, answer_some, answers_none, answers_some, counts_same, counts_then, is_ready, reached_as, ready_is, rewritten}
+use Rattle.ad_eval.proofs.CountLemmas.{unseen-after, unseen-fewer, unseen-same}
+use Rattle.ad_eval.proofs.MeasureLemmas.{size-turn, turn, turn-less}
+use Rattle.ad_eval.proofs.NodeLemmas.{all_demanded-end, all_demanded-next, all_demanded-start, conjunction-decided, conjunction-next, disjunction-decided, disjunction-next, values_and}
+use Rattle.ad_eval.proofs.PartLemmas.{IfOk-map, all_part_fails, answers_of, begins, finishes, finishes_all, finishes_list, finishes_mapped, finishes_rest, known_all_as, known_as, mapped_part_fails, mapped_part_ready, part_done, part_fails, part_fails_all, part_ready, rest_fails, rest_ready}
+use Rattle.ad_eval.proofs.ReferenceLemmas.{value_at-none, circle, fails_inside, kept-reached, kept-short, kept_inside, ready_inside, still_pending}
+use Rattle.ad_eval.proofs.SceneLemmas.{in_all, in_any, in_binary, in_call, in_choice, in_frame, in_list, in_literal, in_name, in_select, in_subscript, in_unary, inside_is, results-more, results-none}
+use Rattle.ad_eval.proofs.ValueLemmas.{plain-Ad, plain-Boolean, plain-Error, plain-List, plain-Undefined}
+use Rattle.builtin_funcs.specs.Calls.{is_known}
+use Rattle.ad_eval.proofs.ChainLemmas.{all_demanded-from, called-choice, called-function, called-unknown, conditional-three, conditional-wrong, conjunction-end, conjunction-from, disjunction-end, disjunction-from, pack-three, values-end}
+use Rattle.ad_eval.proofs.EnterLemmas.{answer_there_none, answer_there_some, counts_entered, counts_equal, counts_from, counts_there, finished_as, inner_work, ready_there, world_has, world_there}
+use Rattle.ad_eval.proofs.+evaluation.Goals as goal
+
+pub evaluation::evaluate-returns-in_ok-from_lit-in-Literal : goal.evaluation::evaluate-returns-in_ok-from_lit-in-Literal
+evaluation::evaluate-returns-in_ok-from_lit-in-Literal g t c =
+    let s = c.args.scene.now in
+    let w = world_in s in
+    let g0 = c.args.guard.now in
+    let n0 = c.args.entry.now in
+    let e = tree c.args.expr.now in
+    let is = ap tree c.in-Literal.is ∙ tree-Literal c.in-Literal.lit in
+    record { answer = finishes w s.left (values_in s e) g0 g0 (values_in s e) 0 c.leaf.result (begins w s.left (values_in s e) (values_in s e) g0 c.requires (λ n. refl)) (λ n. in_literal s e n c.in-Literal.lit is ∙ ap Some (sym (c.leaf.ensures.value ∙ c.in_ok-from_lit-in-Literal.ensures))) c.leaf.ensures.height; counted = counts_same w n0 g0 }
+
+pub evaluation::evaluate-returns-in_err-from_lit-in-Literal : goal.evaluation::evaluate-returns-in_err-from_lit-in-Literal
+evaluation::evaluate-returns-in_err-from_lit-in-Literal g t c =
+    let s = c.args.scene.now in
+    let w = world_in s in
+    let g0 = c.args.guard.now in
+    let n0 = c.args.entry.now in
+    let e = tree c.args.expr.now in
+    record { answer = search rules; counted = counts_same w n0 g0 }
+
+pub evaluation::evaluate-returns-in-Frame : goal.evaluation::evaluate-returns-in-Frame
+evaluation::evaluate-returns-in-Frame g t c =
+    let s = c.args.scene.now in
+    let w = world_in s in
+    let g0 = c.args.guard.now in
+    let n0 = c.args.entry.now in
+    let e = tree c.args.expr.now in
+    let is = ap tree c.in-Frame.is ∙ tree-Frame c.in-Frame.frame in
+    record { answer = finishes w s.left (values_in s e) g0 g0 (values_in s e) 0 c.leaf-in-Frame.result (begins w s.left (values_in s e) (values_in s e) g0 c.requires (λ n. refl)) (λ n. in_frame s e n c.in-Frame.frame is ∙ ap Some (sym (c.leaf-in-Frame.ensures.value ∙ plain-Ad (record { ad = s.at.ad; frame = c.in-Frame.frame })))) c.leaf-in-Frame.ensures.height; counted = counts_same w n0 g0 }
+
+pub evaluation::evaluate-follow-requires : goal.evaluation::evaluate-follow-requires
+evaluation::evaluate-follow-requires g t c κs within =
+    let s = c.args.scene.now in
+    let w = world_in s in
+    let g0 = c.args.guard.now in
+    let n0 = c.args.entry.now in
+    let e = tree c.args.expr.now in
+    let x = c.bytes.result.now in
+    let r = c.look_up-named.result in
+    let is = ap tree c.in-Name.is ∙ tree-Name c.in-Name.scope c.in-Name.name ∙ ap (λ (y : List ℕ). node (name c.in-Name.scope y) none) (sym c.bytes.ensures) in
+    let same = λ (n : ℕ). in_name s e n c.in-Name.scope x is ∙ sym (c.look_up-named.ensures.value (value_at n w)) in
+    let p0 = begins w s.left (values_in s e) (λ n. value_of (value_at n w) r) g0 c.requires same in
+    (omega (arith, c.decreases, size-positive e), (within, (c.look_up-named.ensures.there, rest_ready w s.left (values_in s e) g0 g0 (λ n. value_of (value_at n w) r) 0 p0)))
+
+pub evaluation::evaluate-returns-in-Name : goal.evaluation::evaluate-returns-in-Name
+evaluation::evaluate-returns-in-Name g t c =
+    let s = c.args.scene.now in
+    let w = world_in s in
+    let g0 = c.args.guard.now in
+    let n0 = c.args.entry.now in
+    let e = tree c.args.expr.now in
+    let x = c.bytes.result.now in
+    let r = c.look_up-named.result in
+    let is = ap tree c.in-Name.is ∙ tree-Name c.in-Name.scope c.in-Name.name ∙ ap (λ (y : List ℕ). node (name c.in-Name.scope y) none) (sym c.bytes.ensures) in
+    let same = λ (n : ℕ). in_name s e n c.in-Name.scope x is ∙ sym (c.look_up-named.ensures.value (value_at n w)) in
+    record { answer = IfOk-map c.follow.result (λ o. Answers w (λ n. value_of (value_at n w) r) s.left g0 c.follow.new.guard o) (λ o. Answers w (values_in s e) s.left g0 c.follow.new.guard o) (λ o h. answers_of w s.left (values_in s e) (λ n. value_of (value_at n w) r) g0 c.follow.new.guard o same h) c.follow.ensures.answer; counted = c.follow.ensures.counted }
+
+pub evaluation::evaluate-conjunction-requires : goal.evaluation::evaluate-conjunction-requires
+evaluation::evaluate-conjunction-requires g t c κs within =
+    let s = c.args.scene.now in
+    let w = world_in s in
+    let g0 = c.args.guard.now in
+    let n0 = c.args.entry.now in
+    let e = tree c.args.expr.now in
+    let ts = pack (trees c.in-And.items) in
+    let is = ap tree c.in-And.is ∙ tree-And c.in-And.items in
+    let same = λ (n : ℕ). in_all s e n ts is in
+    let p0 = begins w s.left (values_in s e) (λ n. conjunction (boolean true) (results_in s ts n)) g0 c.requires same in
+    (omega (arith, c.decreases, ap size is), (within, rest_ready w s.left (values_in s e) g0 g0 (λ n. conjunction (boolean true) (results_in s ts n)) 0 p0))
+
+pub evaluation::evaluate-returns-in-And : goal.evaluation::evaluate-returns-in-And
+evaluation::evaluate-returns-in-And g t c =
+    let s = c.args.scene.now in
+    let w = world_in s in
+    let g0 = c.args.guard.now in
+    let n0 = c.args.entry.now in
+    let e = tree c.args.expr.now in
+    let ts = pack (trees c.in-And.items) in
+    let is = ap tree c.in-And.is ∙ tree-And c.in-And.items in
+    let same = λ (n : ℕ). in_all s e n ts is in
+    record { answer = IfOk-map c.conjunction.result (λ o. Answers w (λ n. conjunction (boolean true) (results_in s ts n)) s.left g0 c.conjunction.new.guard o) (λ o. Answers w (values_in s e) s.left g0 c.conjunction.new.guard o) (λ o h. answers_of w s.left (values_in s e) (λ n. conjunction (boolean true) (results_in s ts n)) g0 c.conjunction.new.guard o same h) c.conjunction.ensures.answer; counted = c.conjunction.ensures.counted }
+
+pub evaluation::evaluate-disjunction-requires : goal.evaluation::evaluate-disjunction-requires
+evaluation::evaluate-disjunction-requires g t c κs within =
+    let s = c.args.scene.now in
+    let w = world_in s in
+    let g0 = c.args.guard.now in
+    let n0 = c.args.entry.now in
+    let e = tree c.args.expr.now in
+    let ts = pack (trees c.in-Or.items) in
+    let is = ap tree c.in-Or.is ∙ tree-Or c.in-Or.items in
+    let same = λ (n : ℕ). in_any s e n ts is in
+    let p0 = begins w s.left (values_in s e) (λ n. disjunction (boolean false) (results_in s ts n)) g0 c.requires same in
+    (omega (arith, c.decreases, ap size is), (within, rest_ready w s.left (values_in s e) g0 g0 (λ n. disjunction (boolean false) (results_in s ts n)) 0 p0))
+
+pub evaluation::evaluate-returns-in-Or : goal.evaluation::evaluate-returns-in-Or
+evaluation::evaluate-returns-in-Or g t c =
+    let s = c.args.scene.now in
+    let w = world_in s in
+    let g0 = c.args.guard.now in
+    let n0 = c.args.entry.now in
+    let e = tree c.args.expr.now in
+    let ts = pack (trees c.in-Or.items) in
+    let is = ap tree c.in-Or.is ∙ tree-Or c.in-Or.items in
+    let same = λ (n : ℕ). in_any s e n ts is in
+    record { answer = IfOk-map c.disjunction.result (λ o. Answers w (λ n. disjunction (boolean false) (results_in s ts n)) s.left g0 c.disjunction.new.guard o) (λ o. Answers w (values_in s e) s.left g0 c.disjunction.new.guard o) (λ o h. answers_of w s.left (values_in s e) (λ n. disjunction (boolean false) (results_in s ts n)) g0 c.disjunction.new.guard o same h) c.disjunction.ensures.answer; counted = c.disjunction.ensures.counted }
+
+pub evaluation::evaluate-conditional-requires : goal.evaluation::evaluate-conditional-requires
+evaluation::evaluate-conditional-requires g t c κs within =
+    let s = c.args.scene.now in
+    let w = world_in s in
+    let g0 = c.args.guard.now in
+    let n0 = c.args.entry.now in
+    let e = tree c.args.expr.now in
+    let a = tree c.deref-in-Cond.result.now in
+    let b = tree c.deref-in-Cond-2.result.now in
+    let d = tree c.deref-in-Cond-3.result.now in
+    let is = ap tree c.in-Cond.is ∙ tree-Cond c.in-Cond.condition c.in-Cond.first c.in-Cond.second ∙ ap (λ (x : Expr). node choice (three (tree x) (tree c.in-Cond.first.value) (tree c.in-Cond.second.value))) (sym c.deref-in-Cond.ensures) ∙ ap (λ (x : Expr). node choice (three a (tree x) (tree c.in-Cond.second.value))) (sym c.deref-in-Cond-2.ensures) ∙ ap (λ (x : Expr). node choice (three a b (tree x))) (sym c.deref-in-Cond-3.ensures) in
+    let same = λ (n : ℕ). in_choice s e n (three a b d) is in
+    let p0 = begins w s.left (values_in s e) (λ n. conditional (results_in s (three a b d) n)) g0 c.requires same in
+    (omega (arith, c.decreases, ap size is), (within, rest_ready w s.left (values_in s e) g0 g0 (λ n. conditional (results_in s (three a b d) n)) 0 p0))
+
+pub evaluation::evaluate-returns-in-Cond : goal.evaluation::evaluate-returns-in-Cond
+evaluation::evaluate-returns-in-Cond g t c =
+    let s = c.args.scene.now in
+    let w = world_in s in
+    let g0 = c.args.guard.now in
+    let n0 = c.args.entry.now in
+    let e = tree c.args.expr.now in
+    let a = tree c.deref-in-Cond.result.now in
+    let b = tree c.deref-in-Cond-2.result.now in
+    let d = tree c.deref-in-Cond-3.result.now in
+    let is = ap tree c.in-Cond.is ∙ tree-Cond c.in-Cond.condition c.in-Cond.first c.in-Cond.second ∙ ap (λ (x : Expr). node choice (three (tree x) (tree c.in-Cond.first.value) (tree c.in-Cond.second.value))) (sym c.deref-in-Cond.ensures) ∙ ap (λ (x : Expr). node choice (three a (tree x) (tree c.in-Cond.second.value))) (sym c.deref-in-Cond-2.ensures) ∙ ap (λ (x : Expr). node choice (three a b (tree x))) (sym c.deref-in-Cond-3.ensures) in
+    let same = λ (n : ℕ). in_choice s e n (three a b d) is in
+    record { answer = IfOk-map c.conditional.result (λ o. Answers w (λ n. conditional (results_in s (three a b d) n)) s.left g0 c.conditional.new.guard o) (λ o. Answers w (values_in s e) s.left g0 c.conditional.new.guard o) (λ o h. answers_of w s.left (values_in s e) (λ n. conditional (results_in s (three a b d) n)) g0 c.conditional.new.guard o same h) c.conditional.ensures.answer; counted = c.conditional.ensures.counted }
+
+pub evaluation::evaluate-call_function-requires : goal.evaluation::evaluate-call_function-requires
+evaluation::evaluate-call_function-requires g t c κs within =
+    let s = c.args.scene.now in
+    let w = world_in s in
+    let g0 = c.args.guard.now in
+    let n0 = c.args.entry.now in
+    let e = tree c.args.expr.now in
+    let x = c.bytes-in-Call.result.now in
+    let ts = pack (trees c.in-Call.items) in
+    let is = ap tree c.in-Call.is ∙ tree-Call c.in-Call.name c.in-Call.items ∙ ap (λ (y : List ℕ). node (call y) ts) (sym c.bytes-in-Call.ensures) in
+    let same = λ (n : ℕ). in_call s e n x ts is in
+    let p0 = begins w s.left (values_in s e) (λ n. called w x (results_in s ts n)) g0 c.requires same in
+    (omega (arith, c.decreases, ap size is), (within, rest_ready w s.left (values_in s e) g0 g0 (λ n. called w x (results_in s ts n)) 0 p0))
+
+pub evaluation::evaluate-returns-in-Call : goal.evaluation::evaluate-returns-in-Call
+evaluation::evaluate-returns-in-Call g t c =
+    let s = c.args.scene.now in
+    let w = world_in s in
+    let g0 = c.args.guard.now in
+    let n0 = c.args.entry.now in
+    let e = tree c.args.expr.now in
+    let x = c.bytes-in-Call.result.now in
+    let ts = pack (trees c.in-Call.items) in
+    let is = ap tree c.in-Call.is ∙ tree-Call c.in-Call.name c.in-Call.items ∙ ap (λ (y : List ℕ). node (call y) ts) (sym c.bytes-in-Call.ensures) in
+    let same = λ (n : ℕ). in_call s e n x ts is in
+    record { answer = IfOk-map c.call_function.result (λ o. Answers w (λ n. called w x (results_in s ts n)) s.left g0 c.call_function.new.guard o) (λ o. Answers w (values_in s e) s.left g0 c.call_function.new.guard o) (λ o h. answers_of w s.left (values_in s e) (λ n. called w x (results_in s ts n)) g0 c.call_function.new.guard o same h) c.call_function.ensures.answer; counted = c.call_function.ensures.counted }
+
+pub evaluation::evaluate-evaluate-requires : goal.evaluation::evaluate-evaluate-requires
+evaluation::evaluate-evaluate-requires g t c κs within =
+    let s = c.args.scene.now in
+    let w = world_in s in
+    let g0 = c.args.guard.now in
+    let n0 = c.args.entry.now in
+    let e = tree c.args.expr.now in
+    let op = c.in-Unary.op in
+    let a = tree c.deref.result.now in
+    let is = ap tree c.in-Unary.is ∙ tree-Unary op c.in-Unary.a ∙ ap (λ (x : Expr). node (unary op) (one (tree x))) (sym c.deref.ensures) in
+    let p0 = begins w s.left (values_in s e) (λ n. option_map (unary_value op) (values_in s a n)) g0 c.requires (λ n. in_unary s e n op a is) in
+    (omega (arith, c.decreases, ap size is), (within, mapped_part_ready w s.left (values_in s e) g0 g0 (unary_value op) (values_in s a) 0 p0))
+
+pub evaluation::evaluate-returns-in_default : goal.evaluation::evaluate-returns-in_default
+evaluation::evaluate-returns-in_default g t c =
+    let s = c.args.scene.now in
+    let w = world_in s in
+    let g0 = c.args.guard.now in
+    let n0 = c.args.entry.now in
+    let e = tree c.args.expr.now in
+    let op = c.in-Unary.op in
+    let a = tree c.deref.result.now in
+    let is = ap tree c.in-Unary.is ∙ tree-Unary op c.in-Unary.a ∙ ap (λ (x : Expr). node (unary op) (one (tree x))) (sym c.deref.ensures) in
+    let p0 = begins w s.left (values_in s e) (λ n. option_map (unary_value op) (values_in s a n)) g0 c.requires (λ n. in_unary s e n op a is) in
+    let g1 = c.evaluate.new.guard in
+    let none_left = known_as w (values_in s a) s.left g0 g1 c.in_ok-operand-in-Unary.field-0 None c.in_default.is c.in_ok-operand-in-Unary.ensures.answer in
+    record { answer = mapped_part_fails w s.left (values_in s e) g0 g0 g1 g1 (unary_value op) (values_in s a) 0 p0 none_left; counted = c.evaluate.ensures.counted }
+
+pub evaluation::evaluate-returns-in-Some : goal.evaluation::evaluate-returns-in-Some
+evaluation::evaluate-returns-in-Some g t c =
+    let s = c.args.scene.now in
+    let w = world_in s in
+    let g0 = c.args.guard.now in
+    let n0 = c.args.entry.now in
+    let e = tree c.args.expr.now in
+    let op = c.in-Unary.op in
+    let a = tree c.deref.result.now in
+    let is = ap tree c.in-Unary.is ∙ tree-Unary op c.in-Unary.a ∙ ap (λ (x : Expr). node (unary op) (one (tree x))) (sym c.deref.ensures) in
+    let p0 = begins w s.left (values_in s e) (λ n. option_map (unary_value op) (values_in s a n)) g0 c.requires (λ n. in_unary s e n op a is) in
+    let g1 = c.evaluate.new.guard in
+    let o = c.in-Some.operand in
+    let u : Outcome = record { value = c.unary.result; height = o.height } in
+    let some = known_as w (values_in s a) s.left g0 g1 c.in_ok-operand-in-Unary.field-0 (Some o) c.in-Some.is c.in_ok-operand-in-Unary.ensures.answer in
+    record { answer = finishes_mapped w s.left (values_in s e) g0 g0 g1 (unary_value op) (values_in s a) 0 o u p0 some c.unary.ensures (omega arith); counted = c.evaluate.ensures.counted }
+
+pub evaluation::evaluate-returns-in_err-operand-in-Unary : goal.evaluation::evaluate-returns-in_err-operand-in-Unary
+evaluation::evaluate-returns-in_err-operand-in-Unary g t c =
+    let s = c.args.scene.now in
+    let w = world_in s in
+    let g0 = c.args.guard.now in
+    let n0 = c.args.entry.now in
+    record { answer = search rules; counted = c.evaluate.ensures.counted }
+
+pub evaluation::evaluate-evaluate-requires-in-Binary : goal.evaluation::evaluate-evaluate-requires-in-Binary
+evaluation::evaluate-evaluate-requires-in-Binary g t c κs within =
+    let s = c.args.scene.now in
+    let w = world_in s in
+    let g0 = c.args.guard.now in
+    let n0 = c.args.entry.now in
+    let e = tree c.args.expr.now in
+    let op = c.in-Binary.op in
+    let a = tree c.deref-in-Binary.result.now in
+    let b = tree c.in-Binary.b.value in
+    let is = ap tree c.in-Binary.is ∙ tree-Binary op c.in-Binary.a c.in-Binary.b ∙ ap (λ (x : Expr). node (binary op) (two (tree x) b)) (sym c.deref-in-Binary.ensures) in
+    let p0 = begins w s.left (values_in s e) (λ n. option_and_then (λ x. option_map (binary_value op x) (values_in s b n)) (values_in s a n)) g0 c.requires (λ n. in_binary s e n op a b is) in
+    (omega (arith, c.decreases, ap size is), (within, part_ready w s.left (values_in s e) g0 g0 (λ n x. option_map (binary_value op x) (values_in s b n)) (values_in s a) 0 p0))
+
+pub evaluation::evaluate-returns-in_default-2 : goal.evaluation::evaluate-returns-in_default-2
+evaluation::evaluate-returns-in_default-2 g t c =
+    let s = c.args.scene.now in
+    let w = world_in s in
+    let g0 = c.args.guard.now in
+    let n0 = c.args.entry.now in
+    let e = tree c.args.expr.now in
+    let op = c.in-Binary.op in
+    let a = tree c.deref-in-Binary.result.now in
+    let b = tree c.in-Binary.b.value in
+    let is = ap tree c.in-Binary.is ∙ tree-Binary op c.in-Binary.a c.in-Binary.b ∙ ap (λ (x : Expr). node (binary op) (two (tree x) b)) (sym c.deref-in-Binary.ensures) in
+    let p0 = begins w s.left (values_in s e) (λ n. option_and_then (λ x. option_map (binary_value op x) (values_in s b n)) (values_in s a n)) g0 c.requires (λ n. in_binary s e n op a b is) in
+    let g1 = c.evaluate-in-Binary.new.guard in
+    let none_left = known_as w (values_in s a) s.left g0 g1 c.in_ok-left-in-Binary.field-0 (None) c.in_default-2.is c.in_ok-left-in-Binary.ensures.answer in
+    record { answer = part_fails w s.left (values_in s e) g0 g0 g1 g1 (λ n x. option_map (binary_value op x) (values_in s b n)) (values_in s a) 0 p0 none_left; counted = c.evaluate-in-Binary.ensures.counted }
+
+pub evaluation::evaluate-evaluate-requires-in-Binary-2 : goal.evaluation::evaluate-evaluate-requires-in-Binary-2
+evaluation::evaluate-evaluate-requires-in-Binary-2 g t c κs within =
+    let s = c.args.scene.now in
+    let w = world_in s in
+    let g0 = c.args.guard.now in
+    let n0 = c.args.entry.now in
+    let e = tree c.args.expr.now in
+    let op = c.in-Binary.op in
+    let a = tree c.deref-in-Binary.result.now in
+    let b = tree c.deref-in-Binary-2.result.now in
+    let is = ap tree c.in-Binary.is ∙ tree-Binary op c.in-Binary.a c.in-Binary.b ∙ ap (λ (x : Expr). node (binary op) (two (tree x) (tree c.in-Binary.b.value))) (sym c.deref-in-Binary.ensures) ∙ ap (λ (x : Expr). node (binary op) (two a (tree x))) (sym c.deref-in-Binary-2.ensures) in
+    let p0 = begins w s.left (values_in s e) (λ n. option_and_then (λ x. option_map (binary_value op x) (values_in s b n)) (values_in s a n)) g0 c.requires (λ n. in_binary s e n op a b is) in
+    let g1 = c.evaluate-in-Binary.new.guard in
+    let o1 = c.in-Some-2.left in
+    let some1 = known_as w (values_in s a) s.left g0 g1 c.in_ok-left-in-Binary.field-0 (Some o1) c.in-Some-2.is c.in_ok-left-in-Binary.ensures.answer in
+    let p1 = part_done w s.left (values_in s e) g0 g0 g1 (λ n x. option_map (binary_value op x) (values_in s b n)) (values_in s a) 0 o1 p0 some1 in
+    let h1 = max 0 o1.height in
+    (omega (arith, c.decreases, ap size is), (within, mapped_part_ready w s.left (values_in s e) g0 g1 (binary_value op (plain o1.value)) (values_in s b) h1 p1))
+
+pub evaluation::evaluate-returns-in_default-3 : goal.evaluation::evaluate-returns-in_default-3
+evaluation::evaluate-returns-in_default-3 g t c =
+    let s = c.args.scene.now in
+    let w = world_in s in
+    let g0 = c.args.guard.now in
+    let n0 = c.args.entry.now in
+    let e = tree c.args.expr.now in
+    let op = c.in-Binary.op in
+    let a = tree c.deref-in-Binary.result.now in
+    let b = tree c.deref-in-Binary-2.result.now in
+    let is = ap tree c.in-Binary.is ∙ tree-Binary op c.in-Binary.a c.in-Binary.b ∙ ap (λ (x : Expr). node (binary op) (two (tree x) (tree c.in-Binary.b.value))) (sym c.deref-in-Binary.ensures) ∙ ap (λ (x : Expr). node (binary op) (two a (tree x))) (sym c.deref-in-Binary-2.ensures) in
+    let p0 = begins w s.left (values_in s e) (λ n. option_and_then (λ x. option_map (binary_value op x) (values_in s b n)) (values_in s a n)) g0 c.requires (λ n. in_binary s e n op a b is) in
+    let g1 = c.evaluate-in-Binary.new.guard in
+    let o1 = c.in-Some-2.left in
+    let some1 = known_as w (values_in s a) s.left g0 g1 c.in_ok-left-in-Binary.field-0 (Some o1) c.in-Some-2.is c.in_ok-left-in-Binary.ensures.answer in
+    let p1 = part_done w s.left (values_in s e) g0 g0 g1 (λ n x. option_map (binary_value op x) (values_in s b n)) (values_in s a) 0 o1 p0 some1 in
+    let h1 = max 0 o1.height in
+    let g2 = c.evaluate-in-Binary-2.new.guard in
+    let none_left = known_as w (values_in s b) s.left g1 g2 c.in_ok-right-in-Binary.field-0 (None) c.in_default-3.is c.in_ok-right-in-Binary.ensures.answer in
+    record { answer = mapped_part_fails w s.left (values_in s e) g0 g1 g2 g2 (binary_value op (plain o1.value)) (values_in s b) h1 p1 none_left; counted = counts_then w n0 c.evaluate-in-Binary.new.entry c.evaluate-in-Binary-2.new.entry g0 g1 g2 c.evaluate-in-Binary.ensures.counted c.evaluate-in-Binary-2.ensures.counted }
+
+pub evaluation::evaluate-returns-in-Some-3 : goal.evaluation::evaluate-returns-in-Some-3
+evaluation::evaluate-returns-in-Some-3 g t c =
+    let s = c.args.scene.now in
+    let w = world_in s in
+    let g0 = c.args.guard.now in
+    let n0 = c.args.entry.now in
+    let e = tree c.args.expr.now in
+    let op = c.in-Binary.op in
+    let a = tree c.deref-in-Binary.result.now in
+    let b = tree c.deref-in-Binary-2.result.now in
+    let is = ap tree c.in-Binary.is ∙ tree-Binary op c.in-Binary.a c.in-Binary.b ∙ ap (λ (x : Expr). node (binary op) (two (tree x) (tree c.in-Binary.b.value))) (sym c.deref-in-Binary.ensures) ∙ ap (λ (x : Expr). node (binary op) (two a (tree x))) (sym c.deref-in-Binary-2.ensures) in
+    let p0 = begins w s.left (values_in s e) (λ n. option_and_then (λ x. option_map (binary_value op x) (values_in s b n)) (values_in s a n)) g0 c.requires (λ n. in_binary s e n op a b is) in
+    let g1 = c.evaluate-in-Binary.new.guard in
+    let o1 = c.in-Some-2.left in
+    let some1 = known_as w (values_in s a) s.left g0 g1 c.in_ok-left-in-Binary.field-0 (Some o1) c.in-Some-2.is c.in_ok-left-in-Binary.ensures.answer in
+    let p1 = part_done w s.left (values_in s e) g0 g0 g1 (λ n x. option_map (binary_value op x) (values_in s b n)) (values_in s a) 0 o1 p0 some1 in
+    let h1 = max 0 o1.height in
+    let g2 = c.evaluate-in-Binary-2.new.guard in
+    let o2 = c.in-Some-3.right in
+    let u : Outcome = record { value = c.binary.result; height = c.greater.result } in
+    let some2 = known_as w (values_in s b) s.left g1 g2 c.in_ok-right-in-Binary.field-0 (Some o2) c.in-Some-3.is c.in_ok-right-in-Binary.ensures.answer in
+    record { answer = finishes_mapped w s.left (values_in s e) g0 g1 g2 (binary_value op (plain o1.value)) (values_in s b) h1 o2 u p1 some2 c.binary.ensures (omega (arith, c.greater.ensures)); counted = counts_then w n0 c.evaluate-in-Binary.new.entry c.evaluate-in-Binary-2.new.entry g0 g1 g2 c.evaluate-in-Binary.ensures.counted c.evaluate-in-Binary-2.ensures.counted }
+
+pub evaluation::evaluate-returns-in_err-left-in-Binary : goal.evaluation::evaluate-returns-in_err-left-in-Binary
+evaluation::evaluate-returns-in_err-left-in-Binary g t c =
+    let s = c.args.scene.now in
+    let w = world_in s in
+    let g0 = c.args.guard.now in
+    let n0 = c.args.entry.now in
+    record { answer = search rules; counted = c.evaluate-in-Binary.ensures.counted }
+
+pub evaluation::evaluate-returns-in_err-right-in-Binary : goal.evaluation::evaluate-returns-in_err-right-in-Binary
+evaluation::evaluate-returns-in_err-right-in-Binary g t c =
+    let s = c.args.scene.now in
+    let w = world_in s in
+    let g0 = c.args.guard.now in
+    let n0 = c.args.entry.now in
+    let g1 = c.evaluate-in-Binary.new.guard in
+    let g2 = c.evaluate-in-Binary-2.new.guard in
+    record { answer = search rules; counted = counts_then w n0 c.evaluate-in-Binary.new.entry c.evaluate-in-Binary-2.new.entry g0 g1 g2 c.evaluate-in-Binary.ensures.counted c.evaluate-in-Binary-2.ensures.counted }
+
+pub evaluation::evaluate-evaluate-requires-in-Select : goal.evaluation::evaluate-evaluate-requires-in-Select
+evaluation::evaluate-evaluate-requires-in-Select g t c κs within =
+    let s = c.args.scene.now in
+    let w = world_in s in
+    let g0 = c.args.guard.now in
+    let n0 = c.args.entry.now in
+    let e = tree c.args.expr.now in
+    let x = c.in-Select.name in
+    let a = tree c.deref-in-Select.result.now in
+    let is = ap tree c.in-Select.is ∙ tree-Select c.in-Select.base c.in-Select.name ∙ ap (λ (y : Expr). node (select c.in-Select.name) (one (tree y))) (sym c.deref-in-Select.ensures) in
+    let p0 = begins w s.left (values_in s e) (λ n. option_and_then (selected (attribute_value (value_at n w) w) x) (values_in s a n)) g0 c.requires (λ n. in_select s e n x a is) in
+    (omega (arith, c.decreases, ap size is), (within, part_ready w s.left (values_in s e) g0 g0 (λ n. selected (attribute_value (value_at n w) w) x) (values_in s a) 0 p0))
+
+pub evaluation::evaluate-returns-in_default-4 : goal.evaluation::evaluate-returns-in_default-4
+evaluation::evaluate-returns-in_default-4 g t c =
+    let s = c.args.scene.now in
+    let w = world_in s in
+    let g0 = c.args.guard.now in
+    let n0 = c.args.entry.now in
+    let e = tree c.args.expr.now in
+    let x = c.in-Select.name in
+    let a = tree c.deref-in-Select.result.now in
+    let is = ap tree c.in-Select.is ∙ tree-Select c.in-Select.base c.in-Select.name ∙ ap (λ (y : Expr). node (select c.in-Select.name) (one (tree y))) (sym c.deref-in-Select.ensures) in
+    let p0 = begins w s.left (values_in s e) (λ n. option_and_then (selected (attribute_value (value_at n w) w) x) (values_in s a n)) g0 c.requires (λ n. in_select s e n x a is) in
+    let g1 = c.evaluate-in-Select.new.guard in
+    let none_left = known_as w (values_in s a) s.left g0 g1 c.in_ok-base-in-Select.field-0 (None) c.in_default-4.is c.in_ok-base-in-Select.ensures.answer in
+    record { answer = part_fails w s.left (values_in s e) g0 g0 g1 g1 (λ n. selected (attribute_value (value_at n w) w) x) (values_in s a) 0 p0 none_left; counted = c.evaluate-in-Select.ensures.counted }
+
+pub evaluation::evaluate-follow-requires-in-Select : goal.evaluation::evaluate-follow-requires-in-Select
+evaluation::evaluate-follow-requires-in-Select g t c κs within =
+    let s = c.args.scene.now in
+    let w = world_in s in
+    let g0 = c.args.guard.now in
+    let n0 = c.args.entry.now in
+    let e = tree c.args.expr.now in
+    let x = c.bytes-in-Select.result.now in
+    let a = tree c.deref-in-Select.result.now in
+    let is = ap tree c.in-Select.is ∙ tree-Select c.in-Select.base c.in-Select.name ∙ ap (λ (y : Expr). node (select c.in-Select.name) (one (tree y))) (sym c.deref-in-Select.ensures) ∙ ap (λ (y : List ℕ). node (select y) (one a)) (sym c.bytes-in-Select.ensures) in
+    let p0 = begins w s.left (values_in s e) (λ n. option_and_then (selected (attribute_value (value_at n w) w) x) (values_in s a n)) g0 c.requires (λ n. in_select s e n x a is) in
+    let g1 = c.evaluate-in-Select.new.guard in
+    let o1 = c.in-Some-4.base in
+    let some1 = known_as w (values_in s a) s.left g0 g1 c.in_ok-base-in-Select.field-0 (Some o1) c.in-Some-4.is c.in_ok-base-in-Select.ensures.answer in
+    let p1 = part_done w s.left (values_in s e) g0 g0 g1 (λ n. selected (attribute_value (value_at n w) w) x) (values_in s a) 0 o1 p0 some1 in
+    let h1 = max 0 o1.height in
+    let r = c.select-selected.result in
+    let p2 = rewritten w (values_in s e) s.left g0 g1 (λ n. selected (attribute_value (value_at n w) w) x (plain o1.value)) (λ n. value_of (value_at n w) r) h1 (λ n. sym (c.select-selected.ensures.value (value_at n w))) p1 in
+    (omega (arith, c.decreases, size-positive e), (within, (c.select-selected.ensures.there, rest_ready w s.left (values_in s e) g0 g1 (λ n. value_of (value_at n w) r) h1 p2)))
+
+pub evaluation::evaluate-returns-in_default-5 : goal.evaluation::evaluate-returns-in_default-5
+evaluation::evaluate-returns-in_default-5 g t c =
+    let s = c.args.scene.now in
+    let w = world_in s in
+    let g0 = c.args.guard.now in
+    let n0 = c.args.entry.now in
+    let e = tree c.args.expr.now in
+    let x = c.bytes-in-Select.result.now in
+    let a = tree c.deref-in-Select.result.now in
+    let is = ap tree c.in-Select.is ∙ tree-Select c.in-Select.base c.in-Select.name ∙ ap (λ (y : Expr). node (select c.in-Select.name) (one (tree y))) (sym c.deref-in-Select.ensures) ∙ ap (λ (y : List ℕ). node (select y) (one a)) (sym c.bytes-in-Select.ensures) in
+    let p0 = begins w s.left (values_in s e) (λ n. option_and_then (selected (attribute_value (value_at n w) w) x) (values_in s a n)) g0 c.requires (λ n. in_select s e n x a is) in
+    let g1 = c.evaluate-in-Select.new.guard in
+    let o1 = c.in-Some-4.base in
+    let some1 = known_as w (values_in s a) s.left g0 g1 c.in_ok-base-in-Select.field-0 (Some o1) c.in-Some-4.is c.in_ok-base-in-Select.ensures.answer in
+    let p1 = part_done w s.left (values_in s e) g0 g0 g1 (λ n. selected (attribute_value (value_at n w) w) x) (values_in s a) 0 o1 p0 some1 in
+    let h1 = max 0 o1.height in
+    let r = c.select-selected.result in
+    let p2 = rewritten w (values_in s e) s.left g0 g1 (λ n. selected (attribute_value (value_at n w) w) x (plain o1.value)) (λ n. value_of (value_at n w) r) h1 (λ n. sym (c.select-selected.ensures.value (value_at n w))) p1 in
+    let g2 = c.follow-in-Select.new.guard in
+    let none_left = known_as w (λ n. value_of (value_at n w) r) s.left g1 g2 c.in_ok-found-in-Select.field-0 (None) c.in_default-5.is c.in_ok-found-in-Select.ensures.answer in
+    record { answer = rest_fails w s.left (values_in s e) g0 g1 g2 g2 (λ n. value_of (value_at n w) r) h1 p2 none_left; counted = counts_then w n0 c.evaluate-in-Select.new.entry c.follow-in-Select.new.entry g0 g1 g2 c.evaluate-in-Select.ensures.counted c.follow-in-Select.ensures.counted }
+
+pub evaluation::evaluate-returns-in-Some-5 : goal.evaluation::evaluate-returns-in-Some-5
+evaluation::evaluate-returns-in-Some-5 g t c =
+    let s = c.args.scene.now in
+    let w = world_in s in
+    let g0 = c.args.guard.now in
+    let n0 = c.args.entry.now in
+    let e = tree c.args.expr.now in
+    let x = c.bytes-in-Select.result.now in
+    let a = tree c.deref-in-Select.result.now in
+    let is = ap tree c.in-Select.is ∙ tree-Select c.in-Select.base c.in-Select.name ∙ ap (λ (y : Expr). node (select c.in-Select.name) (one (tree y))) (sym c.deref-in-Select.ensures) ∙ ap (λ (y : List ℕ). node (select y) (one a)) (sym c.bytes-in-Select.ensures) in
+    let p0 = begins w s.left (values_in s e) (λ n. option_and_then (selected (attribute_value (value_at n w) w) x) (values_in s a n)) g0 c.requires (λ n. in_select s e n x a is) in
+    let g1 = c.evaluate-in-Select.new.guard in
+    let o1 = c.in-Some-4.base in
+    let some1 = known_as w (values_in s a) s.left g0 g1 c.in_ok-base-in-Select.field-0 (Some o1) c.in-Some-4.is c.in_ok-base-in-Select.ensures.answer in
+    let p1 = part_done w s.left (values_in s e) g0 g0 g1 (λ n. selected (attribute_value (value_at n w) w) x) (values_in s a) 0 o1 p0 some1 in
+    let h1 = max 0 o1.height in
+    let r = c.select-selected.result in
+    let p2 = rewritten w (values_in s e) s.left g0 g1 (λ n. selected (attribute_value (value_at n w) w) x (plain o1.value)) (λ n. value_of (value_at n w) r) h1 (λ n. sym (c.select-selected.ensures.value (value_at n w))) p1 in
+    let g2 = c.follow-in-Select.new.guard in
+    let o2 = c.in-Some-5.found in
+    let some2 = known_as w (λ n. value_of (value_at n w) r) s.left g1 g2 c.in_ok-found-in-Select.field-0 (Some o2) c.in-Some-5.is c.in_ok-found-in-Select.ensures.answer in
+    record { answer = finishes_rest w s.left (values_in s e) g0 g1 g2 (λ n. value_of (value_at n w) r) h1 o2 c.at_least.result p2 some2 c.at_least.ensures.value (omega (arith, c.at_least.ensures.height)); counted = counts_then w n0 c.evaluate-in-Select.new.entry c.follow-in-Select.new.entry g0 g1 g2 c.evaluate-in-Select.ensures.counted c.follow-in-Select.ensures.counted }
+
+pub evaluation::evaluate-returns-in_err-base-in-Select : goal.evaluation::evaluate-returns-in_err-base-in-Select
+evaluation::evaluate-returns-in_err-base-in-Select g t c =
+    let s = c.args.scene.now in
+    let w = world_in s in
+    let g0 = c.args.guard.now in
+    let n0 = c.args.entry.now in
+    record { answer = search rules; counted = c.evaluate-in-Select.ensures.counted }
+
+pub evaluation::evaluate-returns-in_err-found-in-Select : goal.evaluation::evaluate-returns-in_err-found-in-Select
+evaluation::evaluate-returns-in_err-found-in-Select g t c =
+    let s = c.args.scene.now in
+    let w = world_in s in
+    let g0 = c.args.guard.now in
+    let n0 = c.args.entry.now in
+    let g1 = c.evaluate-in-Select.new.guard in
+    let g2 = c.follow-in-Select.new.guard in
+    record { answer = search rules; counted = counts_then w n0 c.evaluate-in-Select.new.entry c.follow-in-Select.new.entry g0 g1 g2 c.evaluate-in-Select.ensures.counted c.follow-in-Select.ensures.counted }
+
+pub evaluation::evaluate-evaluate-requires-in-Subscript : goal.evaluation::evaluate-evaluate-requires-in-Subscript
+evaluation::evaluate-evaluate-requires-in-Subscript g t c κs within =
+    let s = c.args.scene.now in
+    let w = world_in s in
+    let g0 = c.args.guard.now in
+    let n0 = c.args.entry.now in
+    let e = tree c.args.expr.now in
+    let a = tree c.deref-in-Subscript.result.now in
+    let b = tree c.in-Subscript.index.value in
+    let is = ap tree c.in-Subscript.is ∙ tree-Subscript c.in-Subscript.base c.in-Subscript.index ∙ ap (λ (y : Expr). node subscript (two (tree y) (tree c.in-Subscript.index.value))) (sym c.deref-in-Subscript.ensures) in
+    let p0 = begins w s.left (values_in s e) (λ n. option_and_then (λ y. option_and_then (subscripted (attribute_value (value_at n w) w) y) (values_in s b n)) (values_in s a n)) g0 c.requires (λ n. in_subscript s e n a b is) in
+    (omega (arith, c.decreases, ap size is), (within, part_ready w s.left (values_in s e) g0 g0 (λ n y. option_and_then (subscripted (attribute_value (value_at n w) w) y) (values_in s b n)) (values_in s a) 0 p0))
+
+pub evaluation::evaluate-returns-in_default-6 : goal.evaluation::evaluate-returns-in_default-6
+evaluation::evaluate-returns-in_default-6 g t c =
+    let s = c.args.scene.now in
+    let w = world_in s in
+    let g0 = c.args.guard.now in
+    let n0 = c.args.entry.now in
+    let e = tree c.args.expr.now in
+    let a = tree c.deref-in-Subscript.result.now in
+    let b = tree c.in-Subscript.index.value in
+    let is = ap tree c.in-Subscript.is ∙ tree-Subscript c.in-Subscript.base c.in-Subscript.index ∙ ap (λ (y : Expr). node subscript (two (tree y) (tree c.in-Subscript.index.value))) (sym c.deref-in-Subscript.ensures) in
+    let p0 = begins w s.left (values_in s e) (λ n. option_and_then (λ y. option_and_then (subscripted (attribute_value (value_at n w) w) y) (values_in s b n)) (values_in s a n)) g0 c.requires (λ n. in_subscript s e n a b is) in
+    let g1 = c.evaluate-in-Subscript.new.guard in
+    let none_left = known_as w (values_in s a) s.left g0 g1 c.in_ok-base-in-Subscript.field-0 (None) c.in_default-6.is c.in_ok-base-in-Subscript.ensures.answer in
+    record { answer = part_fails w s.left (values_in s e) g0 g0 g1 g1 (λ n y. option_and_then (subscripted (attribute_value (value_at n w) w) y) (values_in s b n)) (values_in s a) 0 p0 none_left; counted = c.evaluate-in-Subscript.ensures.counted }
+
+pub evaluation::evaluate-evaluate-requires-in-Subscript-2 : goal.evaluation::evaluate-evaluate-requires-in-Subscript-2
+evaluation::evaluate-evaluate-requires-in-Subscript-2 g t c κs within =
+    let s = c.args.scene.now in
+    let w = world_in s in
+    let g0 = c.args.guard.now in
+    let n0 = c.args.entry.now in
+    let e = tree c.args.expr.now in
+    let a = tree c.deref-in-Subscript.result.now in
+    let b = tree c.deref-in-Subscript-2.result.now in
+    let is = ap tree c.in-Subscript.is ∙ tree-Subscript c.in-Subscript.base c.in-Subscript.index ∙ ap (λ (y : Expr). node subscript (two (tree y) (tree c.in-Subscript.index.value))) (sym c.deref-in-Subscript.ensures) ∙ ap (λ (y : Expr). node subscript (two a (tree y))) (sym c.deref-in-Subscript-2.ensures) in
+    let p0 = begins w s.left (values_in s e) (λ n. option_and_then (λ y. option_and_then (subscripted (attribute_value (value_at n w) w) y) (values_in s b n)) (values_in s a n)) g0 c.requires (λ n. in_subscript s e n a b is) in
+    let g1 = c.evaluate-in-Subscript.new.guard in
+    let o1 = c.in-Some-6.base in
+    let some1 = known_as w (values_in s a) s.left g0 g1 c.in_ok-base-in-Subscript.field-0 (Some o1) c.in-Some-6.is c.in_ok-base-in-Subscript.ensures.answer in
+    let p1 = part_done w s.left (values_in s e) g0 g0 g1 (λ n y. option_and_then (subscripted (attribute_value (value_at n w) w) y) (values_in s b n)) (values_in s a) 0 o1 p0 some1 in
+    let h1 = max 0 o1.height in
+    (omega (arith, c.decreases, ap size is), (within, part_ready w s.left (values_in s e) g0 g1 (λ n. subscripted (attribute_value (value_at n w) w) (plain o1.value)) (values_in s b) h1 p1))
+
+pub evaluation::evaluate-returns-in_default-7 : goal.evaluation::evaluate-returns-in_default-7
+evaluation::evaluate-returns-in_default-7 g t c =
+    let s = c.args.scene.now in
+    let w = world_in s in
+    let g0 = c.args.guard.now in
+    let n0 = c.args.entry.now in
+    let e = tree c.args.expr.now in
+    let a = tree c.deref-in-Subscript.result.now in
+    let b = tree c.deref-in-Subscript-2.result.now in
+    let is = ap tree c.in-Subscript.is ∙ tree-Subscript c.in-Subscript.base c.in-Subscript.index ∙ ap (λ (y : Expr). node subscript (two (tree y) (tree c.in-Subscript.index.value))) (sym c.deref-in-Subscript.ensures) ∙ ap (λ (y : Expr). node subscript (two a (tree y))) (sym c.deref-in-Subscript-2.ensures) in
+    let p0 = begins w s.left (values_in s e) (λ n. option_and_then (λ y. option_and_then (subscripted (attribute_value (value_at n w) w) y) (values_in s b n)) (values_in s a n)) g0 c.requires (λ n. in_subscript s e n a b is) in
+    let g1 = c.evaluate-in-Subscript.new.guard in
+    let o1 = c.in-Some-6.base in
+    let some1 = known_as w (values_in s a) s.left g0 g1 c.in_ok-base-in-Subscript.field-0 (Some o1) c.in-Some-6.is c.in_ok-base-in-Subscript.ensures.answer in
+    let p1 = part_done w s.left (values_in s e) g0 g0 g1 (λ n y. option_and_then (subscripted (attribute_value (value_at n w) w) y) (values_in s b n)) (values_in s a) 0 o1 p0 some1 in
+    let h1 = max 0 o1.height in
+    let g2 = c.evaluate-in-Subscript-2.new.guard in
+    let none_left = known_as w (values_in s b) s.left g1 g2 c.in_ok-index-in-Subscript.field-0 (None) c.in_default-7.is c.in_ok-index-in-Subscript.ensures.answer in
+    record { answer = part_fails w s.left (values_in s e) g0 g1 g2 g2 (λ n. subscripted (attribute_value (value_at n w) w) (plain o1.value)) (values_in s b) h1 p1 none_left; counted = counts_then w n0 c.evaluate-in-Subscript.new.entry c.evaluate-in-Subscript-2.new.entry g0 g1 g2 c.evaluate-in-Subscript.ensures.counted c.evaluate-in-Subscript-2.ensures.counted }
+
+pub evaluation::evaluate-follow-requires-in-Subscript : goal.evaluation::evaluate-follow-requires-in-Subscript
+evaluation::evaluate-follow-requires-in-Subscript g t c κs within =
+    let s = c.args.scene.now in
+    let w = world_in s in
+    let g0 = c.args.guard.now in
+    let n0 = c.args.entry.now in
+    let e = tree c.args.expr.now in
+    let a = tree c.deref-in-Subscript.result.now in
+    let b = tree c.deref-in-Subscript-2.result.now in
+    let is = ap tree c.in-Subscript.is ∙ tree-Subscript c.in-Subscript.base c.in-Subscript.index ∙ ap (λ (y : Expr). node subscript (two (tree y) (tree c.in-Subscript.index.value))) (sym c.deref-in-Subscript.ensures) ∙ ap (λ (y : Expr). node subscript (two a (tree y))) (sym c.deref-in-Subscript-2.ensures) in
+    let p0 = begins w s.left (values_in s e) (λ n. option_and_then (λ y. option_and_then (subscripted (attribute_value (value_at n w) w) y) (values_in s b n)) (values_in s a n)) g0 c.requires (λ n. in_subscript s e n a b is) in
+    let g1 = c.evaluate-in-Subscript.new.guard in
+    let o1 = c.in-Some-6.base in
+    let some1 = known_as w (values_in s a) s.left g0 g1 c.in_ok-base-in-Subscript.field-0 (Some o1) c.in-Some-6.is c.in_ok-base-in-Subscript.ensures.answer in
+    let p1 = part_done w s.left (values_in s e) g0 g0 g1 (λ n y. option_and_then (subscripted (attribute_value (value_at n w) w) y) (values_in s b n)) (values_in s a) 0 o1 p0 some1 in
+    let h1 = max 0 o1.height in
+    let g2 = c.evaluate-in-Subscript-2.new.guard in
+    let o2 = c.in-Some-7.index in
+    let some2 = known_as w (values_in s b) s.left g1 g2 c.in_ok-index-in-Subscript.field-0 (Some o2) c.in-Some-7.is c.in_ok-index-in-Subscript.ensures.answer in
+    let p2 = part_done w s.left (values_in s e) g0 g1 g2 (λ n. subscripted (attribute_value (value_at n w) w) (plain o1.value)) (values_in s b) h1 o2 p1 some2 in
+    let h2 = max h1 o2.height in
+    let r = c.in_ok-element-in-Subscript.element in
+    let p3 = rewritten w (values_in s e) s.left g0 g2 (λ n. subscripted (attribute_value (value_at n w) w) (plain o1.value) (plain o2.value)) (λ n. value_of (value_at n w) r) h2 (λ n. sym (c.in_ok-element-in-Subscript.ensures.value (value_at n w))) p2 in
+    (omega (arith, c.decreases, size-positive e), (within, (c.in_ok-element-in-Subscript.ensures.there, rest_ready w s.left (values_in s e) g0 g2 (λ n. value_of (value_at n w) r) h2 p3)))
+
+pub evaluation::evaluate-returns-in_default-8 : goal.evaluation::evaluate-returns-in_default-8
+evaluation::evaluate-returns-in_default-8 g t c =
+    let s = c.args.scene.now in
+    let w = world_in s in
+    let g0 = c.args.guard.now in
+    let n0 = c.args.entry.now in
+    let e = tree c.args.expr.now in
+    let a = tree c.deref-in-Subscript.result.now in
+    let b = tree c.deref-in-Subscript-2.result.now in
+    let is = ap tree c.in-Subscript.is ∙ tree-Subscript c.in-Subscript.base c.in-Subscript.index ∙ ap (λ (y : Expr). node subscript (two (tree y) (tree c.in-Subscript.index.value))) (sym c.deref-in-Subscript.ensures) ∙ ap (λ (y : Expr). node subscript (two a (tree y))) (sym c.deref-in-Subscript-2.ensures) in
+    let p0 = begins w s.left (values_in s e) (λ n. option_and_then (λ y. option_and_then (subscripted (attribute_value (value_at n w) w) y) (values_in s b n)) (values_in s a n)) g0 c.requires (λ n. in_subscript s e n a b is) in
+    let g1 = c.evaluate-in-Subscript.new.guard in
+    let o1 = c.in-Some-6.base in
+    let some1 = known_as w (values_in s a) s.left g0 g1 c.in_ok-base-in-Subscript.field-0 (Some o1) c.in-Some-6.is c.in_ok-base-in-Subscript.ensures.answer in
+    let p1 = part_done w s.left (values_in s e) g0 g0 g1 (λ n y. option_and_then (subscripted (attribute_value (value_at n w) w) y) (values_in s b n)) (values_in s a) 0 o1 p0 some1 in
+    let h1 = max 0 o1.height in
+    let g2 = c.evaluate-in-Subscript-2.new.guard in
+    let o2 = c.in-Some-7.index in
+    let some2 = known_as w (values_in s b) s.left g1 g2 c.in_ok-index-in-Subscript.field-0 (Some o2) c.in-Some-7.is c.in_ok-index-in-Subscript.ensures.answer in
+    let p2 = part_done w s.left (values_in s e) g0 g1 g2 (λ n. subscripted (attribute_value (value_at n w) w) (plain o1.value)) (values_in s b) h1 o2 p1 some2 in
+    let h2 = max h1 o2.height in
+    let r = c.in_ok-element-in-Subscript.element in
+    let p3 = rewritten w (values_in s e) s.left g0 g2 (λ n. subscripted (attribute_value (value_at n w) w) (plain o1.value) (plain o2.value)) (λ n. value_of (value_at n w) r) h2 (λ n. sym (c.in_ok-element-in-Subscript.ensures.value (value_at n w))) p2 in
+    let g3 = c.follow-in-Subscript.new.guard in
+    let none_left = known_as w (λ n. value_of (value_at n w) r) s.left g2 g3 c.in_ok-found-in-Subscript.field-0 (None) c.in_default-8.is c.in_ok-found-in-Subscript.ensures.answer in
+    record { answer = rest_fails w s.left (values_in s e) g0 g2 g3 g3 (λ n. value_of (value_at n w) r) h2 p3 none_left; counted = counts_then w n0 c.evaluate-in-Subscript-2.new.entry c.follow-in-Subscript.new.entry g0 g2 g3 (counts_then w n0 c.evaluate-in-Subscript.new.entry c.evaluate-in-Subscript-2.new.entry g0 g1 g2 c.evaluate-in-Subscript.ensures.counted c.evaluate-in-Subscript-2.ensures.counted) c.follow-in-Subscript.ensures.counted }
+
+pub evaluation::evaluate-returns-in-Some-8 : goal.evaluation::evaluate-returns-in-Some-8
+evaluation::evaluate-returns-in-Some-8 g t c =
+    let s = c.args.scene.now in
+    let w = world_in s in
+    let g0 = c.args.guard.now in
+    let n0 = c.args.entry.now in
+    let e = tree c.args.expr.now in
+    let a = tree c.deref-in-Subscript.result.now in
+    let b = tree c.deref-in-Subscript-2.result.now in
+    let is = ap tree c.in-Subscript.is ∙ tree-Subscript c.in-Subscript.base c.in-Subscript.index ∙ ap (λ (y : Expr). node subscript (two (tree y) (tree c.in-Subscript.index.value))) (sym c.deref-in-Subscript.ensures) ∙ ap (λ (y : Expr). node subscript (two a (tree y))) (sym c.deref-in-Subscript-2.ensures) in
+    let p0 = begins w s.left (values_in s e) (λ n. option_and_then (λ y. option_and_then (subscripted (attribute_value (value_at n w) w) y) (values_in s b n)) (values_in s a n)) g0 c.requires (λ n. in_subscript s e n a b is) in
+    let g1 = c.evaluate-in-Subscript.new.guard in
+    let o1 = c.in-Some-6.base in
+    let some1 = known_as w (values_in s a) s.left g0 g1 c.in_ok-base-in-Subscript.field-0 (Some o1) c.in-Some-6.is c.in_ok-base-in-Subscript.ensures.answer in
+    let p1 = part_done w s.left (values_in s e) g0 g0 g1 (λ n y. option_and_then (subscripted (attribute_value (value_at n w) w) y) (values_in s b n)) (values_in s a) 0 o1 p0 some1 in
+    let h1 = max 0 o1.height in
+    let g2 = c.evaluate-in-Subscript-2.new.guard in
+    let o2 = c.in-Some-7.index in
+    let some2 = known_as w (values_in s b) s.left g1 g2 c.in_ok-index-in-Subscript.field-0 (Some o2) c.in-Some-7.is c.in_ok-index-in-Subscript.ensures.answer in
+    let p2 = part_done w s.left (values_in s e) g0 g1 g2 (λ n. subscripted (attribute_value (value_at n w) w) (plain o1.value)) (values_in s b) h1 o2 p1 some2 in
+    let h2 = max h1 o2.height in
+    let r = c.in_ok-element-in-Subscript.element in
+    let p3 = rewritten w (values_in s e) s.left g0 g2 (λ n. subscripted (attribute_value (value_at n w) w) (plain o1.value) (plain o2.value)) (λ n. value_of (value_at n w) r) h2 (λ n. sym (c.in_ok-element-in-Subscript.ensures.value (value_at n w))) p2 in
+    let g3 = c.follow-in-Subscript.new.guard in
+    let o3 = c.in-Some-8.found in
+    let some3 = known_as w (λ n. value_of (value_at n w) r) s.left g2 g3 c.in_ok-found-in-Subscript.field-0 (Some o3) c.in-Some-8.is c.in_ok-found-in-Subscript.ensures.answer in
+    record { answer = finishes_rest w s.left (values_in s e) g0 g2 g3 (λ n. value_of (value_at n w) r) h2 o3 c.at_least-in-Subscript.result p3 some3 c.at_least-in-Subscript.ensures.value (omega (arith, c.at_least-in-Subscript.ensures.height, c.greater-in-Subscript.ensures)); counted = counts_then w n0 c.evaluate-in-Subscript-2.new.entry c.follow-in-Subscript.new.entry g0 g2 g3 (counts_then w n0 c.evaluate-in-Subscript.new.entry c.evaluate-in-Subscript-2.new.entry g0 g1 g2 c.evaluate-in-Subscript.ensures.counted c.evaluate-in-Subscript-2.ensures.counted) c.follow-in-Subscript.ensures.counted }
+
+pub evaluation::evaluate-returns-in_err-base-in-Subscript : goal.evaluation::evaluate-returns-in_err-base-in-Subscript
+evaluation::evaluate-returns-in_err-base-in-Subscript g t c =
+    let s = c.args.scene.now in
+    let w = world_in s in
+    let g0 = c.args.guard.now in
+    let n0 = c.args.entry.now in
+    record { answer = search rules; counted = c.evaluate-in-Subscript.ensures.counted }
+
+pub evaluation::evaluate-returns-in_err-index-in-Subscript : goal.evaluation::evaluate-returns-in_err-index-in-Subscript
+evaluation::evaluate-returns-in_err-index-in-Subscript g t c =
+    let s = c.args.scene.now in
+    let w = world_in s in
+    let g0 = c.args.guard.now in
+    let n0 = c.args.entry.now in
+    let g1 = c.evaluate-in-Subscript.new.guard in
+    let g2 = c.evaluate-in-Subscript-2.new.guard in
+    record { answer = search rules; counted = counts_then w n0 c.evaluate-in-Subscript.new.entry c.evaluate-in-Subscript-2.new.entry g0 g1 g2 c.evaluate-in-Subscript.ensures.counted c.evaluate-in-Subscript-2.ensures.counted }
+
+pub evaluation::evaluate-returns-in_err-element-in-Subscript : goal.evaluation::evaluate-returns-in_err-element-in-Subscript
+evaluation::evaluate-returns-in_err-element-in-Subscript g t c =
+    let s = c.args.scene.now in
+    let w = world_in s in
+    let g0 = c.args.guard.now in
+    let n0 = c.args.entry.now in
+    let g1 = c.evaluate-in-Subscript.new.guard in
+    let g2 = c.evaluate-in-Subscript-2.new.guard in
+    record { answer = search rules; counted = counts_then w n0 c.evaluate-in-Subscript.new.entry c.evaluate-in-Subscript-2.new.entry g0 g1 g2 c.evaluate-in-Subscript.ensures.counted c.evaluate-in-Subscript-2.ensures.counted }
+
+pub evaluation::evaluate-returns-in_err-found-in-Subscript : goal.evaluation::evaluate-returns-in_err-found-in-Subscript
+evaluation::evaluate-returns-in_err-found-in-Subscript g t c =
+    let s = c.args.scene.now in
+    let w = world_in s in
+    let g0 = c.args.guard.now in
+    let n0 = c.args.entry.now in
+    let g1 = c.evaluate-in-Subscript.new.guard in
+    let g2 = c.evaluate-in-Subscript-2.new.guard in
+    let g3 = c.follow-in-Subscript.new.guard in
+    record { answer = search rules; counted = counts_then w n0 c.evaluate-in-Subscript-2.new.entry c.follow-in-Subscript.new.entry g0 g2 g3 (counts_then w n0 c.evaluate-in-Subscript.new.entry c.evaluate-in-Subscript-2.new.entry g0 g1 g2 c.evaluate-in-Subscript.ensures.counted c.evaluate-in-Subscript-2.ensures.counted) c.follow-in-Subscript.ensures.counted }
+
+pub evaluation::evaluate-all_of-requires : goal.evaluation::evaluate-all_of-requires
+evaluation::evaluate-all_of-requires g t c κs within =
+    let s = c.args.scene.now in
+    let w = world_in s in
+    let g0 = c.args.guard.now in
+    let n0 = c.args.entry.now in
+    let e = tree c.args.expr.now in
+    let ts = pack (trees c.in-List.items) in
+    let is = ap tree c.in-List.is ∙ tree-List c.in-List.items in
+    let rest = λ (n : ℕ). all_demanded (results_in s ts n) in
+    let p0 = begins w s.left (values_in s e) (λ n. option_map list_value (all_demanded (results_in s ts n))) g0 c.requires (λ n. in_list s e n ts is) in
+    (omega (arith, c.decreases, ap size is), (within, mapped_part_ready w s.left (values_in s e) g0 g0 list_value rest 0 p0))
+
+pub evaluation::evaluate-returns-in_default-9 : goal.evaluation::evaluate-returns-in_default-9
+evaluation::evaluate-returns-in_default-9 g t c =
+    let s = c.args.scene.now in
+    let w = world_in s in
+    let g0 = c.args.guard.now in
+    let n0 = c.args.entry.now in
+    let e = tree c.args.expr.now in
+    let ts = pack (trees c.in-List.items) in
+    let is = ap tree c.in-List.is ∙ tree-List c.in-List.items in
+    let rest = λ (n : ℕ). all_demanded (results_in s ts n) in
+    let p0 = begins w s.left (values_in s e) (λ n. option_map list_value (all_demanded (results_in s ts n))) g0 c.requires (λ n. in_list s e n ts is) in
+    let g1 = c.all_of.new.guard in
+    let none_left = known_all_as w rest s.left g0 g1 c.in_ok-all-in-List.field-0 (None) c.in_default-9.is c.in_ok-all-in-List.ensures.answer in
+    record { answer = all_part_fails w s.left (values_in s e) g0 g0 g1 g1 list_value rest 0 p0 none_left; counted = c.all_of.ensures.counted }
+
+pub evaluation::evaluate-returns-in-Some-9 : goal.evaluation::evaluate-returns-in-Some-9
+evaluation::evaluate-returns-in-Some-9 g t c =
+    let s = c.args.scene.now in
+    let w = world_in s in
+    let g0 = c.args.guard.now in
+    let n0 = c.args.entry.now in
+    let e = tree c.args.expr.now in
+    let ts = pack (trees c.in-List.items) in
+    let is = ap tree c.in-List.is ∙ tree-List c.in-List.items in
+    let rest = λ (n : ℕ). all_demanded (results_in s ts n) in
+    let p0 = begins w s.left (values_in s e) (λ n. option_map list_value (all_demanded (results_in s ts n))) g0 c.requires (λ n. in_list s e n ts is) in
+    let g1 = c.all_of.new.guard in
+    let o = c.in-Some-9.all in
+    let u : Outcome = record { value = c.bounded.result; height = o.height } in
+    let some = known_all_as w rest s.left g0 g1 c.in_ok-all-in-List.field-0 (Some o) c.in-Some-9.is c.in_ok-all-in-List.ensures.answer in
+    record { answer = finishes_all w s.left (values_in s e) g0 g0 g1 list_value rest 0 o u p0 some (c.bounded.ensures ∙ ap bounded (plain-List o.values)) (omega arith); counted = c.all_of.ensures.counted }
+
+pub evaluation::evaluate-returns-in_err-all-in-List : goal.evaluation::evaluate-returns-in_err-all-in-List
+evaluation::evaluate-returns-in_err-all-in-List g t c =
+    let s = c.args.scene.now in
+    let w = world_in s in
+    let g0 = c.args.guard.now in
+    let n0 = c.args.entry.now in
+    record { answer = search rules; counted = c.all_of.ensures.counted }
+
+pub evaluation::follow-attribute-requires : goal.evaluation::follow-attribute-requires
+evaluation::follow-attribute-requires g t c κs within =
+    let s = c.args.scene.now in
+    let w = world_in s in
+    let g0 = c.args.guard.now in
+    let n0 = c.args.entry.now in
+    let f = λ (r : Reference) (n : ℕ). value_of (value_at n w) r in
+    (omega (arith, c.decreases), (within, (subst (IsInWorld w) c.in-Attribute.is c.requires.there, subst (λ r. Ready w g0 (f r)) c.in-Attribute.is c.requires.ready)))
+
+pub evaluation::follow-returns-in-Attribute : goal.evaluation::follow-returns-in-Attribute
+evaluation::follow-returns-in-Attribute g t c =
+    let s = c.args.scene.now in
+    let w = world_in s in
+    let g0 = c.args.guard.now in
+    let n0 = c.args.entry.now in
+    let f = λ (r : Reference) (n : ℕ). value_of (value_at n w) r in
+    record { answer = subst (λ r. IfOk c.attribute.result (λ o. Answers w (f r) s.left g0 c.attribute.new.guard o)) (sym c.in-Attribute.is) c.attribute.ensures.answer; counted = c.attribute.ensures.counted }
+
+pub evaluation::follow-returns-in-Value : goal.evaluation::follow-returns-in-Value
+evaluation::follow-returns-in-Value g t c =
+    let s = c.args.scene.now in
+    let w = world_in s in
+    let g0 = c.args.guard.now in
+    let n0 = c.args.entry.now in
+    let f = λ (r : Reference) (n : ℕ). value_of (value_at n w) r in
+    let r = c.args.reference in
+    record { answer = finishes w s.left (f r) g0 g0 (f r) 0 c.leaf.result (begins w s.left (f r) (f r) g0 c.requires.ready (λ n. refl)) (λ n. ap (λ q. value_of (value_at n w) q) c.in-Value.is ∙ ap Some (sym c.leaf.ensures.value)) c.leaf.ensures.height; counted = counts_same w n0 g0 }
+
+pub evaluation::attribute-enter-requires : goal.evaluation::attribute-enter-requires
+evaluation::attribute-enter-requires g t c κs within =
+    let s = c.args.scene.now in
+    let w = world_in s in
+    let g0 = c.args.guard.now in
+    let n0 = c.args.entry.now in
+    (omega (arith, c.decreases), (within, (c.requires.there, (sym c.in-Unseen.ensures, c.requires.ready))))
+
+pub evaluation::attribute-returns-in-Unseen : goal.evaluation::attribute-returns-in-Unseen
+evaluation::attribute-returns-in-Unseen g t c =
+    record { answer = c.enter.ensures.answer; counted = c.enter.ensures.counted }
+
+pub evaluation::attribute-returns-in-Pending : goal.evaluation::attribute-returns-in-Pending
+evaluation::attribute-returns-in-Pending g t c =
+    let s = c.args.scene.now in
+    let w = world_in s in
+    let g0 = c.args.guard.now in
+    let n0 = c.args.entry.now in
+    let pos = c.args.pos in
+    let f = λ (n : ℕ). value_at n w pos in
+    let ready = ready_is w g0 f c.requires.ready in
+    record { answer = answers_none w f s.left g0 g0 (circle w g0 pos (sym c.in-Pending.ensures) ready s.left); counted = counts_same w n0 g0 }
+
+pub evaluation::attribute-returns-in_err-copy-in-Done : goal.evaluation::attribute-returns-in_err-copy-in-Done
+evaluation::attribute-returns-in_err-copy-in-Done g t c =
+    let s = c.args.scene.now in
+    let w = world_in s in
+    let g0 = c.args.guard.now in
+    let n0 = c.args.entry.now in
+    record { answer = search rules; counted = counts_same w n0 g0 }
+
+pub evaluation::attribute-returns-in_ok-copy-in-Done : goal.evaluation::attribute-returns-in_ok-copy-in-Done
+evaluation::attribute-returns-in_ok-copy-in-Done g t c =
+    let s = c.args.scene.now in
+    let w = world_in s in
+    let g0 = c.args.guard.now in
+    let n0 = c.args.entry.now in
+    let pos = c.args.pos in
+    let f = λ (n : ℕ). value_at n w pos in
+    let ready = ready_is w g0 f c.requires.ready in
+    let v = plain c.in-Done.value.now in
+    let u : Outcome = record { value = c.in_ok-copy-in-Done.field-0; height = c.in-Done.height } in
+    record { answer = answers_some w f s.left g0 g0 u (reached_as w f s.left g0 g0 v (plain u.value) c.in-Done.height u.height c.in_ok-copy-in-Done.ensures refl (kept-reached w g0 pos s.left v c.in-Done.height ready (sym c.in-Done.ensures) c.if-height-scene.false)); counted = counts_same w n0 g0 }
+
+pub evaluation::attribute-returns-then-height-scene : goal.evaluation::attribute-returns-then-height-scene
+evaluation::attribute-returns-then-height-scene g t c =
+    let s = c.args.scene.now in
+    let w = world_in s in
+    let g0 = c.args.guard.now in
+    let n0 = c.args.entry.now in
+    let pos = c.args.pos in
+    let f = λ (n : ℕ). value_at n w pos in
+    let ready = ready_is w g0 f c.requires.ready in
+    record { answer = answers_none w f s.left g0 g0 (kept-short w g0 pos s.left (plain c.in-Done.value.now) c.in-Done.height ready (sym c.in-Done.ensures) c.if-height-scene.true); counted = counts_same w n0 g0 }
+
+pub evaluation::enter-enter-requires : goal.evaluation::enter-enter-requires
+evaluation::enter-enter-requires g t c =
+    c.requires.fresh
+
+pub evaluation::enter-expr_at-expr-requires : goal.evaluation::enter-expr_at-expr-requires
+evaluation::enter-expr_at-expr-requires g t c =
+    let s = c.args.scene.now in
+    let w = world_in s in
+    let g0 = c.args.guard.now in
+    let n0 = c.args.entry.now in
+    world_there s c.args.pos c.requires.there
+
+pub evaluation::enter-inside-inner-requires : goal.evaluation::enter-inside-inner-requires
+evaluation::enter-inside-inner-requires g t c =
+    c.if-scene-eq0.false
+
+pub evaluation::enter-returns-then-scene-eq0 : goal.evaluation::enter-returns-then-scene-eq0
+evaluation::enter-returns-then-scene-eq0 g t c =
+    let s = c.args.scene.now in
+    let w = world_in s in
+    let g0 = c.args.guard.now in
+    let n0 = c.args.entry.now in
+    let pos = c.args.pos in
+    let f = λ (n : ℕ). value_at n w pos in
+    let ready = ready_is w g0 f c.requires.ready in
+    record { answer = answers_none w f s.left g0 g0 (ap (λ (n : ℕ). value_at n w pos) c.if-scene-eq0.true ∙ value_at-none w pos); counted = counts_same w n0 g0 }
+
+pub evaluation::enter-returns-in_err-enter : goal.evaluation::enter-returns-in_err-enter
+evaluation::enter-returns-in_err-enter g t c =
+    let s = c.args.scene.now in
+    let w = world_in s in
+    let g0 = c.args.guard.now in
+    let n0 = c.args.entry.now in
+    let g1 = c.enter.new.self in
+    record { answer = search rules; counted = counts_equal w n0 n0 g0 g1 refl (unseen-same w g0 g1 c.in_err-enter.ensures.err) }
+
+pub evaluation::enter-evaluate-requires : goal.evaluation::enter-evaluate-requires
+evaluation::enter-evaluate-requires g t c κs within =
+    let s = c.args.scene.now in
+    let w = world_in s in
+    let g0 = c.args.guard.now in
+    let n0 = c.args.entry.now in
+    let pos = c.args.pos in
+    let f = λ (n : ℕ). value_at n w pos in
+    let ready = ready_is w g0 f c.requires.ready in
+    let x = tree c.expr_at-expr.result.now in
+    let i = c.inside-inner.result in
+    let g1 = c.enter.new.self in
+    let there = world_has s pos x c.expr_at-expr.ensures.expr in
+    let entered = c.in_ok-enter.ensures.ok in
+    let less = turn-less w s.left (size x) c.if-scene-eq0.false (size-turn w pos x there) in
+    let spent = inner_work s i (size x) c.inside-inner.ensures.world c.inside-inner.ensures.left less in
+    (omega (arith, c.decreases, spent), (within, ready_there s i pos x c.inside-inner.ensures.world c.inside-inner.ensures.at g1 (is_ready w g1 (λ n. value_with n w (frame_of_attribute pos) x) (ready_inside w g0 g1 pos x there entered ready))))
+
+pub evaluation::enter-returns-in_err-found : goal.evaluation::enter-returns-in_err-found
+evaluation::enter-returns-in_err-found g t c =
+    let s = c.args.scene.now in
+    let w = world_in s in
+    let g0 = c.args.guard.now in
+    let n0 = c.args.entry.now in
+    let pos = c.args.pos in
+    let f = λ (n : ℕ). value_at n w pos in
+    let ready = ready_is w g0 f c.requires.ready in
+    let x = tree c.expr_at-expr.result.now in
+    let i = c.inside-inner.result in
+    let g1 = c.enter.new.self in
+    let there = world_has s pos x c.expr_at-expr.ensures.expr in
+    let entered = c.in_ok-enter.ensures.ok in
+    let g2 = c.evaluate.new.guard in
+    let fewer = unseen-fewer w g0 g1 pos pending refl entered x there c.requires.fresh in
+    let count1 = counts_entered w n0 c.expr_at-expr.new.entry g0 g1 c.expr_at-expr.ensures.counted fewer in
+    let count2 = counts_there s i c.expr_at-expr.new.entry c.evaluate.new.entry g1 g2 c.inside-inner.ensures.world c.evaluate.ensures.counted in
+    let count = counts_then w n0 c.expr_at-expr.new.entry c.evaluate.new.entry g0 g1 g2 count1 count2 in
+    record { answer = search rules; counted = count }
+
+pub evaluation::enter-returns-in_err-kept : goal.evaluation::enter-returns-in_err-kept
+evaluation::enter-returns-in_err-kept g t c =
+    let s = c.args.scene.now in
+    let w = world_in s in
+    let g0 = c.args.guard.now in
+    let n0 = c.args.entry.now in
+    let pos = c.args.pos in
+    let f = λ (n : ℕ). value_at n w pos in
+    let ready = ready_is w g0 f c.requires.ready in
+    let x = tree c.expr_at-expr.result.now in
+    let i = c.inside-inner.result in
+    let g1 = c.enter.new.self in
+    let there = world_has s pos x c.expr_at-expr.ensures.expr in
+    let entered = c.in_ok-enter.ensures.ok in
+    let g2 = c.evaluate.new.guard in
+    let fewer = unseen-fewer w g0 g1 pos pending refl entered x there c.requires.fresh in
+    let count1 = counts_entered w n0 c.expr_at-expr.new.entry g0 g1 c.expr_at-expr.ensures.counted fewer in
+    let count2 = counts_there s i c.expr_at-expr.new.entry c.evaluate.new.entry g1 g2 c.inside-inner.ensures.world c.evaluate.ensures.counted in
+    let count = counts_then w n0 c.expr_at-expr.new.entry c.evaluate.new.entry g0 g1 g2 count1 count2 in
+    record { answer = search rules; counted = count }
+
+pub evaluation::enter-returns-in_default : goal.evaluation::enter-returns-in_default
+evaluation::enter-returns-in_default g t c =
+    let s = c.args.scene.now in
+    let w = world_in s in
+    let g0 = c.args.guard.now in
+    let n0 = c.args.entry.now in
+    let pos = c.args.pos in
+    let f = λ (n : ℕ). value_at n w pos in
+    let ready = ready_is w g0 f c.requires.ready in
+    let x = tree c.expr_at-expr.result.now in
+    let i = c.inside-inner.result in
+    let g1 = c.enter.new.self in
+    let there = world_has s pos x c.expr_at-expr.ensures.expr in
+    let entered = c.in_ok-enter.ensures.ok in
+    let g2 = c.evaluate.new.guard in
+    let fewer = unseen-fewer w g0 g1 pos pending refl entered x there c.requires.fresh in
+    let count1 = counts_entered w n0 c.expr_at-expr.new.entry g0 g1 c.expr_at-expr.ensures.counted fewer in
+    let count2 = counts_there s i c.expr_at-expr.new.entry c.evaluate.new.entry g1 g2 c.inside-inner.ensures.world c.evaluate.ensures.counted in
+    let count = counts_then w n0 c.expr_at-expr.new.entry c.evaluate.new.entry g0 g1 g2 count1 count2 in
+    let none_left = answer_there_none s i pos x c.inside-inner.ensures.world c.inside-inner.ensures.at g1 g2 c.in_ok-found.field-0 c.inside-inner.ensures.left c.in_default.is c.in_ok-found.ensures.answer in
+    record { answer = answers_none w f s.left g0 g2 (fails_inside w g0 g1 pos x there entered s.left c.if-scene-eq0.false none_left); counted = count }
+
+pub evaluation::enter-finish-requires : goal.evaluation::enter-finish-requires
+evaluation::enter-finish-requires g t c =
+    let s = c.args.scene.now in
+    let w = world_in s in
+    let g0 = c.args.guard.now in
+    let n0 = c.args.entry.now in
+    let pos = c.args.pos in
+    let f = λ (n : ℕ). value_at n w pos in
+    let ready = ready_is w g0 f c.requires.ready in
+    let x = tree c.expr_at-expr.result.now in
+    let i = c.inside-inner.result in
+    let g1 = c.enter.new.self in
+    let there = world_has s pos x c.expr_at-expr.ensures.expr in
+    let entered = c.in_ok-enter.ensures.ok in
+    let g2 = c.evaluate.new.guard in
+    let fewer = unseen-fewer w g0 g1 pos pending refl entered x there c.requires.fresh in
+    let count1 = counts_entered w n0 c.expr_at-expr.new.entry g0 g1 c.expr_at-expr.ensures.counted fewer in
+    let count2 = counts_there s i c.expr_at-expr.new.entry c.evaluate.new.entry g1 g2 c.inside-inner.ensures.world c.evaluate.ensures.counted in
+    let count = counts_then w n0 c.expr_at-expr.new.entry c.evaluate.new.entry g0 g1 g2 count1 count2 in
+    let o = c.in-Some.found in
+    let reached = answer_there_some s i pos x c.inside-inner.ensures.world c.inside-inner.ensures.at g1 g2 c.in_ok-found.field-0 c.inside-inner.ensures.left o c.in-Some.is c.in_ok-found.ensures.answer in
+    still_pending w g0 g1 pos x there entered g2 g2 s.left (plain o.value) o.height reached
+
+pub evaluation::enter-overflow_add-found : goal.evaluation::enter-overflow_add-found
+evaluation::enter-overflow_add-found g t c =
+    let s = c.args.scene.now in
+    let w = world_in s in
+    let g0 = c.args.guard.now in
+    let n0 = c.args.entry.now in
+    let pos = c.args.pos in
+    let f = λ (n : ℕ). value_at n w pos in
+    let ready = ready_is w g0 f c.requires.ready in
+    let x = tree c.expr_at-expr.result.now in
+    let i = c.inside-inner.result in
+    let g1 = c.enter.new.self in
+    let there = world_has s pos x c.expr_at-expr.ensures.expr in
+    let entered = c.in_ok-enter.ensures.ok in
+    let g2 = c.evaluate.new.guard in
+    let fewer = unseen-fewer w g0 g1 pos pending refl entered x there c.requires.fresh in
+    let count1 = counts_entered w n0 c.expr_at-expr.new.entry g0 g1 c.expr_at-expr.ensures.counted fewer in
+    let count2 = counts_there s i c.expr_at-expr.new.entry c.evaluate.new.entry g1 g2 c.inside-inner.ensures.world c.evaluate.ensures.counted in
+    let count = counts_then w n0 c.expr_at-expr.new.entry c.evaluate.new.entry g0 g1 g2 count1 count2 in
+    let o = c.in-Some.found in
+    let reached = answer_there_some s i pos x c.inside-inner.ensures.world c.inside-inner.ensures.at g1 g2 c.in_ok-found.field-0 c.inside-inner.ensures.left o c.in-Some.is c.in_ok-found.ensures.answer in
+    omega (arith, reached.within)
+
+pub evaluation::enter-one_more-requires : goal.evaluation::enter-one_more-requires
+evaluation::enter-one_more-requires g t c =
+    let s = c.args.scene.now in
+    let w = world_in s in
+    let g0 = c.args.guard.now in
+    let n0 = c.args.entry.now in
+    let pos = c.args.pos in
+    let f = λ (n : ℕ). value_at n w pos in
+    let ready = ready_is w g0 f c.requires.ready in
+    let x = tree c.expr_at-expr.result.now in
+    let i = c.inside-inner.result in
+    let g1 = c.enter.new.self in
+    let there = world_has s pos x c.expr_at-expr.ensures.expr in
+    let entered = c.in_ok-enter.ensures.ok in
+    let g2 = c.evaluate.new.guard in
+    let fewer = unseen-fewer w g0 g1 pos pending refl entered x there c.requires.fresh in
+    let count1 = counts_entered w n0 c.expr_at-expr.new.entry g0 g1 c.expr_at-expr.ensures.counted fewer in
+    let count2 = counts_there s i c.expr_at-expr.new.entry c.evaluate.new.entry g1 g2 c.inside-inner.ensures.world c.evaluate.ensures.counted in
+    let count = counts_then w n0 c.expr_at-expr.new.entry c.evaluate.new.entry g0 g1 g2 count1 count2 in
+    let o = c.in-Some.found in
+    let reached = answer_there_some s i pos x c.inside-inner.ensures.world c.inside-inner.ensures.at g1 g2 c.in_ok-found.field-0 c.inside-inner.ensures.left o c.in-Some.is c.in_ok-found.ensures.answer in
+    omega (arith, reached.within)
+
+pub evaluation::enter-returns : goal.evaluation::enter-returns
+evaluation::enter-returns g t c =
+    let s = c.args.scene.now in
+    let w = world_in s in
+    let g0 = c.args.guard.now in
+    let n0 = c.args.entry.now in
+    let pos = c.args.pos in
+    let f = λ (n : ℕ). value_at n w pos in
+    let ready = ready_is w g0 f c.requires.ready in
+    let x = tree c.expr_at-expr.result.now in
+    let i = c.inside-inner.result in
+    let g1 = c.enter.new.self in
+    let there = world_has s pos x c.expr_at-expr.ensures.expr in
+    let entered = c.in_ok-enter.ensures.ok in
+    let g2 = c.evaluate.new.guard in
+    let fewer = unseen-fewer w g0 g1 pos pending refl entered x there c.requires.fresh in
+    let count1 = counts_entered w n0 c.expr_at-expr.new.entry g0 g1 c.expr_at-expr.ensures.counted fewer in
+    let count2 = counts_there s i c.expr_at-expr.new.entry c.evaluate.new.entry g1 g2 c.inside-inner.ensures.world c.evaluate.ensures.counted in
+    let count = counts_then w n0 c.expr_at-expr.new.entry c.evaluate.new.entry g0 g1 g2 count1 count2 in
+    let o = c.in-Some.found in
+    let reached = answer_there_some s i pos x c.inside-inner.ensures.world c.inside-inner.ensures.at g1 g2 c.in_ok-found.field-0 c.inside-inner.ensures.left o c.in-Some.is c.in_ok-found.ensures.answer in
+    let g3 = c.finish.new.self in
+    let u = c.one_more.result in
+    let finished = finished_as pos (plain c.in_ok-kept.kept) (plain o.value) (o.height + 1) g2 g3 c.in_ok-kept.ensures c.finish.ensures in
+    let kept = kept_inside w g0 g1 pos x there entered g2 g3 s.left (plain o.value) o.height c.if-scene-eq0.false c.requires.fresh finished reached in
+    record { answer = answers_some w f s.left g0 g3 u (reached_as w f s.left g0 g3 (plain o.value) (plain u.value) (o.height + 1) u.height c.one_more.ensures.value c.one_more.ensures.height kept); counted = counts_then w n0 c.evaluate.new.entry c.evaluate.new.entry g0 g2 g3 count (counts_from w c.evaluate.new.entry c.evaluate.new.entry g2 g3 refl (unseen-after w g2 g3 pos (done (plain o.value) (o.height + 1)) refl finished)) }
+
+pub chains::conjunction-loop-i-init : goal.chains::conjunction-loop-i-init
+chains::conjunction-loop-i-init g t c =
+    let s = c.args.scene.now in
+    let w = world_in s in
+    let g0 = c.args.guard.now in
+    let n0 = c.args.entry.now in
+    let ts = trees c.args.items.now in
+    let f = λ (n : ℕ). conjunction (boolean true) (results_in s (pack ts) n) in
+    let v = plain c.leaf-so_far.result.value in
+    let is = c.leaf-so_far.ensures.value ∙ plain-Boolean true in
+    let rest = λ (n : ℕ). conjunction v (results_in s (pack ts) n) in
+    record { partly = subst (λ (h : ℕ). IsPartly w f s.left g0 g0 rest h) (sym c.leaf-so_far.ensures.height) (begins w s.left f rest g0 c.requires (λ n. ap (λ (p : Plain). conjunction p (results_in s (pack ts) n)) (sym is))); counted = counts_same w n0 g0 }
+
+pub chains::conjunction-returns : goal.chains::conjunction-returns
+chains::conjunction-returns g t c =
+    let s = c.args.scene.now in
+    let w = world_in s in
+    let g0 = c.args.guard.now in
+    let n0 = c.args.entry.now in
+    let ts = trees c.args.items.now in
+    let f = λ (n : ℕ). conjunction (boolean true) (results_in s (pack ts) n) in
+    let g1 = c.loop-i.guard in
+    let i = c.loop-i.i in
+    let v = plain c.loop-i.so_far.value in
+    let h = c.loop-i.so_far.height in
+    let p0 = c.loop-i.invariant.partly in
+    let rest = λ (n : ℕ). conjunction v (results_in s (pack (drop i ts)) n) in
+    let past : length ts ≤ i = omega arith in
+    record { answer = finishes w s.left f g0 g1 rest h c.loop-i.so_far p0 (λ n. conjunction-end s ts i past n v) refl; counted = c.loop-i.invariant.counted }
+
+pub chains::conjunction-returns-then-and_ends : goal.chains::conjunction-returns-then-and_ends
+chains::conjunction-returns-then-and_ends g t c =
+    let s = c.args.scene.now in
+    let w = world_in s in
+    let g0 = c.args.guard.now in
+    let n0 = c.args.entry.now in
+    let ts = trees c.args.items.now in
+    let f = λ (n : ℕ). conjunction (boolean true) (results_in s (pack ts) n) in
+    let g1 = c.loop-i.guard in
+    let i = c.loop-i.i in
+    let v = plain c.loop-i.so_far.value in
+    let h = c.loop-i.so_far.height in
+    let p0 = c.loop-i.invariant.partly in
+    let rest = λ (n : ℕ). conjunction v (results_in s (pack (drop i ts)) n) in
+    let decided = sym c.and_ends.ensures ∙ c.if-and_ends.true in
+    record { answer = finishes w s.left f g0 g1 rest h c.loop-i.so_far p0 (λ n. conjunction-decided v (results_in s (pack (drop i ts)) n) decided) refl; counted = c.loop-i.invariant.counted }
+
+pub chains::conjunction-evaluate-requires : goal.chains::conjunction-evaluate-requires
+chains::conjunction-evaluate-requires g t c κs within =
+    let s = c.args.scene.now in
+    let w = world_in s in
+    let g0 = c.args.guard.now in
+    let n0 = c.args.entry.now in
+    let ts = trees c.args.items.now in
+    let f = λ (n : ℕ). conjunction (boolean true) (results_in s (pack ts) n) in
+    let g1 = c.loop-i.guard in
+    let i = c.loop-i.i in
+    let v = plain c.loop-i.so_far.value in
+    let h = c.loop-i.so_far.height in
+    let p0 = c.loop-i.invariant.partly in
+    let rest = λ (n : ℕ). conjunction v (results_in s (pack (drop i ts)) n) in
+    let a = tree c.at.result.now in
+    let undecided = sym c.and_ends.ensures ∙ c.if-and_ends.false in
+    let k = λ (n : ℕ) (p : Plain). conjunction (and_value v p) (results_in s (pack (drop (i + 1) ts)) n) in
+    let p1 = rewritten w f s.left g0 g1 rest (λ n. option_and_then (k n) (values_in s a n)) h (λ n. conjunction-from s ts i a c.at.ensures n v undecided) p0 in
+    (omega (arith, c.decreases, size-at ts i a c.at.ensures), (within, part_ready w s.left f g0 g1 k (values_in s a) h p1))
+
+pub chains::conjunction-returns-in_default : goal.chains::conjunction-returns-in_default
+chains::conjunction-returns-in_default g t c =
+    let s = c.args.scene.now in
+    let w = world_in s in
+    let g0 = c.args.guard.now in
+    let n0 = c.args.entry.now in
+    let ts = trees c.args.items.now in
+    let f = λ (n : ℕ). conjunction (boolean true) (results_in s (pack ts) n) in
+    let g1 = c.loop-i.guard in
+    let i = c.loop-i.i in
+    let v = plain c.loop-i.so_far.value in
+    let h = c.loop-i.so_far.height in
+    let p0 = c.loop-i.invariant.partly in
+    let rest = λ (n : ℕ). conjunction v (results_in s (pack (drop i ts)) n) in
+    let a = tree c.at.result.now in
+    let undecided = sym c.and_ends.ensures ∙ c.if-and_ends.false in
+    let k = λ (n : ℕ) (p : Plain). conjunction (and_value v p) (results_in s (pack (drop (i + 1) ts)) n) in
+    let p1 = rewritten w f s.left g0 g1 rest (λ n. option_and_then (k n) (values_in s a n)) h (λ n. conjunction-from s ts i a c.at.ensures n v undecided) p0 in
+    let g2 = c.evaluate.new.guard in
+    let none_left = known_as w (values_in s a) s.left g1 g2 c.in_ok-next.field-0 None c.in_default.is c.in_ok-next.ensures.answer in
+    record { answer = part_fails w s.left f g0 g1 g2 g2 k (values_in s a) h p1 none_left; counted = counts_then w n0 c.loop-i.entry c.evaluate.new.entry g0 g1 g2 c.loop-i.invariant.counted c.evaluate.ensures.counted }
+
+pub chains::conjunction-returns-in_err-next : goal.chains::conjunction-returns-in_err-next
+chains::conjunction-returns-in_err-next g t c =
+    let s = c.args.scene.now in
+    let w = world_in s in
+    let g0 = c.args.guard.now in
+    let n0 = c.args.entry.now in
+    let g1 = c.loop-i.guard in
+    let g2 = c.evaluate.new.guard in
+    record { answer = search rules; counted = counts_then w n0 c.loop-i.entry c.evaluate.new.entry g0 g1 g2 c.loop-i.invariant.counted c.evaluate.ensures.counted }
+
+pub chains::conjunction-loop-i-preserved : goal.chains::conjunction-loop-i-preserved
+chains::conjunction-loop-i-preserved g t c =
+    let s = c.args.scene.now in
+    let w = world_in s in
+    let g0 = c.args.guard.now in
+    let n0 = c.args.entry.now in
+    let ts = trees c.args.items.now in
+    let f = λ (n : ℕ). conjunction (boolean true) (results_in s (pack ts) n) in
+    let g1 = c.loop-i.guard in
+    let i = c.loop-i.i in
+    let v = plain c.loop-i.so_far.value in
+    let h = c.loop-i.so_far.height in
+    let p0 = c.loop-i.invariant.partly in
+    let rest = λ (n : ℕ). conjunction v (results_in s (pack (drop i ts)) n) in
+    let a = tree c.at.result.now in
+    let undecided = sym c.and_ends.ensures ∙ c.if-and_ends.false in
+    let k = λ (n : ℕ) (p : Plain). conjunction (and_value v p) (results_in s (pack (drop (i + 1) ts)) n) in
+    let p1 = rewritten w f s.left g0 g1 rest (λ n. option_and_then (k n) (values_in s a n)) h (λ n. conjunction-from s ts i a c.at.ensures n v undecided) p0 in
+    let g2 = c.evaluate.new.guard in
+    let o = c.in-Some.next in
+    let some = known_as w (values_in s a) s.left g1 g2 c.in_ok-next.field-0 (Some o) c.in-Some.is c.in_ok-next.ensures.answer in
+    let p2 = part_done w s.left f g0 g1 g2 k (values_in s a) h o p1 some in
+    let p3 = subst (λ (p : Plain). IsPartly w f s.left g0 g2 (λ n. conjunction p (results_in s (pack (drop (i + 1) ts)) n)) (max h o.height)) (sym c.and_step.ensures) p2 in
+    record { partly = subst (λ (m : ℕ). IsPartly w f s.left g0 g2 (λ n. conjunction (plain c.and_step.result) (results_in s (pack (drop (i + 1) ts)) n)) m) (sym c.greater.ensures) p3; counted = counts_then w n0 c.loop-i.entry c.evaluate.new.entry g0 g1 g2 c.loop-i.invariant.counted c.evaluate.ensures.counted }
+
+pub chains::disjunction-loop-i-init : goal.chains::disjunction-loop-i-init
+chains::disjunction-loop-i-init g t c =
+    let s = c.args.scene.now in
+    let w = world_in s in
+    let g0 = c.args.guard.now in
+    let n0 = c.args.entry.now in
+    let ts = trees c.args.items.now in
+    let f = λ (n : ℕ). disjunction (boolean false) (results_in s (pack ts) n) in
+    let v = plain c.leaf-so_far.result.value in
+    let is = c.leaf-so_far.ensures.value ∙ plain-Boolean false in
+    let rest = λ (n : ℕ). disjunction v (results_in s (pack ts) n) in
+    record { partly = subst (λ (h : ℕ). IsPartly w f s.left g0 g0 rest h) (sym c.leaf-so_far.ensures.height) (begins w s.left f rest g0 c.requires (λ n. ap (λ (p : Plain). disjunction p (results_in s (pack ts) n)) (sym is))); counted = counts_same w n0 g0 }
+
+pub chains::disjunction-returns : goal.chains::disjunction-returns
+chains::disjunction-returns g t c =
+    let s = c.args.scene.now in
+    let w = world_in s in
+    let g0 = c.args.guard.now in
+    let n0 = c.args.entry.now in
+    let ts = trees c.args.items.now in
+    let f = λ (n : ℕ). disjunction (boolean false) (results_in s (pack ts) n) in
+    let g1 = c.loop-i.guard in
+    let i = c.loop-i.i in
+    let v = plain c.loop-i.so_far.value in
+    let h = c.loop-i.so_far.height in
+    let p0 = c.loop-i.invariant.partly in
+    let rest = λ (n : ℕ). disjunction v (results_in s (pack (drop i ts)) n) in
+    let past : length ts ≤ i = omega arith in
+    record { answer = finishes w s.left f g0 g1 rest h c.loop-i.so_far p0 (λ n. disjunction-end s ts i past n v) refl; counted = c.loop-i.invariant.counted }
+
+pub chains::disjunction-returns-then-or_ends : goal.chains::disjunction-returns-then-or_ends
+chains::disjunction-returns-then-or_ends g t c =
+    let s = c.args.scene.now in
+    let w = world_in s in
+    let g0 = c.args.guard.now in
+    let n0 = c.args.entry.now in
+    let ts = trees c.args.items.now in
+    let f = λ (n : ℕ). disjunction (boolean false) (results_in s (pack ts) n) in
+    let g1 = c.loop-i.guard in
+    let i = c.loop-i.i in
+    let v = plain c.loop-i.so_far.value in
+    let h = c.loop-i.so_far.height in
+    let p0 = c.loop-i.invariant.partly in
+    let rest = λ (n : ℕ). disjunction v (results_in s (pack (drop i ts)) n) in
+    let decided = sym c.or_ends.ensures ∙ c.if-or_ends.true in
+    record { answer = finishes w s.left f g0 g1 rest h c.loop-i.so_far p0 (λ n. disjunction-decided v (results_in s (pack (drop i ts)) n) decided) refl; counted = c.loop-i.invariant.counted }
+
+pub chains::disjunction-evaluate-requires : goal.chains::disjunction-evaluate-requires
+chains::disjunction-evaluate-requires g t c κs within =
+    let s = c.args.scene.now in
+    let w = world_in s in
+    let g0 = c.args.guard.now in
+    let n0 = c.args.entry.now in
+    let ts = trees c.args.items.now in
+    let f = λ (n : ℕ). disjunction (boolean false) (results_in s (pack ts) n) in
+    let g1 = c.loop-i.guard in
+    let i = c.loop-i.i in
+    let v = plain c.loop-i.so_far.value in
+    let h = c.loop-i.so_far.height in
+    let p0 = c.loop-i.invariant.partly in
+    let rest = λ (n : ℕ). disjunction v (results_in s (pack (drop i ts)) n) in
+    let a = tree c.at.result.now in
+    let undecided = sym c.or_ends.ensures ∙ c.if-or_ends.false in
+    let k = λ (n : ℕ) (p : Plain). disjunction (or_value v p) (results_in s (pack (drop (i + 1) ts)) n) in
+    let p1 = rewritten w f s.left g0 g1 rest (λ n. option_and_then (k n) (values_in s a n)) h (λ n. disjunction-from s ts i a c.at.ensures n v undecided) p0 in
+    (omega (arith, c.decreases, size-at ts i a c.at.ensures), (within, part_ready w s.left f g0 g1 k (values_in s a) h p1))
+
+pub chains::disjunction-returns-in_default : goal.chains::disjunction-returns-in_default
+chains::disjunction-returns-in_default g t c =
+    let s = c.args.scene.now in
+    let w = world_in s in
+    let g0 = c.args.guard.now in
+    let n0 = c.args.entry.now in
+    let ts = trees c.args.items.now in
+    let f = λ (n : ℕ). disjunction (boolean false) (results_in s (pack ts) n) in
+    let g1 = c.loop-i.guard in
+    let i = c.loop-i.i in
+    let v = plain c.loop-i.so_far.value in
+    let h = c.loop-i.so_far.height in
+    let p0 = c.loop-i.invariant.partly in
+    let rest = λ (n : ℕ). disjunction v (results_in s (pack (drop i ts)) n) in
+    let a = tree c.at.result.now in
+    let undecided = sym c.or_ends.ensures ∙ c.if-or_ends.false in
+    let k = λ (n : ℕ) (p : Plain). disjunction (or_value v p) (results_in s (pack (drop (i + 1) ts)) n) in
+    let p1 = rewritten w f s.left g0 g1 rest (λ n. option_and_then (k n) (values_in s a n)) h (λ n. disjunction-from s ts i a c.at.ensures n v undecided) p0 in
+    let g2 = c.evaluate.new.guard in
+    let none_left = known_as w (values_in s a) s.left g1 g2 c.in_ok-next.field-0 None c.in_default.is c.in_ok-next.ensures.answer in
+    record { answer = part_fails w s.left f g0 g1 g2 g2 k (values_in s a) h p1 none_left; counted = counts_then w n0 c.loop-i.entry c.evaluate.new.entry g0 g1 g2 c.loop-i.invariant.counted c.evaluate.ensures.counted }
+
+pub chains::disjunction-returns-in_err-next : goal.chains::disjunction-returns-in_err-next
+chains::disjunction-returns-in_err-next g t c =
+    let s = c.args.scene.now in
+    let w = world_in s in
+    let g0 = c.args.guard.now in
+    let n0 = c.args.entry.now in
+    let g1 = c.loop-i.guard in
+    let g2 = c.evaluate.new.guard in
+    record { answer = search rules; counted = counts_then w n0 c.loop-i.entry c.evaluate.new.entry g0 g1 g2 c.loop-i.invariant.counted c.evaluate.ensures.counted }
+
+pub chains::disjunction-loop-i-preserved : goal.chains::disjunction-loop-i-preserved
+chains::disjunction-loop-i-preserved g t c =
+    let s = c.args.scene.now in
+    let w = world_in s in
+    let g0 = c.args.guard.now in
+    let n0 = c.args.entry.now in
+    let ts = trees c.args.items.now in
+    let f = λ (n : ℕ). disjunction (boolean false) (results_in s (pack ts) n) in
+    let g1 = c.loop-i.guard in
+    let i = c.loop-i.i in
+    let v = plain c.loop-i.so_far.value in
+    let h = c.loop-i.so_far.height in
+    let p0 = c.loop-i.invariant.partly in
+    let rest = λ (n : ℕ). disjunction v (results_in s (pack (drop i ts)) n) in
+    let a = tree c.at.result.now in
+    let undecided = sym c.or_ends.ensures ∙ c.if-or_ends.false in
+    let k = λ (n : ℕ) (p : Plain). disjunction (or_value v p) (results_in s (pack (drop (i + 1) ts)) n) in
+    let p1 = rewritten w f s.left g0 g1 rest (λ n. option_and_then (k n) (values_in s a n)) h (λ n. disjunction-from s ts i a c.at.ensures n v undecided) p0 in
+    let g2 = c.evaluate.new.guard in
+    let o = c.in-Some.next in
+    let some = known_as w (values_in s a) s.left g1 g2 c.in_ok-next.field-0 (Some o) c.in-Some.is c.in_ok-next.ensures.answer in
+    let p2 = part_done w s.left f g0 g1 g2 k (values_in s a) h o p1 some in
+    let p3 = subst (λ (p : Plain). IsPartly w f s.left g0 g2 (λ n. disjunction p (results_in s (pack (drop (i + 1) ts)) n)) (max h o.height)) (sym c.or_step.ensures) p2 in
+    record { partly = subst (λ (m : ℕ). IsPartly w f s.left g0 g2 (λ n. disjunction (plain c.or_step.result) (results_in s (pack (drop (i + 1) ts)) n)) m) (sym c.greater.ensures) p3; counted = counts_then w n0 c.loop-i.entry c.evaluate.new.entry g0 g1 g2 c.loop-i.invariant.counted c.evaluate.ensures.counted }
+
+pub chains::all_of-loop-i-init : goal.chains::all_of-loop-i-init
+chains::all_of-loop-i-init g t c =
+    let s = c.args.scene.now in
+    let w = world_in s in
+    let g0 = c.args.guard.now in
+    let n0 = c.args.entry.now in
+    let ts = trees c.args.items.now in
+    let f = λ (n : ℕ). all_demanded (results_in s (pack ts) n) in
+    let rest = λ (n : ℕ). values_and (plains c.new.result) (all_demanded (results_in s (pack ts) n)) in
+    record { partly = begins w s.left f rest g0 c.requires (λ n. all_demanded-start (all_demanded (results_in s (pack ts) n)) ∙ ap (λ (vs : List Plain). values_and vs (all_demanded (results_in s (pack ts) n))) (sym c.new.ensures)); counted = counts_same w n0 g0 }
+
+pub chains::all_of-returns : goal.chains::all_of-returns
+chains::all_of-returns g t c =
+    let s = c.args.scene.now in
+    let w = world_in s in
+    let g0 = c.args.guard.now in
+    let n0 = c.args.entry.now in
+    let ts = trees c.args.items.now in
+    let f = λ (n : ℕ). all_demanded (results_in s (pack ts) n) in
+    let g1 = c.loop-i.guard in
+    let i = c.loop-i.i in
+    let vs = plains c.loop-i.all.values in
+    let h = c.loop-i.all.height in
+    let p0 = c.loop-i.invariant.partly in
+    let rest = λ (n : ℕ). values_and vs (all_demanded (results_in s (pack (drop i ts)) n)) in
+    let past : length ts ≤ i = omega arith in
+    record { answer = finishes_list w s.left f g0 g1 rest h c.loop-i.all p0 (λ n. values-end s ts i past n vs) refl; counted = c.loop-i.invariant.counted }
+
+pub chains::all_of-evaluate-requires : goal.chains::all_of-evaluate-requires
+chains::all_of-evaluate-requires g t c κs within =
+    let s = c.args.scene.now in
+    let w = world_in s in
+    let g0 = c.args.guard.now in
+    let n0 = c.args.entry.now in
+    let ts = trees c.args.items.now in
+    let f = λ (n : ℕ). all_demanded (results_in s (pack ts) n) in
+    let g1 = c.loop-i.guard in
+    let i = c.loop-i.i in
+    let vs = plains c.loop-i.all.values in
+    let h = c.loop-i.all.height in
+    let p0 = c.loop-i.invariant.partly in
+    let rest = λ (n : ℕ). values_and vs (all_demanded (results_in s (pack (drop i ts)) n)) in
+    let a = tree c.at.result.now in
+    let k = λ (n : ℕ) (p : Plain). values_and (vs ++ p ∷ []) (all_demanded (results_in s (pack (drop (i + 1) ts)) n)) in
+    let p1 = rewritten w f s.left g0 g1 rest (λ n. option_and_then (k n) (values_in s a n)) h (λ n. all_demanded-from s ts i a c.at.ensures n vs) p0 in
+    (omega (arith, c.decreases, size-at ts i a c.at.ensures), (within, part_ready w s.left f g0 g1 k (values_in s a) h p1))
+
+pub chains::all_of-returns-in_default : goal.chains::all_of-returns-in_default
+chains::all_of-returns-in_default g t c =
+    let s = c.args.scene.now in
+    let w = world_in s in
+    let g0 = c.args.guard.now in
+    let n0 = c.args.entry.now in
+    let ts = trees c.args.items.now in
+    let f = λ (n : ℕ). all_demanded (results_in s (pack ts) n) in
+    let g1 = c.loop-i.guard in
+    let i = c.loop-i.i in
+    let vs = plains c.loop-i.all.values in
+    let h = c.loop-i.all.height in
+    let p0 = c.loop-i.invariant.partly in
+    let rest = λ (n : ℕ). values_and vs (all_demanded (results_in s (pack (drop i ts)) n)) in
+    let a = tree c.at.result.now in
+    let k = λ (n : ℕ) (p : Plain). values_and (vs ++ p ∷ []) (all_demanded (results_in s (pack (drop (i + 1) ts)) n)) in
+    let p1 = rewritten w f s.left g0 g1 rest (λ n. option_and_then (k n) (values_in s a n)) h (λ n. all_demanded-from s ts i a c.at.ensures n vs) p0 in
+    let g2 = c.evaluate.new.guard in
+    let none_left = known_as w (values_in s a) s.left g1 g2 c.in_ok-next.field-0 None c.in_default.is c.in_ok-next.ensures.answer in
+    record { answer = part_fails_all w s.left f g0 g1 g2 g2 k (values_in s a) h p1 none_left; counted = counts_then w n0 c.loop-i.entry c.evaluate.new.entry g0 g1 g2 c.loop-i.invariant.counted c.evaluate.ensures.counted }
+
+pub chains::all_of-returns-in_err-next : goal.chains::all_of-returns-in_err-next
+chains::all_of-returns-in_err-next g t c =
+    let s = c.args.scene.now in
+    let w = world_in s in
+    let g0 = c.args.guard.now in
+    let n0 = c.args.entry.now in
+    let g1 = c.loop-i.guard in
+    let g2 = c.evaluate.new.guard in
+    record { answer = search rules; counted = counts_then w n0 c.loop-i.entry c.evaluate.new.entry g0 g1 g2 c.loop-i.invariant.counted c.evaluate.ensures.counted }
+
+pub chains::all_of-returns-in_err-all : goal.chains::all_of-returns-in_err-all
+chains::all_of-returns-in_err-all g t c =
+    let s = c.args.scene.now in
+    let w = world_in s in
+    let g0 = c.args.guard.now in
+    let n0 = c.args.entry.now in
+    let g1 = c.loop-i.guard in
+    let g2 = c.evaluate.new.guard in
+    record { answer = search rules; counted = counts_then w n0 c.loop-i.entry c.evaluate.new.entry g0 g1 g2 c.loop-i.invariant.counted c.evaluate.ensures.counted }
+
+pub chains::all_of-loop-i-preserved : goal.chains::all_of-loop-i-preserved
+chains::all_of-loop-i-preserved g t c =
+    let s = c.args.scene.now in
+    let w = world_in s in
+    let g0 = c.args.guard.now in
+    let n0 = c.args.entry.now in
+    let ts = trees c.args.items.now in
+    let f = λ (n : ℕ). all_demanded (results_in s (pack ts) n) in
+    let g1 = c.loop-i.guard in
+    let i = c.loop-i.i in
+    let vs = plains c.loop-i.all.values in
+    let h = c.loop-i.all.height in
+    let p0 = c.loop-i.invariant.partly in
+    let rest = λ (n : ℕ). values_and vs (all_demanded (results_in s (pack (drop i ts)) n)) in
+    let a = tree c.at.result.now in
+    let k = λ (n : ℕ) (p : Plain). values_and (vs ++ p ∷ []) (all_demanded (results_in s (pack (drop (i + 1) ts)) n)) in
+    let p1 = rewritten w f s.left g0 g1 rest (λ n. option_and_then (k n) (values_in s a n)) h (λ n. all_demanded-from s ts i a c.at.ensures n vs) p0 in
+    let g2 = c.evaluate.new.guard in
+    let o = c.in-Some.next in
+    let some = known_as w (values_in s a) s.left g1 g2 c.in_ok-next.field-0 (Some o) c.in-Some.is c.in_ok-next.ensures.answer in
+    let p2 = part_done w s.left f g0 g1 g2 k (values_in s a) h o p1 some in
+    let p3 = subst (λ (us : List Plain). IsPartly w f s.left g0 g2 (λ n. values_and us (all_demanded (results_in s (pack (drop (i + 1) ts)) n))) (max h o.height)) (sym c.in_ok-all.ensures.values) p2 in
+    record { partly = subst (λ (m : ℕ). IsPartly w f s.left g0 g2 (λ n. values_and (plains c.in_ok-all.all.values) (all_demanded (results_in s (pack (drop (i + 1) ts)) n))) m) (sym c.in_ok-all.ensures.height) p3; counted = counts_then w n0 c.loop-i.entry c.evaluate.new.entry g0 g1 g2 c.loop-i.invariant.counted c.evaluate.ensures.counted }
+
+pub chains::conditional-evaluate-requires : goal.chains::conditional-evaluate-requires
+chains::conditional-evaluate-requires g t c κs within =
+    let s = c.args.scene.now in
+    let w = world_in s in
+    let g0 = c.args.guard.now in
+    let n0 = c.args.entry.now in
+    let a = tree c.args.condition.now in
+    let b = tree c.args.first.now in
+    let d = tree c.args.second.now in
+    let f = λ (n : ℕ). conditional (results_in s (three a b d) n) in
+    let k = λ (n : ℕ). chosen (values_in s b n) (values_in s d n) in
+    let p0 = begins w s.left f (λ n. option_and_then (k n) (values_in s a n)) g0 c.requires (λ n. conditional-three s a b d n) in
+    (omega (arith, c.decreases), (within, part_ready w s.left f g0 g0 k (values_in s a) 0 p0))
+
+pub chains::conditional-returns-in_err-condition : goal.chains::conditional-returns-in_err-condition
+chains::conditional-returns-in_err-condition g t c =
+    let s = c.args.scene.now in
+    let w = world_in s in
+    let g0 = c.args.guard.now in
+    let n0 = c.args.entry.now in
+    record { answer = search rules; counted = c.evaluate.ensures.counted }
+
+pub chains::conditional-returns-in_default : goal.chains::conditional-returns-in_default
+chains::conditional-returns-in_default g t c =
+    let s = c.args.scene.now in
+    let w = world_in s in
+    let g0 = c.args.guard.now in
+    let n0 = c.args.entry.now in
+    let a = tree c.args.condition.now in
+    let b = tree c.args.first.now in
+    let d = tree c.args.second.now in
+    let f = λ (n : ℕ). conditional (results_in s (three a b d) n) in
+    let k = λ (n : ℕ). chosen (values_in s b n) (values_in s d n) in
+    let p0 = begins w s.left f (λ n. option_and_then (k n) (values_in s a n)) g0 c.requires (λ n. conditional-three s a b d n) in
+    let g1 = c.evaluate.new.guard in
+    let none_left = known_as w (values_in s a) s.left g0 g1 c.in_ok-condition.field-0 None c.in_default.is c.in_ok-condition.ensures.answer in
+    record { answer = part_fails w s.left f g0 g0 g1 g1 k (values_in s a) 0 p0 none_left; counted = c.evaluate.ensures.counted }
+
+pub chains::conditional-returns : goal.chains::conditional-returns
+chains::conditional-returns g t c =
+    let s = c.args.scene.now in
+    let w = world_in s in
+    let g0 = c.args.guard.now in
+    let n0 = c.args.entry.now in
+    let a = tree c.args.condition.now in
+    let b = tree c.args.first.now in
+    let d = tree c.args.second.now in
+    let f = λ (n : ℕ). conditional (results_in s (three a b d) n) in
+    let k = λ (n : ℕ). chosen (values_in s b n) (values_in s d n) in
+    let p0 = begins w s.left f (λ n. option_and_then (k n) (values_in s a n)) g0 c.requires (λ n. conditional-three s a b d n) in
+    let g1 = c.evaluate.new.guard in
+    let o1 = c.in-Some.condition in
+    let some1 = known_as w (values_in s a) s.left g0 g1 c.in_ok-condition.field-0 (Some o1) c.in-Some.is c.in_ok-condition.ensures.answer in
+    let h1 = max 0 o1.height in
+    let p1 = part_done w s.left f g0 g0 g1 k (values_in s a) 0 o1 p0 some1 in
+    let u : Outcome = record { value = c.in-Value.value; height = o1.height } in
+    let is = c.in-Value.ensures in
+    record { answer = finishes w s.left f g0 g1 (λ n. k n (plain o1.value)) h1 u p1 (λ n. is (values_in s b n) (values_in s d n)) (omega arith); counted = c.evaluate.ensures.counted }
+
+pub chains::conditional-evaluate-requires-in-Taken : goal.chains::conditional-evaluate-requires-in-Taken
+chains::conditional-evaluate-requires-in-Taken g t c κs within =
+    let s = c.args.scene.now in
+    let w = world_in s in
+    let g0 = c.args.guard.now in
+    let n0 = c.args.entry.now in
+    let a = tree c.args.condition.now in
+    let b = tree c.args.first.now in
+    let d = tree c.args.second.now in
+    let f = λ (n : ℕ). conditional (results_in s (three a b d) n) in
+    let k = λ (n : ℕ). chosen (values_in s b n) (values_in s d n) in
+    let p0 = begins w s.left f (λ n. option_and_then (k n) (values_in s a n)) g0 c.requires (λ n. conditional-three s a b d n) in
+    let g1 = c.evaluate.new.guard in
+    let o1 = c.in-Some.condition in
+    let some1 = known_as w (values_in s a) s.left g0 g1 c.in_ok-condition.field-0 (Some o1) c.in-Some.is c.in_ok-condition.ensures.answer in
+    let h1 = max 0 o1.height in
+    let p1 = part_done w s.left f g0 g0 g1 k (values_in s a) 0 o1 p0 some1 in
+    let e = tree c.in-Taken.branch.now in
+    let is = c.in-Taken.ensures in
+    let p2 = rewritten w f s.left g0 g1 (λ n. k n (plain o1.value)) (values_in s e) h1 (λ n. is.0 (λ (t : Tree). values_in s t n)) p1 in
+    (omega (arith, c.decreases, is.1), (within, rest_ready w s.left f g0 g1 (values_in s e) h1 p2))
+
+pub chains::conditional-returns-in_default-2 : goal.chains::conditional-returns-in_default-2
+chains::conditional-returns-in_default-2 g t c =
+    let s = c.args.scene.now in
+    let w = world_in s in
+    let g0 = c.args.guard.now in
+    let n0 = c.args.entry.now in
+    let a = tree c.args.condition.now in
+    let b = tree c.args.first.now in
+    let d = tree c.args.second.now in
+    let f = λ (n : ℕ). conditional (results_in s (three a b d) n) in
+    let k = λ (n : ℕ). chosen (values_in s b n) (values_in s d n) in
+    let p0 = begins w s.left f (λ n. option_and_then (k n) (values_in s a n)) g0 c.requires (λ n. conditional-three s a b d n) in
+    let g1 = c.evaluate.new.guard in
+    let o1 = c.in-Some.condition in
+    let some1 = known_as w (values_in s a) s.left g0 g1 c.in_ok-condition.field-0 (Some o1) c.in-Some.is c.in_ok-condition.ensures.answer in
+    let h1 = max 0 o1.height in
+    let p1 = part_done w s.left f g0 g0 g1 k (values_in s a) 0 o1 p0 some1 in
+    let e = tree c.in-Taken.branch.now in
+    let is = c.in-Taken.ensures in
+    let p2 = rewritten w f s.left g0 g1 (λ n. k n (plain o1.value)) (values_in s e) h1 (λ n. is.0 (λ (t : Tree). values_in s t n)) p1 in
+    let g2 = c.evaluate-in-Taken.new.guard in
+    let none_left = known_as w (values_in s e) s.left g1 g2 c.in_ok-taken-in-Taken.field-0 None c.in_default-2.is c.in_ok-taken-in-Taken.ensures.answer in
+    record { answer = rest_fails w s.left f g0 g1 g2 g2 (values_in s e) h1 p2 none_left; counted = counts_then w n0 c.evaluate.new.entry c.evaluate-in-Taken.new.entry g0 g1 g2 c.evaluate.ensures.counted c.evaluate-in-Taken.ensures.counted }
+
+pub chains::conditional-returns-in_err-taken-in-Taken : goal.chains::conditional-returns-in_err-taken-in-Taken
+chains::conditional-returns-in_err-taken-in-Taken g t c =
+    let s = c.args.scene.now in
+    let w = world_in s in
+    let g0 = c.args.guard.now in
+    let n0 = c.args.entry.now in
+    let g1 = c.evaluate.new.guard in
+    let g2 = c.evaluate-in-Taken.new.guard in
+    record { answer = search rules; counted = counts_then w n0 c.evaluate.new.entry c.evaluate-in-Taken.new.entry g0 g1 g2 c.evaluate.ensures.counted c.evaluate-in-Taken.ensures.counted }
+
+pub chains::conditional-returns-in-Taken : goal.chains::conditional-returns-in-Taken
+chains::conditional-returns-in-Taken g t c =
+    let s = c.args.scene.now in
+    let w = world_in s in
+    let g0 = c.args.guard.now in
+    let n0 = c.args.entry.now in
+    let a = tree c.args.condition.now in
+    let b = tree c.args.first.now in
+    let d = tree c.args.second.now in
+    let f = λ (n : ℕ). conditional (results_in s (three a b d) n) in
+    let k = λ (n : ℕ). chosen (values_in s b n) (values_in s d n) in
+    let p0 = begins w s.left f (λ n. option_and_then (k n) (values_in s a n)) g0 c.requires (λ n. conditional-three s a b d n) in
+    let g1 = c.evaluate.new.guard in
+    let o1 = c.in-Some.condition in
+    let some1 = known_as w (values_in s a) s.left g0 g1 c.in_ok-condition.field-0 (Some o1) c.in-Some.is c.in_ok-condition.ensures.answer in
+    let h1 = max 0 o1.height in
+    let p1 = part_done w s.left f g0 g0 g1 k (values_in s a) 0 o1 p0 some1 in
+    let e = tree c.in-Taken.branch.now in
+    let is = c.in-Taken.ensures in
+    let p2 = rewritten w f s.left g0 g1 (λ n. k n (plain o1.value)) (values_in s e) h1 (λ n. is.0 (λ (t : Tree). values_in s t n)) p1 in
+    let g2 = c.evaluate-in-Taken.new.guard in
+    let o2 = c.in-Some-2.taken in
+    let some2 = known_as w (values_in s e) s.left g1 g2 c.in_ok-taken-in-Taken.field-0 (Some o2) c.in-Some-2.is c.in_ok-taken-in-Taken.ensures.answer in
+    record { answer = finishes_rest w s.left f g0 g1 g2 (values_in s e) h1 o2 c.at_least.result p2 some2 c.at_least.ensures.value (omega (arith, c.at_least.ensures.height)); counted = counts_then w n0 c.evaluate.new.entry c.evaluate-in-Taken.new.entry g0 g1 g2 c.evaluate.ensures.counted c.evaluate-in-Taken.ensures.counted }
+
+pub chains::call_function-returns-then-not-known : goal.chains::call_function-returns-then-not-known
+chains::call_function-returns-then-not-known g t c =
+    let s = c.args.scene.now in
+    let w = world_in s in
+    let g0 = c.args.guard.now in
+    let n0 = c.args.entry.now in
+    let x = c.args.name.now in
+    let ts = trees c.args.items.now in
+    let f = λ (n : ℕ). called w x (results_in s (pack ts) n) in
+    let unknown = sym (c.known.ensures ∙ ap (is_known x) c.len.ensures) ∙ c.if-not-known.true in
+    record { answer = finishes w s.left f g0 g0 f 0 c.leaf.result (begins w s.left f f g0 c.requires (λ n. refl)) (λ n. called-unknown s x ts n unknown ∙ ap Some (sym (c.leaf.ensures.value ∙ plain-Error))) c.leaf.ensures.height; counted = counts_same w n0 g0 }
+
+pub chains::call_function-returns-then-len-ne3 : goal.chains::call_function-returns-then-len-ne3
+chains::call_function-returns-then-len-ne3 g t c =
+    let s = c.args.scene.now in
+    let w = world_in s in
+    let g0 = c.args.guard.now in
+    let n0 = c.args.entry.now in
+    let x = c.args.name.now in
+    let ts = trees c.args.items.now in
+    let f = λ (n : ℕ). called w x (results_in s (pack ts) n) in
+    let knows = sym (c.known.ensures ∙ ap (is_known x) c.len.ensures) ∙ c.if-not-known.false in
+    let names = sym c.is_named.ensures ∙ c.if-is_named.true in
+    let other = λ (long : length ts ≡ 3). c.if-len-ne3.true (c.len-then-is_named.ensures ∙ long) in
+    record { answer = finishes w s.left f g0 g0 f 0 c.leaf-then-len-ne3.result (begins w s.left f f g0 c.requires (λ n. refl)) (λ n. called-choice s x ts n knows names ∙ conditional-wrong s ts n other ∙ ap Some (sym (c.leaf-then-len-ne3.ensures.value ∙ plain-Error))) c.leaf-then-len-ne3.ensures.height; counted = counts_same w n0 g0 }
+
+pub chains::call_function-conditional-requires : goal.chains::call_function-conditional-requires
+chains::call_function-conditional-requires g t c κs within =
+    let s = c.args.scene.now in
+    let w = world_in s in
+    let g0 = c.args.guard.now in
+    let n0 = c.args.entry.now in
+    let x = c.args.name.now in
+    let ts = trees c.args.items.now in
+    let f = λ (n : ℕ). called w x (results_in s (pack ts) n) in
+    let knows = sym (c.known.ensures ∙ ap (is_known x) c.len.ensures) ∙ c.if-not-known.false in
+    let names = sym c.is_named.ensures ∙ c.if-is_named.true in
+    let a = tree c.at.result.now in
+    let b = tree c.at-then-is_named.result.now in
+    let d = tree c.at-then-is_named-2.result.now in
+    let long : length ts ≡ 3 = omega (arith, c.len-then-is_named.ensures, c.if-len-ne3.false) in
+    let shape = pack-three ts a b d long c.at.ensures c.at-then-is_named.ensures c.at-then-is_named-2.ensures in
+    let same = λ (n : ℕ). called-choice s x ts n knows names ∙ ap (λ (us : Trees). conditional (results_in s us n)) shape in
+    let rest = λ (n : ℕ). conditional (results_in s (three a b d) n) in
+    let p0 = begins w s.left f rest g0 c.requires same in
+    (omega (arith, c.decreases, ap size_all shape), (within, rest_ready w s.left f g0 g0 rest 0 p0))
+
+pub chains::call_function-returns-then-is_named : goal.chains::call_function-returns-then-is_named
+chains::call_function-returns-then-is_named g t c =
+    let s = c.args.scene.now in
+    let w = world_in s in
+    let g0 = c.args.guard.now in
+    let n0 = c.args.entry.now in
+    let x = c.args.name.now in
+    let ts = trees c.args.items.now in
+    let f = λ (n : ℕ). called w x (results_in s (pack ts) n) in
+    let knows = sym (c.known.ensures ∙ ap (is_known x) c.len.ensures) ∙ c.if-not-known.false in
+    let names = sym c.is_named.ensures ∙ c.if-is_named.true in
+    let a = tree c.at.result.now in
+    let b = tree c.at-then-is_named.result.now in
+    let d = tree c.at-then-is_named-2.result.now in
+    let long : length ts ≡ 3 = omega (arith, c.len-then-is_named.ensures, c.if-len-ne3.false) in
+    let shape = pack-three ts a b d long c.at.ensures c.at-then-is_named.ensures c.at-then-is_named-2.ensures in
+    let same = λ (n : ℕ). called-choice s x ts n knows names ∙ ap (λ (us : Trees). conditional (results_in s us n)) shape in
+    let rest = λ (n : ℕ). conditional (results_in s (three a b d) n) in
+    record { answer = IfOk-map c.conditional.result (λ o. Answers w rest s.left g0 c.conditional.new.guard o) (λ o. Answers w f s.left g0 c.conditional.new.guard o) (λ o h. answers_of w s.left f rest g0 c.conditional.new.guard o same h) c.conditional.ensures.answer; counted = c.conditional.ensures.counted }
+
+pub chains::call_function-at-requires-then-is_named : goal.chains::call_function-at-requires-then-is_named
+chains::call_function-at-requires-then-is_named g t c =
+    omega (arith, c.len-then-is_named.ensures, c.if-len-ne3.false)
+
+pub chains::call_function-at-requires-then-is_named-2 : goal.chains::call_function-at-requires-then-is_named-2
+chains::call_function-at-requires-then-is_named-2 g t c =
+    omega (arith, c.len-then-is_named.ensures, c.if-len-ne3.false)
+
+pub chains::call_function-all_of-requires : goal.chains::call_function-all_of-requires
+chains::call_function-all_of-requires g t c κs within =
+    let s = c.args.scene.now in
+    let w = world_in s in
+    let g0 = c.args.guard.now in
+    let n0 = c.args.entry.now in
+    let x = c.args.name.now in
+    let ts = trees c.args.items.now in
+    let f = λ (n : ℕ). called w x (results_in s (pack ts) n) in
+    let knows = sym (c.known.ensures ∙ ap (is_known x) c.len.ensures) ∙ c.if-not-known.false in
+    let unnamed = sym c.is_named.ensures ∙ c.if-is_named.false in
+    let rest = λ (n : ℕ). all_demanded (results_in s (pack ts) n) in
+    let p0 = begins w s.left f (λ n. option_map (function_value w x) (rest n)) g0 c.requires (λ n. called-function s x ts n knows unnamed) in
+    (omega (arith, c.decreases), (within, mapped_part_ready w s.left f g0 g0 (function_value w x) rest 0 p0))
+
+pub chains::call_function-returns-in_default : goal.chains::call_function-returns-in_default
+chains::call_function-returns-in_default g t c =
+    let s = c.args.scene.now in
+    let w = world_in s in
+    let g0 = c.args.guard.now in
+    let n0 = c.args.entry.now in
+    let x = c.args.name.now in
+    let ts = trees c.args.items.now in
+    let f = λ (n : ℕ). called w x (results_in s (pack ts) n) in
+    let knows = sym (c.known.ensures ∙ ap (is_known x) c.len.ensures) ∙ c.if-not-known.false in
+    let unnamed = sym c.is_named.ensures ∙ c.if-is_named.false in
+    let rest = λ (n : ℕ). all_demanded (results_in s (pack ts) n) in
+    let p0 = begins w s.left f (λ n. option_map (function_value w x) (rest n)) g0 c.requires (λ n. called-function s x ts n knows unnamed) in
+    let g1 = c.all_of.new.guard in
+    let none_left = known_all_as w rest s.left g0 g1 c.in_ok-args.field-0 None c.in_default.is c.in_ok-args.ensures.answer in
+    record { answer = all_part_fails w s.left f g0 g0 g1 g1 (function_value w x) rest 0 p0 none_left; counted = c.all_of.ensures.counted }
+
+pub chains::call_function-returns : goal.chains::call_function-returns
+chains::call_function-returns g t c =
+    let s = c.args.scene.now in
+    let w = world_in s in
+    let g0 = c.args.guard.now in
+    let n0 = c.args.entry.now in
+    let x = c.args.name.now in
+    let ts = trees c.args.items.now in
+    let f = λ (n : ℕ). called w x (results_in s (pack ts) n) in
+    let knows = sym (c.known.ensures ∙ ap (is_known x) c.len.ensures) ∙ c.if-not-known.false in
+    let unnamed = sym c.is_named.ensures ∙ c.if-is_named.false in
+    let rest = λ (n : ℕ). all_demanded (results_in s (pack ts) n) in
+    let p0 = begins w s.left f (λ n. option_map (function_value w x) (rest n)) g0 c.requires (λ n. called-function s x ts n knows unnamed) in
+    let g1 = c.all_of.new.guard in
+    let o = c.in-Some.args in
+    let u : Outcome = record { value = c.in_ok-apply_function.field-0; height = o.height } in
+    let some = known_all_as w rest s.left g0 g1 c.in_ok-args.field-0 (Some o) c.in-Some.is c.in_ok-args.ensures.answer in
+    record { answer = finishes_all w s.left f g0 g0 g1 (function_value w x) rest 0 o u p0 some c.in_ok-apply_function.ensures (omega arith); counted = c.all_of.ensures.counted }
+
+pub chains::call_function-returns-in_err-args : goal.chains::call_function-returns-in_err-args
+chains::call_function-returns-in_err-args g t c =
+    let s = c.args.scene.now in
+    let w = world_in s in
+    let g0 = c.args.guard.now in
+    let n0 = c.args.entry.now in
+    record { answer = search rules; counted = c.all_of.ensures.counted }
+
+pub chains::call_function-returns-in_err-apply_function : goal.chains::call_function-returns-in_err-apply_function
+chains::call_function-returns-in_err-apply_function g t c =
+    let s = c.args.scene.now in
+    let w = world_in s in
+    let g0 = c.args.guard.now in
+    let n0 = c.args.entry.now in
+    record { answer = search rules; counted = c.all_of.ensures.counted }

@@ -1,0 +1,57 @@
+use Rattle.std.proofs.Common.{◌+◌, ◌*◌, true, false, drop}
+use Rattle.ad_tree.specs.Tree.{pack, size, size_all, three, tree, trees}
+use Rattle.ad_value.specs.Plain.{boolean, plain, plains}
+use Rattle.ad_value.specs.Demands.{all_demanded, conjunction, disjunction}
+use Rattle.ad_eval.specs.Kept.{Counts}
+use Rattle.ad_eval.specs.Scene.{results_in, world_in}
+use Rattle.ad_eval.proofs.KeptLemmas.{IsPartly}
+use Rattle.ad_eval.proofs.NodeLemmas.{values_and}
+use Rattle.ad_eval.proofs.MeasureLemmas.{turn}
+use Rattle.ad_eval.proofs.+evaluation.Given as goal
+
+-- each reference is worth a turn through the world, and each node eight steps
+abbrev pub decreases-evaluation::evaluate : goal.decreases-evaluation::evaluate
+decreases-evaluation::evaluate g l = 8 * (l.scene.now.left * turn (world_in l.scene.now)) + 8 * size (tree l.expr.now)
+
+abbrev pub decreases-evaluation::follow : goal.decreases-evaluation::follow
+decreases-evaluation::follow g l = 8 * (l.scene.now.left * turn (world_in l.scene.now)) + 3
+
+abbrev pub decreases-evaluation::attribute : goal.decreases-evaluation::attribute
+decreases-evaluation::attribute g l = 8 * (l.scene.now.left * turn (world_in l.scene.now)) + 2
+
+abbrev pub decreases-evaluation::enter : goal.decreases-evaluation::enter
+decreases-evaluation::enter g l = 8 * (l.scene.now.left * turn (world_in l.scene.now)) + 1
+
+abbrev pub decreases-chains::call_function : goal.decreases-chains::call_function
+decreases-chains::call_function g l = 8 * (l.scene.now.left * turn (world_in l.scene.now)) + (8 * size_all (pack (trees l.items.now)) + 5)
+
+abbrev pub decreases-chains::conditional : goal.decreases-chains::conditional
+decreases-chains::conditional g l = 8 * (l.scene.now.left * turn (world_in l.scene.now)) + (8 * size_all (three (tree l.condition.now) (tree l.first.now) (tree l.second.now)) + 3)
+
+abbrev pub decreases-chains::all_of : goal.decreases-chains::all_of
+decreases-chains::all_of g l = 8 * (l.scene.now.left * turn (world_in l.scene.now)) + (8 * size_all (pack (trees l.items.now)) + 1)
+
+abbrev pub decreases-chains::conjunction : goal.decreases-chains::conjunction
+decreases-chains::conjunction g l = 8 * (l.scene.now.left * turn (world_in l.scene.now)) + (8 * size_all (pack (trees l.items.now)) + 1)
+
+abbrev pub decreases-chains::disjunction : goal.decreases-chains::disjunction
+decreases-chains::disjunction g l = 8 * (l.scene.now.left * turn (world_in l.scene.now)) + (8 * size_all (pack (trees l.items.now)) + 1)
+
+-- what is evaluated of a chain, and what is left of it
+abbrev pub invariant-chains::conjunction-loop-i : goal.invariant-chains::conjunction-loop-i
+invariant-chains::conjunction-loop-i g l = record {
+  partly : IsPartly (world_in l.scene) (λ n. conjunction (boolean true) (results_in l.scene (pack (trees l.items)) n)) l.scene.left l.fn.guard l.guard (λ n. conjunction (plain l.so_far.value) (results_in l.scene (pack (drop l.i (trees l.items))) n)) l.so_far.height;
+  counted : Counts (world_in l.scene) l.fn.entry l.entry l.fn.guard l.guard;
+}
+
+abbrev pub invariant-chains::disjunction-loop-i : goal.invariant-chains::disjunction-loop-i
+invariant-chains::disjunction-loop-i g l = record {
+  partly : IsPartly (world_in l.scene) (λ n. disjunction (boolean false) (results_in l.scene (pack (trees l.items)) n)) l.scene.left l.fn.guard l.guard (λ n. disjunction (plain l.so_far.value) (results_in l.scene (pack (drop l.i (trees l.items))) n)) l.so_far.height;
+  counted : Counts (world_in l.scene) l.fn.entry l.entry l.fn.guard l.guard;
+}
+
+abbrev pub invariant-chains::all_of-loop-i : goal.invariant-chains::all_of-loop-i
+invariant-chains::all_of-loop-i g l = record {
+  partly : IsPartly (world_in l.scene) (λ n. all_demanded (results_in l.scene (pack (trees l.items)) n)) l.scene.left l.fn.guard l.guard (λ n. values_and (plains l.all.values) (all_demanded (results_in l.scene (pack (drop l.i (trees l.items))) n))) l.all.height;
+  counted : Counts (world_in l.scene) l.fn.entry l.entry l.fn.guard l.guard;
+}

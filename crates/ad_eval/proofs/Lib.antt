@@ -1,0 +1,13 @@
+mod ChainLemmas
+mod CountLemmas
+mod ElementLemmas
+mod EnterLemmas
+pub mod KeptLemmas
+mod MeasureLemmas
+mod MoreLemmas
+mod NodeLemmas
+mod PartLemmas
+mod ReferenceLemmas
+mod SceneLemmas
+mod TopLemmas
+mod ValueLemmas

@@ -1,0 +1,51 @@
+-- Whole evaluations, which begin with nothing entered and 24 references.
+use Rattle.std.proofs.Common.{◌≡◌, ◌≤◌, ◌+◌, ℕ, Option, None, Some, unwrap_or, refl, ap, sym, ◌∙◌, arith}
+use Rattle.std.specs.Option.{option_map_or}
+use Rattle.pool_text.specs.declared.language.Pos.{Pos}
+use Rattle.ad_value.specs.Plain.{Plain, error, plain}
+use Rattle.cycle_guard.specs.declared.guard.Guard.{Guard}
+use Rattle.cycle_guard.specs.Sights.{Sight, unseen, pending, done}
+use Rattle.cycle_guard.specs.Shown.{sight_of}
+use Rattle.eval_scope.specs.Shown.{world_of}
+use Rattle.eval_scope.specs.World.{PlainWorld, attribute_count}
+use Rattle.ad_tree.specs.Tree.{Tree}
+use Rattle.ad_eval.specs.declared.outcome.Outcome.{Outcome}
+use Rattle.ad_eval.specs.declared.scene.Scene.{Scene as TheScene}
+use Rattle.ad_eval.specs.Kept.{Answers, Counts, IsReady, Ready, unseen_count}
+use Rattle.ad_eval.specs.Scene.{values_in, world_in}
+use Rattle.ad_eval.specs.Value.{value_at, value_with}
+use Rattle.ad_eval.proofs.KeptLemmas.{answer_none, answer_some, is_ready}
+use Rattle.ad_eval.proofs.CountLemmas.{unseen-all}
+use Rattle.ad_eval.proofs.SceneLemmas.{inside_is}
+
+unseen-done : (v : Plain) (h : ℕ) → unseen ≡ done v h → ⊥
+unseen-done v h e = cc
+
+unseen-pending : unseen ≡ pending → ⊥
+unseen-pending e = cc
+
+-- where nothing is entered, nothing is kept and nothing waits
+pub ready_new : {A : Type 0} (w : PlainWorld) (g : Guard) (f : ℕ → Option A) → ((q : Pos) → sight_of g q ≡ unseen) → Ready w g f
+ready_new w g f fresh = is_ready w g f (record {
+  kept = λ s v h is. absurd (unseen-done v h (sym (fresh s) ∙ is));
+  wait = λ s waits n some. absurd (unseen-pending (sym (fresh s) ∙ waits));
+})
+
+-- the answer with so many references, Error where it is none
+pub result_of : (w : PlainWorld) (f : ℕ → Option Plain) (left : ℕ) (g g1 : Guard) (r : Option Outcome) → Answers w f left g g1 r → option_map_or (λ o. plain o.value) r error ≡ unwrap_or (f left) error
+result_of w f left g g1 None h = ap (λ p. unwrap_or p error) (sym (answer_none w f left g g1 h))
+result_of w f left g g1 (Some o) h =
+    let t = answer_some w f left g g1 o h in
+    ap (λ p. unwrap_or p error) (sym (t.height.reached left t.within))
+
+-- no more attributes are entered than there are
+pub entered_all : (w : PlainWorld) (a b : ℕ) (g g1 : Guard) → Counts w a b g g1 → b ≤ a + attribute_count w
+unfolding Counts
+entered_all w a b g g1 count = omega (arith, unseen-all w g, count)
+
+pub scene_world : (s : TheScene) → world_in s ≡ world_of s.world.now
+unfolding world_in
+scene_world s = refl
+
+pub scene_values : (s : TheScene) (e : Tree) (n : ℕ) → values_in s e n ≡ value_with n (world_of s.world.now) s.at e
+scene_values s e n = inside_is s e n ∙ ap (λ w. value_with n w s.at e) (scene_world s)

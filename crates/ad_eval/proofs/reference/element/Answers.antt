@@ -1,0 +1,39 @@
+use Rattle.std.proofs.Common.{◌≡◌, ◌≤◌, ℕ, ℤ, pos, true, false, List, length, Some, IfOk, int_lt, slice_get, w64, ap, sym, ◌∙◌, subst, arith}
+use Rattle.std.proofs.lemmas.Int.{to_z-of_z}
+use mir.Val.{to_z, of_z}
+use lib.IntN.{nat_abs}
+use Rattle.ad_value.specs.Demands.{element}
+use Rattle.ad_value.specs.Plain.{Plain, plain, plains, plains_of}
+use Rattle.ad_eval.proofs.ElementLemmas.{element-at, element-negative, element-past, whole}
+use Rattle.ad_eval.proofs.ValueLemmas.{plain-Error}
+use Rattle.ad_eval.proofs.MeasureLemmas.{turn-less}
+use Rattle.ad_eval.proofs.NodeLemmas as nodes
+use Rattle.ad_eval.proofs.CountLemmas.{unseen-same}
+use Rattle.ad_eval.proofs.MoreLemmas as more
+use Rattle.ad_eval.proofs.PartLemmas as parts
+use Rattle.ad_eval.proofs.ChainLemmas as chains
+use Rattle.ad_eval.proofs.EnterLemmas as enters
+use Rattle.ad_eval.proofs.SceneLemmas as scenes
+use Rattle.ad_eval.proofs.ReferenceLemmas.{kept-short}
+use Rattle.ad_eval.proofs.reference.element.Goals as goal
+
+pub returns-then-index-lt0 : goal.returns-then-index-lt0
+returns-then-index-lt0 c =
+    let ps = plains c.args.items.now in
+    let same = to_z-of_z w64 c.args.index c.ranges.index in
+    plain-Error ∙ sym (element-negative ps c.args.index (ap (λ (i : ℤ). int_lt i (pos 0)) (sym same) ∙ c.if-index-lt0.true))
+
+pub returns-then-place-len : goal.returns-then-place-len
+returns-then-place-len c =
+    let ps = plains c.args.items.now in
+    let same = to_z-of_z w64 c.args.index c.ranges.index in
+    let n = nat_abs (to_z w64 (of_z w64 c.args.index)) in
+    let past : length ps ≤ n = omega arith in
+    plain-Error ∙ sym (element-past ps c.args.index n (sym same ∙ whole (to_z w64 (of_z w64 c.args.index)) c.if-index-lt0.false) past)
+
+pub returns : goal.returns
+returns c =
+    let ps = plains c.args.items.now in
+    let same = to_z-of_z w64 c.args.index c.ranges.index in
+    let n = nat_abs (to_z w64 (of_z w64 c.args.index)) in
+    subst (λ (p : Plain). IfOk c.copy.result (λ v. plain v ≡ p)) (sym (element-at ps c.args.index n (plain c.at.result.now) (sym same ∙ whole (to_z w64 (of_z w64 c.args.index)) c.if-index-lt0.false) c.at.ensures)) c.copy.ensures

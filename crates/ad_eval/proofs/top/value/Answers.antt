@@ -1,0 +1,31 @@
+use Rattle.std.proofs.Common.{◌≤◌, ◌+◌, unwrap_or, ap, ◌∙◌, subst}
+use Rattle.ad_tree.specs.Tree.{tree}
+use Rattle.ad_value.specs.Plain.{error}
+use Rattle.eval_scope.specs.World.{PlainWorld, attribute_count}
+use Rattle.ad_eval.specs.declared.scene.Scene.{Scene as TheScene}
+use Rattle.ad_eval.specs.Scene.{values_in, world_in}
+use Rattle.ad_eval.proofs.TopLemmas.{entered_all, ready_new, result_of, scene_values, scene_world}
+use Rattle.ad_eval.proofs.top.value.Goals as goal
+
+pub evaluate-requires : goal.evaluate-requires
+evaluate-requires g c =
+    let s : TheScene = record { alloc = c.args.alloc; world = c.args.world; at = c.args.at; left = 24 } in
+    ready_new (world_in s) c.new-guard.result (values_in s (tree c.args.expr.now)) c.new-guard.ensures
+
+pub returns-in_err-answer-clause-entries : goal.returns-in_err-answer-clause-entries
+returns-in_err-answer-clause-entries g c =
+    let s : TheScene = record { alloc = c.args.alloc; world = c.args.world; at = c.args.at; left = 24 } in
+    subst (λ (w : PlainWorld). c.evaluate.new.entry ≤ c.args.entry.now + attribute_count w) (scene_world s) (entered_all (world_in s) c.args.entry.now c.evaluate.new.entry c.new-guard.result c.evaluate.new.guard c.evaluate.ensures.counted)
+
+pub returns-clause-value : goal.returns-clause-value
+returns-clause-value g c =
+    let s : TheScene = record { alloc = c.args.alloc; world = c.args.world; at = c.args.at; left = 24 } in
+    let e = tree c.args.expr.now in
+    c.value_or_error.ensures
+    ∙ result_of (world_in s) (values_in s e) 24 c.new-guard.result c.evaluate.new.guard c.in_ok-answer.answer c.in_ok-answer.ensures.answer
+    ∙ ap (λ o. unwrap_or o error) (scene_values s e 24)
+
+pub returns-clause-entries : goal.returns-clause-entries
+returns-clause-entries g c =
+    let s : TheScene = record { alloc = c.args.alloc; world = c.args.world; at = c.args.at; left = 24 } in
+    subst (λ (w : PlainWorld). c.evaluate.new.entry ≤ c.args.entry.now + attribute_count w) (scene_world s) (entered_all (world_in s) c.args.entry.now c.evaluate.new.entry c.new-guard.result c.evaluate.new.guard c.evaluate.ensures.counted)

@@ -1,0 +1,35 @@
+use Rattle.std.proofs.Common.{◌≤◌, ◌+◌, ℕ, IsSome, unwrap_or, ap, sym, ◌∙◌, subst}
+use Rattle.ad_value.specs.Plain.{error}
+use Rattle.eval_scope.specs.World.{PlainWorld, attribute_count, expr_of, frame_of_attribute}
+use Rattle.ad_eval.specs.declared.scene.Scene.{Scene as TheScene}
+use Rattle.ad_eval.specs.Scene.{world_in}
+use Rattle.ad_eval.specs.Value.{value_at}
+use Rattle.ad_eval.proofs.TopLemmas.{entered_all, ready_new, result_of, scene_world}
+use Rattle.ad_eval.proofs.top.value_at.Goals as goal
+
+pub attribute-requires-clause-there : goal.attribute-requires-clause-there
+attribute-requires-clause-there g c =
+    let s : TheScene = record { alloc = c.args.alloc; world = c.args.world; at = frame_of_attribute c.args.pos; left = 24 } in
+    subst (λ (w : PlainWorld). IsSome (expr_of w c.args.pos)) (sym (scene_world s)) c.requires
+
+pub attribute-requires-clause-ready : goal.attribute-requires-clause-ready
+attribute-requires-clause-ready g c =
+    let s : TheScene = record { alloc = c.args.alloc; world = c.args.world; at = frame_of_attribute c.args.pos; left = 24 } in
+    ready_new (world_in s) c.new-guard.result (λ n. value_at n (world_in s) c.args.pos) c.new-guard.ensures
+
+pub returns-in_err-answer-clause-entries : goal.returns-in_err-answer-clause-entries
+returns-in_err-answer-clause-entries g c =
+    let s : TheScene = record { alloc = c.args.alloc; world = c.args.world; at = frame_of_attribute c.args.pos; left = 24 } in
+    subst (λ (w : PlainWorld). c.attribute.new.entry ≤ c.args.entry.now + attribute_count w) (scene_world s) (entered_all (world_in s) c.args.entry.now c.attribute.new.entry c.new-guard.result c.attribute.new.guard c.attribute.ensures.counted)
+
+pub returns-clause-value : goal.returns-clause-value
+returns-clause-value g c =
+    let s : TheScene = record { alloc = c.args.alloc; world = c.args.world; at = frame_of_attribute c.args.pos; left = 24 } in
+    c.value_or_error.ensures
+    ∙ result_of (world_in s) (λ n. value_at n (world_in s) c.args.pos) 24 c.new-guard.result c.attribute.new.guard c.in_ok-answer.answer c.in_ok-answer.ensures.answer
+    ∙ ap (λ (w : PlainWorld). unwrap_or (value_at 24 w c.args.pos) error) (scene_world s)
+
+pub returns-clause-entries : goal.returns-clause-entries
+returns-clause-entries g c =
+    let s : TheScene = record { alloc = c.args.alloc; world = c.args.world; at = frame_of_attribute c.args.pos; left = 24 } in
+    subst (λ (w : PlainWorld). c.attribute.new.entry ≤ c.args.entry.now + attribute_count w) (scene_world s) (entered_all (world_in s) c.args.entry.now c.attribute.new.entry c.new-guard.result c.attribute.new.guard c.attribute.ensures.counted)

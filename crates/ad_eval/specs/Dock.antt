@@ -1,0 +1,32 @@
+-- Requirements, ranks and docks.
+use Rattle.std.specs.Prelude.{ℕ, Bool, true, false, ◌&&◌, ℤ, pos, Option}
+use Rattle.std.specs.Option.{option_map_or}
+use Rattle.pool_text.specs.declared.language.AdPlace.{AdPlace}
+use Rattle.pool_text.specs.declared.language.Pos.{Pos}
+use Rattle.ad_value.specs.Plain.{Plain, boolean, integer}
+use Rattle.ad_value.specs.Logic.{is_true}
+use Rattle.ad_tree.specs.Special.{requirement_of, rank_of}
+use Rattle.eval_scope.specs.World.{PlainWorld, frames_of_ad, request_side, resource_side}
+use Rattle.ad_eval.specs.Value.{evaluation_at}
+
+-- attribute k of the frame at a place
+abbrev pub attribute_of : AdPlace → ℕ → Pos
+attribute_of p k = record { ad = p.ad; frame = p.frame; attr = k }
+
+-- the requirement of the frame at a place is the Boolean true; without one it isn't
+abbrev pub meets_requirement : PlainWorld → AdPlace → Bool
+meets_requirement w p = option_map_or (λ k. is_true (evaluation_at w (attribute_of p k))) (requirement_of (frames_of_ad w p.ad) p.frame) false
+
+-- a rank: an Integer itself, true as 1, and 0 for all else
+abbrev pub rank_number : Plain → ℤ
+rank_number (integer n) = n
+rank_number (boolean true) = pos 1
+rank_number value = pos 0
+
+-- the rank by the frame at a place, 0 where it has none
+abbrev pub rank_by : PlainWorld → AdPlace → ℤ
+rank_by w p = option_map_or (λ k. rank_number (evaluation_at w (attribute_of p k))) (rank_of (frames_of_ad w p.ad) p.frame) (pos 0)
+
+-- the requirements of both sides of the last dock are true
+abbrev pub is_docked : PlainWorld → Bool
+is_docked w = meets_requirement w (request_side w) && meets_requirement w (resource_side w)

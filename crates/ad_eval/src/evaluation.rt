@@ -1,0 +1,183 @@
+// The evaluation of expressions, in which each attribute is entered at most once.
+ghost use Rattle.std.specs.Prelude.{◌≡◌, IfOk, IsSome};
+ghost use Rattle.ad_tree.specs.Tree.{tree};
+ghost use Rattle.cycle_guard.specs.Sights.{unseen};
+ghost use Rattle.cycle_guard.specs.Shown.{sight_of};
+ghost use Rattle.eval_scope.specs.World.{expr_of};
+ghost use Rattle.ad_eval.specs.Kept.{Answers, Counts, Ready};
+ghost use Rattle.ad_eval.specs.Reference.{IsInWorld, value_of};
+ghost use Rattle.ad_eval.specs.Scene.{values_in, world_in};
+ghost use Rattle.ad_eval.specs.Value.{value_at};
+
+use crate::chains::{all_of, call_function, conditional, conjunction, disjunction};
+use crate::outcome::{Outcome, Several, greater};
+use crate::reference::{Reference, look_up, select, subscript};
+use crate::scene::{Scene, inside};
+use ad_tree::Expr;
+use ad_value::{Value, binary, bounded, copy, from_lit, unary};
+use cycle_guard::{Guard, Seen};
+use pool_steps::Steps;
+use pool_text::{AdPlace, OutOfMemory, Pos};
+use std::sync::ledger::Ledger;
+
+/// The value of an expression, or none where the references that are left don't suffice.
+#[cycle(evaluation)]
+pub fn evaluate<E: Ledger>(
+    scene: &Scene<'_>,
+    guard: &mut Guard,
+    entry: &mut Steps<E>,
+    expr: &Expr,
+) -> Result<Option<Outcome>, OutOfMemory>
+    requires { Ready (world_in scene.now) guard.old (values_in scene.now (tree expr.now)) }
+    ensures answer { IfOk result (λ o. Answers (world_in scene.now) (values_in scene.now (tree expr.now)) scene.now.left guard.old guard.new o) }
+    ensures counted { Counts (world_in scene.now) entry.old entry.new guard.old guard.new }
+{
+    match expr {
+        Expr::Literal(lit) => Ok(Some(Outcome::leaf(from_lit(scene.alloc, lit)?))),
+        Expr::Name(scope, name) => {
+            let named = look_up(scene, *scope, name.bytes());
+            follow(scene, guard, entry, named)
+        }
+        Expr::Unary(op, a) => {
+            let Some(operand) = evaluate(scene, guard, entry, a)? else {
+                return Ok(None);
+            };
+            Ok(Some(Outcome {
+                value: unary(*op, &operand.value),
+                height: operand.height,
+            }))
+        }
+        Expr::Binary(op, a, b) => {
+            let Some(left) = evaluate(scene, guard, entry, a)? else {
+                return Ok(None);
+            };
+            let Some(right) = evaluate(scene, guard, entry, b)? else {
+                return Ok(None);
+            };
+            Ok(Some(Outcome {
+                value: binary(*op, &left.value, &right.value),
+                height: greater(left.height, right.height),
+            }))
+        }
+        Expr::And(items) => conjunction(scene, guard, entry, items),
+        Expr::Or(items) => disjunction(scene, guard, entry, items),
+        Expr::Cond(condition, first, second) => {
+            conditional(scene, guard, entry, condition, first, second)
+        }
+        Expr::Select(base, name) => {
+            let Some(base) = evaluate(scene, guard, entry, base)? else {
+                return Ok(None);
+            };
+            let selected = select(scene, &base.value, name.bytes());
+            let Some(found) = follow(scene, guard, entry, selected)? else {
+                return Ok(None);
+            };
+            Ok(Some(found.at_least(base.height)))
+        }
+        Expr::Subscript(base, index) => {
+            let Some(base) = evaluate(scene, guard, entry, base)? else {
+                return Ok(None);
+            };
+            let Some(index) = evaluate(scene, guard, entry, index)? else {
+                return Ok(None);
+            };
+            let element = subscript(scene, &base.value, &index.value)?;
+            let Some(found) = follow(scene, guard, entry, element)? else {
+                return Ok(None);
+            };
+            Ok(Some(found.at_least(greater(base.height, index.height))))
+        }
+        Expr::Call(name, items) => call_function(scene, guard, entry, name.bytes(), items),
+        Expr::List(items) => {
+            let Some(all) = all_of(scene, guard, entry, items)? else {
+                return Ok(None);
+            };
+            let Several { values, height } = all;
+            Ok(Some(Outcome {
+                value: bounded(Value::List(values)),
+                height,
+            }))
+        }
+        Expr::Frame(frame) => Ok(Some(Outcome::leaf(Value::Ad(AdPlace {
+            ad: scene.at.ad,
+            frame: *frame,
+        })))),
+    }
+}
+
+// The value of a reference. An attribute that is met while it is pending needs itself, so it has no value with any number of
+// references; a kept value serves where the references that are left are at least as many as it needs.
+#[cycle(evaluation)]
+fn follow<E: Ledger>(
+    scene: &Scene<'_>,
+    guard: &mut Guard,
+    entry: &mut Steps<E>,
+    reference: Reference,
+) -> Result<Option<Outcome>, OutOfMemory>
+    requires there { IsInWorld (world_in scene.now) reference }
+    requires ready { Ready (world_in scene.now) guard.old (λ n. value_of (λ s. value_at n (world_in scene.now) s) reference) }
+    ensures answer { IfOk result (λ o. Answers (world_in scene.now) (λ n. value_of (λ s. value_at n (world_in scene.now) s) reference) scene.now.left guard.old guard.new o) }
+    ensures counted { Counts (world_in scene.now) entry.old entry.new guard.old guard.new }
+{
+    match reference {
+        Reference::Value(value) => Ok(Some(Outcome::leaf(value))),
+        Reference::Attribute(pos) => attribute(scene, guard, entry, pos),
+    }
+}
+
+/// The value of an attribute. One that is met while it is pending needs itself, so it has no value with any number of
+/// references; a kept value serves where the references that are left are at least as many as it needs.
+#[cycle(evaluation)]
+pub fn attribute<E: Ledger>(
+    scene: &Scene<'_>,
+    guard: &mut Guard,
+    entry: &mut Steps<E>,
+    pos: Pos,
+) -> Result<Option<Outcome>, OutOfMemory>
+    requires there { IsSome (expr_of (world_in scene.now) pos) }
+    requires ready { Ready (world_in scene.now) guard.old (λ n. value_at n (world_in scene.now) pos) }
+    ensures answer { IfOk result (λ o. Answers (world_in scene.now) (λ n. value_at n (world_in scene.now) pos) scene.now.left guard.old guard.new o) }
+    ensures counted { Counts (world_in scene.now) entry.old entry.new guard.old guard.new }
+{
+    match guard.state(pos) {
+        Seen::Unseen => enter(scene, guard, entry, pos),
+        Seen::Pending => Ok(None),
+        Seen::Done(value, height) => {
+            if height > scene.left {
+                return Ok(None);
+            }
+            Ok(Some(Outcome {
+                value: copy(scene.alloc, value)?,
+                height,
+            }))
+        }
+    }
+}
+
+// The value of an attribute that wasn't entered yet. It is entered, and its value kept.
+#[cycle(evaluation)]
+fn enter<E: Ledger>(
+    scene: &Scene<'_>,
+    guard: &mut Guard,
+    entry: &mut Steps<E>,
+    pos: Pos,
+) -> Result<Option<Outcome>, OutOfMemory>
+    requires there { IsSome (expr_of (world_in scene.now) pos) }
+    requires fresh { sight_of guard.old pos ≡ unseen }
+    requires ready { Ready (world_in scene.now) guard.old (λ n. value_at n (world_in scene.now) pos) }
+    ensures answer { IfOk result (λ o. Answers (world_in scene.now) (λ n. value_at n (world_in scene.now) pos) scene.now.left guard.old guard.new o) }
+    ensures counted { Counts (world_in scene.now) entry.old entry.new guard.old guard.new }
+{
+    if scene.left == 0 {
+        return Ok(None);
+    }
+    guard.enter(pos)?;
+    let expr = scene.world.expr_at(pos, entry);
+    let inner = inside(scene, pos);
+    let Some(found) = evaluate(&inner, guard, entry, expr)? else {
+        return Ok(None);
+    };
+    let kept = copy(scene.alloc, &found.value)?;
+    guard.finish(pos, kept, found.height + 1);
+    Ok(Some(found.one_more()))
+}

@@ -1,0 +1,83 @@
+// What a step of an evaluation gives.
+ghost use Rattle.std.specs.Prelude.{◌≡◌, ◌<◌, ◌+◌, ◌^◌, ◌++◌, ◌∷◌, [], max, IfOk};
+ghost use Rattle.ad_value.specs.Plain.{plain, plains};
+
+use ad_value::{Value, Values};
+use pool_text::OutOfMemory;
+
+/// A value, with the least number of references that it needs.
+#[derive(Debug, Drop)]
+pub struct Outcome {
+    pub value: Value,
+    pub height: u32,
+}
+
+/// Several values, with the least number of references that all of them need.
+#[derive(Debug, Drop)]
+pub struct Several {
+    pub values: Values,
+    pub height: u32,
+}
+
+impl Outcome {
+    /// A value that needs no references.
+    pub fn leaf(value: Value) -> Outcome
+        ensures value { plain result.value ≡ plain value }
+        ensures height { result.height ≡ 0 }
+    {
+        Outcome { value, height: 0 }
+    }
+
+    /// The same value where it needs at least so many references.
+    pub fn at_least(self, height: u32) -> Outcome
+        ensures value { plain result.value ≡ plain self.value }
+        ensures height { result.height ≡ max height self.height }
+    {
+        let Outcome { value, height: own } = self;
+        Outcome {
+            value,
+            height: greater(height, own),
+        }
+    }
+}
+
+impl Outcome {
+    /// The same value with one reference more.
+    pub fn one_more(self) -> Outcome
+        requires { self.height + 1 < 2 ^ 32 }
+        ensures value { plain result.value ≡ plain self.value }
+        ensures height { result.height ≡ self.height + 1 }
+    {
+        let Outcome { value, height } = self;
+        Outcome {
+            value,
+            height: height + 1,
+        }
+    }
+}
+
+impl Several {
+    /// These values with one more behind them.
+    pub fn with(self, next: Outcome) -> Result<Several, OutOfMemory>
+        ensures values { IfOk result (λ all. plains all.values ≡ plains self.values ++ plain next.value ∷ []) }
+        ensures height { IfOk result (λ all. all.height ≡ max self.height next.height) }
+    {
+        let Several { mut values, height } = self;
+        let Outcome {
+            value,
+            height: needed,
+        } = next;
+        values.push(value)?;
+        Ok(Several {
+            values,
+            height: greater(height, needed),
+        })
+    }
+}
+
+/// The greater of two numbers.
+pub fn greater(a: u32, b: u32) -> u32
+    ensures { result ≡ max a b }
+{
+    if a < b { b } else { a }
+}

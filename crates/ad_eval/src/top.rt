@@ -1,0 +1,176 @@
+// Whole evaluations: of an expression, a requirement, a rank and a dock.
+ghost use Rattle.std.specs.Prelude.{◌≡◌, ◌≤◌, ◌+◌, ◌*◌, option_map, IfOk, IfSome, IsSome};
+ghost use Rattle.std.specs.Option.{option_map_or};
+ghost use Rattle.ad_value.specs.Plain.{error, plain};
+ghost use Rattle.ad_tree.specs.Special.{requirement_of};
+ghost use Rattle.ad_tree.specs.Tree.{tree};
+ghost use Rattle.eval_scope.specs.Shown.{world_of};
+ghost use Rattle.eval_scope.specs.World.{attribute_count, expr_of, frames_of_ad};
+ghost use Rattle.ad_eval.specs.Dock.{attribute_of, is_docked, meets_requirement, rank_by, rank_number};
+ghost use Rattle.ad_eval.specs.Value.{evaluation, evaluation_at};
+
+use crate::evaluation::{attribute, evaluate};
+use crate::outcome::Outcome;
+use crate::scene::Scene;
+use ad_tree::Expr;
+use ad_value::Value;
+use cycle_guard::Guard;
+use eval_scope::World;
+use pool_steps::Steps;
+use pool_text::{AdPlace, OutOfMemory, Pos};
+use std::alloc::Global;
+use std::sync::ledger::Ledger;
+
+/// An evaluation has so many references to spend.
+const REFERENCES: u32 = 24;
+
+/// The value of an expression that stands in the frame `at`. A reference, selection or subscript that finds an attribute
+/// spends one of 24 references, and the attribute has what is left; an evaluation that demands more is Error as a whole, as
+/// is one in which an attribute needs its own value. Each attribute is entered at most once.
+///
+/// It counts one in `tops`, and in `entry` each attribute that is entered.
+pub fn value<F: Ledger, E: Ledger>(
+    alloc: Global,
+    world: &World<'_>,
+    at: AdPlace,
+    expr: &Expr,
+    tops: &mut Steps<F>,
+    entry: &mut Steps<E>,
+) -> Result<Value, OutOfMemory>
+    ensures value { IfOk result (λ v. plain v ≡ evaluation (world_of world.now) at (tree expr.now)) }
+    ensures evaluations { tops.new ≡ tops.old + 1 }
+    ensures entries { entry.new ≤ entry.old + attribute_count (world_of world.now) }
+{
+    tops.tick();
+    let scene = Scene {
+        alloc,
+        world,
+        at,
+        left: REFERENCES,
+    };
+    let mut guard = Guard::new(alloc);
+    let answer = evaluate(&scene, &mut guard, entry, expr)?;
+    Ok(value_or_error(answer))
+}
+
+/// Whether the requirement of the frame `at` is the Boolean true: its attribute `Requirements`, or else `Constraint`, which
+/// aren't looked for in other frames. The reference to it is the first of the 24.
+///
+/// It counts one in `tops` where there is a requirement.
+pub fn requirement<F: Ledger, E: Ledger>(
+    alloc: Global,
+    world: &World<'_>,
+    at: AdPlace,
+    tops: &mut Steps<F>,
+    entry: &mut Steps<E>,
+) -> Result<bool, OutOfMemory>
+    ensures value { IfOk result (λ b. b ≡ meets_requirement (world_of world.now) at) }
+    ensures evaluations { tops.new ≤ tops.old + 1 }
+    ensures entries { entry.new ≤ entry.old + attribute_count (world_of world.now) }
+{
+    let Some(pos) = requirement_in(world, at) else {
+        return Ok(false);
+    };
+    let value = value_at(alloc, world, pos, tops, entry)?;
+    Ok(matches!(value, Value::Boolean(true)))
+}
+
+/// The rank by the frame `at`: its attribute `Rank` where that is an Integer, 1 where it is true, and 0 for all else. The
+/// reference to it is the first of the 24.
+///
+/// It counts one in `tops` where there is a rank.
+pub fn rank<F: Ledger, E: Ledger>(
+    alloc: Global,
+    world: &World<'_>,
+    at: AdPlace,
+    tops: &mut Steps<F>,
+    entry: &mut Steps<E>,
+) -> Result<i64, OutOfMemory>
+    ensures value { IfOk result (λ n. n ≡ rank_by (world_of world.now) at) }
+    ensures evaluations { tops.new ≤ tops.old + 1 }
+    ensures entries { entry.new ≤ entry.old + attribute_count (world_of world.now) }
+{
+    let Some(pos) = world.within(at, b"Rank") else {
+        return Ok(0);
+    };
+    let value = value_at(alloc, world, pos, tops, entry)?;
+    Ok(rank_number(&value))
+}
+
+/// Whether the last dock is true: the requirements of both its sides are, the request's first. The resource's side is
+/// evaluated only where the request's is true.
+pub fn dock<F: Ledger, E: Ledger>(
+    alloc: Global,
+    world: &World<'_>,
+    tops: &mut Steps<F>,
+    entry: &mut Steps<E>,
+) -> Result<bool, OutOfMemory>
+    ensures value { IfOk result (λ b. b ≡ is_docked (world_of world.now)) }
+    ensures evaluations { tops.new ≤ tops.old + 2 }
+    ensures entries { entry.new ≤ entry.old + 2 * attribute_count (world_of world.now) }
+{
+    if !requirement(alloc, world, world.request_place(), tops, entry)? {
+        return Ok(false);
+    }
+    requirement(alloc, world, world.resource_place(), tops, entry)
+}
+
+// The value of an attribute.
+fn value_at<F: Ledger, E: Ledger>(
+    alloc: Global,
+    world: &World<'_>,
+    pos: Pos,
+    tops: &mut Steps<F>,
+    entry: &mut Steps<E>,
+) -> Result<Value, OutOfMemory>
+    requires { IsSome (expr_of (world_of world.now) pos) }
+    ensures value { IfOk result (λ v. plain v ≡ evaluation_at (world_of world.now) pos) }
+    ensures evaluations { tops.new ≡ tops.old + 1 }
+    ensures entries { entry.new ≤ entry.old + attribute_count (world_of world.now) }
+{
+    tops.tick();
+    let scene = Scene {
+        alloc,
+        world,
+        at: AdPlace {
+            ad: pos.ad,
+            frame: pos.frame,
+        },
+        left: REFERENCES,
+    };
+    let mut guard = Guard::new(alloc);
+    let answer = attribute(&scene, &mut guard, entry, pos)?;
+    Ok(value_or_error(answer))
+}
+
+// The value of an answer, Error where there is none.
+fn value_or_error(answer: Option<Outcome>) -> Value
+    ensures { plain result ≡ option_map_or (λ o. plain o.value) answer error }
+{
+    match answer {
+        Some(outcome) => outcome.value,
+        None => Value::Error,
+    }
+}
+
+// The requirement of a frame.
+fn requirement_in(world: &World<'_>, at: AdPlace) -> Option<Pos>
+    ensures found { result ≡ option_map (λ k. attribute_of at k) (requirement_of (frames_of_ad (world_of world.now) at.ad) at.frame) }
+    ensures there { IfSome result (λ pos. IsSome (expr_of (world_of world.now) pos)) }
+{
+    match world.within(at, b"Requirements") {
+        Some(pos) => Some(pos),
+        None => world.within(at, b"Constraint"),
+    }
+}
+
+// The rank that a value stands for.
+fn rank_number(value: &Value) -> i64
+    ensures { result ≡ rank_number (plain value.now) }
+{
+    match value {
+        Value::Integer(n) => *n,
+        Value::Boolean(true) => 1,
+        _ => 0,
+    }
+}

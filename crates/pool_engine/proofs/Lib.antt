@@ -6,5 +6,4 @@ mod ReadingLemmas
 mod RunningLemmas
 mod StepLemmas
 mod TookLemmas
-mod ValueLemmas
 mod WroteLemmas

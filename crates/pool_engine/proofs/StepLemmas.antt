@@ -12,26 +12,43 @@ use Rattle.ad_parser.specs.Outcomes.{IsAdAnswer, IsExprAnswer}
 use Rattle.pool_replies.specs.Refusals.{is_fault_of_text}
 use Rattle.pool_replies.specs.declared.refusal.Refusal.TheVariants.{AdText, Full, UnknownName}
 use Rattle.pool_replies.specs.declared.reply.Reply.{Reply}
-use Rattle.pool_replies.specs.declared.reply.Reply.TheVariants.{Advertised, Refused, Replaced, Shown}
+use Rattle.pool_replies.specs.declared.reply.Reply.TheVariants.{Advertised, Evaluated, Refused, Replaced, Shown}
 use Rattle.ad_printer.specs.Values.{printed_frame}
 use Rattle.ad_store.specs.Stock.{Advert, has, lack, placed}
 use Rattle.ad_store.specs.declared.answers.PutFault.{PutFault}
 use Rattle.pool_engine.specs.State.{State}
-use Rattle.pool_engine.specs.Step.{ad_named, advertise, eval, eval_tree, put_ad, refused, room_of, show, show_ad}
-
--- an expression that was parsed
-pub eval-parsed : (s : State) (outcome : Result Inline ParseFault) (phrase : Phrase) → IsExprAnswer outcome (Ok phrase) → ◌≡◌ {A = State × Reply} (eval s outcome) (eval_tree s (tree phrase.expr))
-eval-parsed s (Ok x) phrase fits = ap (λ (t : Tree). eval_tree s t) (sym fits.1)
-eval-parsed s (Err wrong) phrase fits = absurd fits
+use Rattle.pool_engine.specs.Step.{ad_named, advertise, eval, eval_beside, eval_in, put_ad, refused, room_of, show, show_ad, value_line}
 
 no_fault : (fault : ParseFault) → is_fault_of_text fault ≡ true → fault ≡ OutOfMemory → ⊥
 no_fault fault told none = let no : false ≡ true = sym (ap is_fault_of_text none) ∙ told in absurd (cc)
+
+-- an expression that was parsed
+pub eval-parsed : (s : State) (outcome : Result Inline ParseFault) (phrase : Phrase) (text : List ℕ) → IsExprAnswer outcome (Ok phrase) → text ≡ value_line s.moment (ad_frames phrase.ad) (tree phrase.expr) None → ◌≡◌ {A = State × Reply} (eval s outcome) (s, Evaluated text)
+eval-parsed s (Ok x) phrase text fits printed = λ i. (s, Evaluated ((sym (printed ∙ (λ j. value_line s.moment (fits.0 j) (fits.1 j) None))) i))
+eval-parsed s (Err wrong) phrase text fits printed = absurd fits
+
+pub eval_in-parsed : (s : State) (name : List ℕ) (outcome : Result Inline ParseFault) (phrase : Phrase) → IsExprAnswer outcome (Ok phrase) → ◌≡◌ {A = State × Reply} (eval_in s name outcome) (eval_beside s (ad_frames phrase.ad) (tree phrase.expr) (ad_named name s.ads))
+eval_in-parsed s name (Ok x) phrase fits = λ i. eval_beside s ((sym fits.0) i) ((sym fits.1) i) (ad_named name s.ads)
+eval_in-parsed s name (Err wrong) phrase fits = absurd fits
 
 -- an expression that has a fault
 pub eval-faulty : (s : State) (outcome : Result Inline ParseFault) (fault : ParseFault) → IsExprAnswer outcome (Err fault) → is_fault_of_text fault ≡ true → ◌≡◌ {A = State × Reply} (eval s outcome) (refused s (AdText fault))
 eval-faulty s (Ok x) fault fits told = absurd (no_fault fault told fits)
 eval-faulty s (Err wrong) fault (inl same) told = ap (λ (f : ParseFault). refused s (AdText f)) (sym same)
 eval-faulty s (Err wrong) fault (inr none) told = absurd (no_fault fault told none)
+
+pub eval_in-faulty : (s : State) (name : List ℕ) (outcome : Result Inline ParseFault) (fault : ParseFault) → IsExprAnswer outcome (Err fault) → is_fault_of_text fault ≡ true → ◌≡◌ {A = State × Reply} (eval_in s name outcome) (refused s (AdText fault))
+eval_in-faulty s name (Ok x) fault fits told = absurd (no_fault fault told fits)
+eval_in-faulty s name (Err wrong) fault (inl same) told = ap (λ (f : ParseFault). refused s (AdText f)) (sym same)
+eval_in-faulty s name (Err wrong) fault (inr none) told = absurd (no_fault fault told none)
+
+-- an expression beside an ad that is held, and beside none
+pub beside-found : (s : State) (frames : List Frame) (t : Tree) (found : Option Advert) (advert : Advert) (other : List Frame) (text : List ℕ) → found ≡ Some advert → advert.ad ≡ other → text ≡ value_line s.moment frames t (Some other) → ◌≡◌ {A = State × Reply} (eval_beside s frames t found) (s, Evaluated text)
+beside-found s frames t found advert other text is same printed =
+    ap (eval_beside s frames t) is ∙ ap (λ (l : List ℕ). (s, Evaluated l)) (ap (λ (fs : List Frame). value_line s.moment frames t (Some fs)) same ∙ sym printed)
+
+pub beside-unknown : (s : State) (frames : List Frame) (t : Tree) (found : Option Advert) → found ≡ None → ◌≡◌ {A = State × Reply} (eval_beside s frames t found) (refused s UnknownName)
+beside-unknown s frames t found none = ap (eval_beside s frames t) none
 
 -- an ad that was parsed
 pub advertise-parsed : (s : State) (name : List ℕ) (lifetime size : ℕ) (outcome : Result Inline ParseFault) (ad : Ad) → IsAdAnswer outcome (Ok ad) → ◌≡◌ {A = State × Reply} (advertise s name lifetime size outcome) (put_ad s (record { name = name; born = s.moment; lifetime = lifetime; size = size; ad = ad_frames ad }) (lack name size s.ads))

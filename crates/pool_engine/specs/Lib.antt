@@ -5,4 +5,3 @@ pub mod Pool
 pub mod Session
 pub mod State
 pub mod Step
-pub mod Values

@@ -1,10 +1,14 @@
 -- What a command makes of the state, and the reply to it.
-use Rattle.std.specs.Prelude.{ℕ, ◌-◌, List, length, filter, find, map, nat_lt, Option, None, Some, Result, Ok, Err, if◌then◌else◌}
-use Rattle.ad_tree.specs.Inline.{Inline, ad_of, phrase_tree}
+use Rattle.std.specs.Prelude.{ℕ, ◌-◌, List, [], ◌∷◌, length, filter, find, map, nat_lt, Option, None, Some, Result, Ok, Err, if◌then◌else◌}
+use Rattle.ad_tree.specs.Frames.{Frame}
+use Rattle.ad_tree.specs.Inline.{Inline, ad_of, phrase_of, phrase_tree}
 use Rattle.ad_tree.specs.Tree.{Tree}
 use Rattle.ad_parser.specs.declared.fault.ParseFault.{ParseFault}
 use Rattle.ad_parser.proofs.Outcomes.{ad_outcome, expr_outcome}
-use Rattle.ad_printer.specs.Values.{printed_frame}
+use Rattle.pool_text.specs.declared.language.AdPlace.{AdPlace}
+use Rattle.eval_scope.specs.World.{PlainWorld}
+use Rattle.ad_eval.specs.Value.{evaluation}
+use Rattle.ad_printer.specs.Values.{printed_frame, printed_value}
 use Rattle.ad_store.specs.Stock.{Advert, has, is_live, is_named, lack, placed, without}
 use Rattle.ad_store.specs.declared.answers.PutFault.{PutFault}
 use Rattle.ad_store.specs.declared.answers.PutFault.TheVariants as fault
@@ -18,7 +22,6 @@ use Rattle.pool_replies.specs.declared.reply.Reply.{Reply}
 use Rattle.pool_replies.specs.declared.reply.Reply.TheVariants as reply
 use Rattle.pool_replies.specs.declared.rows.AdRow.{AdRow}
 use Rattle.pool_engine.specs.State.{State}
-use Rattle.pool_engine.specs.Values.{is_built, value, value_text}
 
 -- a refused command changes nothing
 abbrev pub refused : State → Refusal → State × Reply
@@ -76,14 +79,33 @@ list s = (s, reply.Ads (map ad_row s.ads))
 
 -- ---- expressions
 
--- the value of an expression, where it can be found today
-abbrev pub eval_tree : State → Tree → State × Reply
-eval_tree s t = if is_built t then (s, reply.Evaluated (value_text (value t))) else refused s why.NotBuilt
+-- the world of an expression: its own ad with nothing docked, or with one ad
+abbrev pub world_of_eval : ℕ → List Frame → Option (List Frame) → PlainWorld
+world_of_eval moment frames None = record { moment = moment; request = frames; ports = []; docked = [] }
+world_of_eval moment frames (Some other) = record { moment = moment; request = frames; ports = []; docked = other ∷ [] }
+
+-- the root of an expression's own ad
+abbrev pub own_root : AdPlace
+own_root = record { ad = 0; frame = 0 }
+
+-- the printed value of an expression, whose own ad has these frames
+abbrev pub value_line : ℕ → List Frame → Tree → Option (List Frame) → List ℕ
+value_line moment frames t other = printed_value frames other (evaluation (world_of_eval moment frames other) own_root t)
 
 -- `eval EXPR`, by what the text of the expression is
 abbrev pub eval : State → Result Inline ParseFault → State × Reply
-eval s (Ok x) = eval_tree s (phrase_tree x)
 eval s (Err fault) = refused s (why.AdText fault)
+eval s (Ok x) = (s, reply.Evaluated (value_line s.moment (phrase_of x) (phrase_tree x) None))
+
+-- an expression beside an ad
+abbrev pub eval_beside : State → List Frame → Tree → Option Advert → State × Reply
+eval_beside s frames t None = refused s why.UnknownName
+eval_beside s frames t (Some advert) = (s, reply.Evaluated (value_line s.moment frames t (Some advert.ad)))
+
+-- `evalin NAME EXPR`: the fault of the text is told before that the name isn't known
+abbrev pub eval_in : State → List ℕ → Result Inline ParseFault → State × Reply
+eval_in s name (Err fault) = refused s (why.AdText fault)
+eval_in s name (Ok x) = eval_beside s (phrase_of x) (phrase_tree x) (ad_named name s.ads)
 
 -- the state behind a command, and the reply to it
 unfoldable pub step : State → Command → State × Reply
@@ -93,6 +115,7 @@ step s (command.Withdraw name) = withdraw s name
 step s (command.Show name) = show s name
 step s command.List = list s
 step s (command.Eval expr) = eval s (expr_outcome expr)
+step s (command.EvalIn name expr) = eval_in s name (expr_outcome expr)
 step s (command.Bad number) = refused s (why.Line number)
 step s other = refused s why.NotBuilt
 
@@ -105,4 +128,5 @@ allowance s other = 0
 -- how many ads of the store a command may look into
 unfoldable pub looks : Command → ℕ
 looks (command.Show name) = 1
+looks (command.EvalIn name expr) = 1
 looks other = 0

@@ -1,94 +1,148 @@
-// The value of an expression of literals, `&&` and `||`, and its text.
-ghost use Rattle.std.specs.Prelude.{◌≡◌, true, false, IfOk};
-ghost use Rattle.ad_tree.specs.Tree.{pack, tree, trees};
-ghost use Rattle.ad_value.specs.Plain.{boolean, plain};
-ghost use Rattle.pool_engine.specs.Values.{are_built, conjunction, disjunction, is_built, value, value_text};
+// The values of expressions, alone or beside an ad.
+ghost use Rattle.std.specs.Prelude.{◌≡◌, ◌+◌, ◌≤◌, [], IfOk, IsTrue};
+ghost use Rattle.ad_parser.proofs.Outcomes.{expr_outcome};
+ghost use Rattle.ad_store.specs.Store.{stock_of};
+ghost use Rattle.ad_tree.specs.Ad.{ad_frames};
+ghost use Rattle.ad_tree.specs.Tree.{tree};
+ghost use Rattle.pool_script.specs.Form.{is_expr};
+ghost use Rattle.pool_replies.specs.Replies.{is_printable};
+ghost use Rattle.pool_engine.specs.Step as steps;
 
-use ad_tree::{Expr, Exprs};
-use ad_value::{Value, and_ends, and_step, from_lit, or_ends, or_step};
-use pool_text::{Lit, OutOfMemory, Text, append_number};
+use crate::pool::told;
+use ad_eval::value;
+use ad_parser::parse_expr;
+use ad_printer::print_value;
+use ad_store::Store;
+use ad_tree::{Ad, Phrase, Ports};
+use eval_scope::World;
+use pool_replies::{Refusal, Reply};
+use pool_steps::Steps;
+use pool_text::{AdPlace, OutOfMemory, Text};
 use std::alloc::Global;
+use std::sync::ledger::Ledger;
 
-/// Whether the value of the expression can be found today: it holds literals that are no strings, `&&` and `||` alone.
-#[cycle(built)]
-pub(crate) fn is_built(expr: &Expr) -> bool
-    ensures { result ≡ is_built (tree expr.now) }
+/// `eval`: the value of the expression with nothing docked. It counts one in `tops`.
+#[tactic(auto, unfolding(pool_replies::specs::Replies::is_printable, pool_replies::specs::Refusals::is_printable_refusal))]
+pub(crate) fn eval<F: Ledger, E: Ledger>(
+    alloc: Global,
+    store: &Store,
+    moment: u64,
+    expr: &[u8],
+    tops: &mut Steps<F>,
+    entry: &mut Steps<E>,
+) -> Result<Reply, OutOfMemory>
+    requires { IsTrue (is_expr expr.now) }
+    ensures step { IfOk result (λ reply.
+        steps.eval (record { moment = moment; ads = (stock_of store.now).ads }) (expr_outcome expr.now)
+        ≡ (record { moment = moment; ads = (stock_of store.now).ads }, reply)) }
+    ensures printable { IfOk result (λ reply. IsTrue (is_printable reply)) }
+    ensures cost { tops.new ≤ tops.old + 1 }
 {
-    match expr {
-        Expr::Literal(lit) => !matches!(lit, Lit::Str(_)),
-        Expr::And(items) => are_built(items),
-        Expr::Or(items) => are_built(items),
-        _ => false,
-    }
+    let phrase = match parse_expr(alloc, expr) {
+        Ok(phrase) => phrase,
+        Err(fault) => return Ok(Reply::Refused(Refusal::AdText(told(fault)?))),
+    };
+    let ports = Ports::new(alloc);
+    let text = value_alone(alloc, moment, &phrase, &ports, tops, entry);
+    drop(phrase);
+    Ok(Reply::Evaluated(text?))
 }
 
-#[cycle(built)]
-fn are_built(items: &Exprs) -> bool
-    ensures { result ≡ are_built (pack (trees items.now)) }
+/// `evalin`: the value of the expression with the ad of the name docked. It counts one in `tops`, and one in `touch`.
+#[tactic(auto, unfolding(pool_replies::specs::Replies::is_printable, pool_replies::specs::Refusals::is_printable_refusal))]
+pub(crate) fn eval_in<F: Ledger, E: Ledger, T: Ledger>(
+    alloc: Global,
+    store: &Store,
+    moment: u64,
+    name: &[u8],
+    expr: &[u8],
+    tops: &mut Steps<F>,
+    entry: &mut Steps<E>,
+    touch: &mut Steps<T>,
+) -> Result<Reply, OutOfMemory>
+    requires { IsTrue (is_expr expr.now) }
+    ensures step { IfOk result (λ reply.
+        steps.eval_in (record { moment = moment; ads = (stock_of store.now).ads }) name.now (expr_outcome expr.now)
+        ≡ (record { moment = moment; ads = (stock_of store.now).ads }, reply)) }
+    ensures printable { IfOk result (λ reply. IsTrue (is_printable reply)) }
+    ensures cost { tops.new ≤ tops.old + 1 }
+    ensures looks { touch.new ≤ touch.old + 1 }
 {
-    for i in 0..items.len() {
-        if !is_built(items.at(i)) {
-            return false;
-        }
-    }
-    true
+    let phrase = match parse_expr(alloc, expr) {
+        Ok(phrase) => phrase,
+        Err(fault) => return Ok(Reply::Refused(Refusal::AdText(told(fault)?))),
+    };
+    let reply = eval_beside(alloc, store, moment, name, &phrase, tops, entry, touch);
+    drop(phrase);
+    reply
 }
 
-/// The value of such an expression. A chain is folded from the left, and an element that isn't demanded is left out.
-#[cycle(evaluation)]
-pub(crate) fn evaluate(alloc: Global, expr: &Expr) -> Result<Value, OutOfMemory>
-    ensures { IfOk result (λ v. plain v ≡ value (tree expr.now)) }
+/// The value of a phrase with the ad of the name docked.
+#[tactic(auto, unfolding(pool_replies::specs::Replies::is_printable, pool_replies::specs::Refusals::is_printable_refusal))]
+fn eval_beside<F: Ledger, E: Ledger, T: Ledger>(
+    alloc: Global,
+    store: &Store,
+    moment: u64,
+    name: &[u8],
+    phrase: &Phrase,
+    tops: &mut Steps<F>,
+    entry: &mut Steps<E>,
+    touch: &mut Steps<T>,
+) -> Result<Reply, OutOfMemory>
+    ensures step { IfOk result (λ reply.
+        steps.eval_beside (record { moment = moment; ads = (stock_of store.now).ads }) (ad_frames phrase.now.ad) (tree phrase.now.expr)
+        (steps.ad_named name.now (stock_of store.now).ads)
+        ≡ (record { moment = moment; ads = (stock_of store.now).ads }, reply)) }
+    ensures printable { IfOk result (λ reply. IsTrue (is_printable reply)) }
+    ensures cost { tops.new ≤ tops.old + 1 }
+    ensures looks { touch.new ≤ touch.old + 1 }
 {
-    match expr {
-        Expr::Literal(lit) => from_lit(alloc, lit),
-        Expr::And(items) => conjunction(alloc, items),
-        Expr::Or(items) => disjunction(alloc, items),
-        _ => Ok(Value::Undefined),
-    }
+    let Some(slot) = store.slot_of(name) else {
+        return Ok(Reply::Refused(Refusal::UnknownName));
+    };
+    let ad = store.look(slot, touch);
+    let ports = Ports::new(alloc);
+    let text = value_beside(alloc, moment, phrase, &ports, ad, tops, entry)?;
+    Ok(Reply::Evaluated(text))
 }
 
-#[cycle(evaluation)]
-fn conjunction(alloc: Global, items: &Exprs) -> Result<Value, OutOfMemory>
-    ensures { IfOk result (λ v. plain v ≡ conjunction (boolean true) (pack (trees items.now))) }
+/// The printed value of a phrase with nothing docked.
+fn value_alone<'a, F: Ledger, E: Ledger>(
+    alloc: Global,
+    moment: u64,
+    phrase: &'a Phrase,
+    ports: &'a Ports,
+    tops: &mut Steps<F>,
+    entry: &mut Steps<E>,
+) -> Result<Text, OutOfMemory>
+    requires { ports.now ≡ [] }
+    ensures text { IfOk result (λ text.
+        text ≡ steps.value_line moment (ad_frames phrase.now.ad) (tree phrase.now.expr) None) }
+    ensures cost { tops.new ≤ tops.old + 1 }
 {
-    let mut left = Value::Boolean(true);
-    for i in 0..items.len() {
-        if and_ends(&left) {
-            return Ok(left);
-        }
-        let right = evaluate(alloc, items.at(i))?;
-        left = and_step(&left, &right);
-    }
-    Ok(left)
+    let world = World::new(moment, &phrase.ad, ports);
+    let root = AdPlace { ad: 0, frame: 0 };
+    let found = value(alloc, &world, root, &phrase.expr, tops, entry)?;
+    print_value(alloc, &found, &phrase.ad, None)
 }
 
-#[cycle(evaluation)]
-fn disjunction(alloc: Global, items: &Exprs) -> Result<Value, OutOfMemory>
-    ensures { IfOk result (λ v. plain v ≡ disjunction (boolean false) (pack (trees items.now))) }
+/// The printed value of a phrase with one ad docked.
+fn value_beside<'a, F: Ledger, E: Ledger>(
+    alloc: Global,
+    moment: u64,
+    phrase: &'a Phrase,
+    ports: &'a Ports,
+    ad: &'a Ad,
+    tops: &mut Steps<F>,
+    entry: &mut Steps<E>,
+) -> Result<Text, OutOfMemory>
+    requires { ports.now ≡ [] }
+    ensures text { IfOk result (λ text.
+        text ≡ steps.value_line moment (ad_frames phrase.now.ad) (tree phrase.now.expr) (Some (ad_frames ad.now))) }
+    ensures cost { tops.new ≤ tops.old + 1 }
 {
-    let mut left = Value::Boolean(false);
-    for i in 0..items.len() {
-        if or_ends(&left) {
-            return Ok(left);
-        }
-        let right = evaluate(alloc, items.at(i))?;
-        left = or_step(&left, &right);
-    }
-    Ok(left)
-}
-
-/// The text of a value that such an expression can have.
-pub(crate) fn print_value(alloc: Global, value: &Value) -> Result<Text, OutOfMemory>
-    ensures { IfOk result (λ t. t ≡ value_text (plain value.now)) }
-{
-    let mut text = Text::new(alloc);
-    match value {
-        Value::Undefined => text.append(b"undefined")?,
-        Value::Error => text.append(b"error")?,
-        Value::Boolean(true) => text.append(b"true")?,
-        Value::Boolean(false) => text.append(b"false")?,
-        Value::Integer(n) => append_number(&mut text, *n)?,
-        Value::Str(_) | Value::List(_) | Value::Ad(_) => {}
-    }
-    Ok(text)
+    let world = World::new(moment, &phrase.ad, ports).with(ad);
+    let root = AdPlace { ad: 0, frame: 0 };
+    let found = value(alloc, &world, root, &phrase.expr, tops, entry)?;
+    print_value(alloc, &found, &phrase.ad, Some(ad))
 }

@@ -1,18 +1,15 @@
 // The pool and its steps.
 ghost use Rattle.std.specs.Prelude.{◌≡◌, ◌+◌, ◌≤◌, true, false, IfOk, IsErr, IsTrue, OnErr, OnOk};
-ghost use Rattle.ad_parser.proofs.Outcomes.{expr_outcome};
-ghost use Rattle.ad_tree.specs.Tree.{tree};
-ghost use Rattle.pool_script.specs.Form.{is_expr, is_within_form};
+ghost use Rattle.pool_script.specs.Form.{is_within_form};
 ghost use Rattle.pool_replies.specs.Refusals.{is_fault_of_text};
 ghost use Rattle.pool_replies.specs.Replies.{is_printable};
 ghost use Rattle.pool_engine.specs.State.{opening};
 ghost use Rattle.pool_engine.specs.Step as steps;
 
 use crate::ads::{advertise, expire, rows, show, withdraw};
-use crate::eval::{evaluate, is_built, print_value};
-use ad_parser::{ParseFault, parse_expr};
+use crate::eval::{eval, eval_in};
+use ad_parser::ParseFault;
 use ad_store::Store;
-use ad_tree::Expr;
 use pool_replies::{Refusal, Reply};
 use pool_script::Command;
 use pool_steps::Steps;
@@ -46,13 +43,14 @@ impl Pool {
         }
     }
 
-    /// Runs a command. It counts in `tops` the whole evaluations, one at most for `eval` and none for any other command, and in
-    /// `touch` the ads of the store that are looked into.
+    /// Runs a command. It counts in `tops` the whole evaluations, one at most for `eval` and `evalin` and none for any other
+    /// command, in `entry` the attributes that they enter, and in `touch` the ads of the store that are looked into.
     #[tactic(auto, unfolding(crate::specs::Pool::state_of, crate::specs::Pool::is_spent))]
-    pub fn step<F: Ledger, T: Ledger>(
+    pub fn step<F: Ledger, E: Ledger, T: Ledger>(
         &mut self,
         command: &Command,
         tops: &mut Steps<F>,
+        entry: &mut Steps<E>,
         touch: &mut Steps<T>,
     ) -> Result<Reply, OutOfMemory>
         requires { IsTrue (is_within_form command.now) }
@@ -67,16 +65,17 @@ impl Pool {
         if self.spent {
             return Err(OutOfMemory);
         }
-        let answered = self.answer(command, tops, touch);
+        let answered = self.answer(command, tops, entry, touch);
         self.spent = answered.is_err();
         answered
     }
 
     #[tactic(auto, unfolding(crate::specs::Pool::state_of, crate::specs::Step::step, crate::specs::Step::allowance, crate::specs::Step::looks, pool_script::specs::Form::is_within_form, pool_replies::specs::Replies::is_printable, pool_replies::specs::Refusals::is_printable_refusal))]
-    fn answer<F: Ledger, T: Ledger>(
+    fn answer<F: Ledger, E: Ledger, T: Ledger>(
         &mut self,
         command: &Command,
         tops: &mut Steps<F>,
+        entry: &mut Steps<E>,
         touch: &mut Steps<T>,
     ) -> Result<Reply, OutOfMemory>
         requires { IsTrue (is_within_form command.now) }
@@ -102,7 +101,24 @@ impl Pool {
             Command::Withdraw(name) => withdraw(&mut self.store, self.moment, name),
             Command::Show(name) => show(self.alloc, &self.store, self.moment, name.bytes(), touch),
             Command::List => Ok(Reply::Ads(rows(self.alloc, &self.store)?)),
-            Command::Eval(expr) => self.eval(expr.bytes(), tops),
+            Command::Eval(expr) => eval(
+                self.alloc,
+                &self.store,
+                self.moment,
+                expr.bytes(),
+                tops,
+                entry,
+            ),
+            Command::EvalIn { name, expr } => eval_in(
+                self.alloc,
+                &self.store,
+                self.moment,
+                name.bytes(),
+                expr.bytes(),
+                tops,
+                entry,
+                touch,
+            ),
             Command::Bad(number) => Ok(Reply::Refused(Refusal::Line(*number))),
             _ => Ok(Reply::Refused(Refusal::NotBuilt)),
         }
@@ -119,38 +135,6 @@ impl Pool {
         let expired = expire(&mut self.store, n)?;
         self.moment = n;
         Ok(Reply::Clock { moment: n, expired })
-    }
-
-    #[tactic(auto, unfolding(crate::specs::Pool::state_of, pool_replies::specs::Replies::is_printable, pool_replies::specs::Refusals::is_printable_refusal))]
-    fn eval<F: Ledger>(&self, expr: &[u8], tops: &mut Steps<F>) -> Result<Reply, OutOfMemory>
-        requires { IsTrue (is_expr expr.now) }
-        ensures step { IfOk result (λ reply. steps.eval (state_of self.now) (expr_outcome expr.now) ≡ (state_of self.now, reply)) }
-        ensures printable { IfOk result (λ reply. IsTrue (is_printable reply)) }
-        ensures cost { tops.new ≤ tops.old + 1 }
-    {
-        let phrase = match parse_expr(self.alloc, expr) {
-            Ok(phrase) => phrase,
-            Err(fault) => return Ok(Reply::Refused(Refusal::AdText(told(fault)?))),
-        };
-        let reply = self.eval_tree(&phrase.expr, tops);
-        drop(phrase);
-        reply
-    }
-
-    #[tactic(auto, unfolding(crate::specs::Pool::state_of, pool_replies::specs::Replies::is_printable, pool_replies::specs::Refusals::is_printable_refusal))]
-    fn eval_tree<F: Ledger>(&self, expr: &Expr, tops: &mut Steps<F>) -> Result<Reply, OutOfMemory>
-        ensures step { IfOk result (λ reply. steps.eval_tree (state_of self.now) (tree expr.now) ≡ (state_of self.now, reply)) }
-        ensures printable { IfOk result (λ reply. IsTrue (is_printable reply)) }
-        ensures cost { tops.new ≤ tops.old + 1 }
-    {
-        if !is_built(expr) {
-            return Ok(Reply::Refused(Refusal::NotBuilt));
-        }
-        tops.tick();
-        let value = evaluate(self.alloc, expr)?;
-        let text = print_value(self.alloc, &value);
-        drop(value);
-        Ok(Reply::Evaluated(text?))
     }
 }
 

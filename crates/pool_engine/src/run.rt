@@ -66,13 +66,15 @@ impl RunEnd {
 
 /// Runs the script that a source gives: reads it to its end, runs each command as soon as it has ended, and offers each
 /// reply to the sink as one piece before the next read. No byte is read after the first one past the limit. It counts in
-/// `tops` the whole evaluations of the commands, and in `touch` the ads of the store that are looked into.
-pub fn run_pool<S: Source, K: Sink, F: Ledger, T: Ledger>(
+/// `tops` the whole evaluations of the commands, and in `entry` and `touch` the attributes that they enter and the ads of the
+/// store that are looked into.
+pub fn run_pool<S: Source, K: Sink, F: Ledger, E: Ledger, T: Ledger>(
     alloc: Global,
     words: &[Text],
     source: &mut S,
     sink: &mut K,
     tops: &mut Steps<F>,
+    entry: &mut Steps<E>,
     touch: &mut Steps<T>,
 ) -> RunEnd
     ensures ends { Ends (S.shows source.old) (S.shows source.new)
@@ -96,18 +98,19 @@ pub fn run_pool<S: Source, K: Sink, F: Ledger, T: Ledger>(
     if words.len() > 0 {
         return RunEnd::BadWords;
     }
-    match run_input(alloc, source, sink, tops, touch) {
+    match run_input(alloc, source, sink, tops, entry, touch) {
         Ok(refused) => RunEnd::Done { refused },
         Err(end) => end,
     }
 }
 
 // The number of refusals of a run that read and answered all, or why another run ended.
-fn run_input<S: Source, K: Sink, F: Ledger, T: Ledger>(
+fn run_input<S: Source, K: Sink, F: Ledger, E: Ledger, T: Ledger>(
     alloc: Global,
     source: &mut S,
     sink: &mut K,
     tops: &mut Steps<F>,
+    entry: &mut Steps<E>,
     touch: &mut Steps<T>,
 ) -> Result<u64, RunEnd>
     ensures ends { Ends (S.shows source.old) (S.shows source.new)
@@ -122,13 +125,13 @@ fn run_input<S: Source, K: Sink, F: Ledger, T: Ledger>(
             return Err(RunEnd::ReadFault);
         };
         if count == 0 {
-            return session.finish(sink, tops, touch);
+            return session.finish(sink, tops, entry, touch);
         }
-        session.feed(&buffer[..count], sink, tops, touch)?;
+        session.feed(&buffer[..count], sink, tops, entry, touch)?;
         left -= count;
     }
     match read_piece(source, &mut buffer, 1) {
-        Ok(0) => session.finish(sink, tops, touch),
+        Ok(0) => session.finish(sink, tops, entry, touch),
         Ok(_) => Err(RunEnd::TooLong),
         Err(_) => Err(RunEnd::ReadFault),
     }

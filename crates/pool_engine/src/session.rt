@@ -43,11 +43,12 @@ impl Session {
     }
 
     /// Runs the commands that end in a further piece of the script.
-    pub(crate) fn feed<K: Sink, F: Ledger, T: Ledger>(
+    pub(crate) fn feed<K: Sink, F: Ledger, E: Ledger, T: Ledger>(
         &mut self,
         piece: &[u8],
         sink: &mut K,
         tops: &mut Steps<F>,
+        entry: &mut Steps<E>,
         touch: &mut Steps<T>,
     ) -> Result<(), RunEnd>
         requires over { self.old.script.over ≡ false }
@@ -65,14 +66,15 @@ impl Session {
             → (m : ℕ) × Stands self.new.script (bytes ++ piece.now) m) }
     {
         self.script.feed(piece)?;
-        self.run_waiting(sink, tops, touch)
+        self.run_waiting(sink, tops, entry, touch)
     }
 
     /// Runs the commands that the end of the script gives, and answers how many of all were refused.
-    pub(crate) fn finish<K: Sink, F: Ledger, T: Ledger>(
+    pub(crate) fn finish<K: Sink, F: Ledger, E: Ledger, T: Ledger>(
         mut self,
         sink: &mut K,
         tops: &mut Steps<F>,
+        entry: &mut Steps<E>,
         touch: &mut Steps<T>,
     ) -> Result<u64, RunEnd>
         requires over { self.script.over ≡ false }
@@ -86,15 +88,16 @@ impl Session {
             (whole_commands self.script.rest)) }
     {
         self.script.end()?;
-        self.run_waiting(sink, tops, touch)?;
+        self.run_waiting(sink, tops, entry, touch)?;
         Ok(self.refused)
     }
 
     /// Runs the commands that wait.
-    fn run_waiting<K: Sink, F: Ledger, T: Ledger>(
+    fn run_waiting<K: Sink, F: Ledger, E: Ledger, T: Ledger>(
         &mut self,
         sink: &mut K,
         tops: &mut Steps<F>,
+        entry: &mut Steps<E>,
         touch: &mut Steps<T>,
     ) -> Result<(), RunEnd>
         requires { self.old.refused + length self.old.script.waiting < 2 ^ 64 }
@@ -110,19 +113,28 @@ impl Session {
             → (m : ℕ) × Stands self.new.script bytes m }
     {
         while let Some(command) = self.script.take() {
-            self.refused += run_command(self.alloc, &mut self.pool, command, sink, tops, touch)?;
+            self.refused += run_command(
+                self.alloc,
+                &mut self.pool,
+                command,
+                sink,
+                tops,
+                entry,
+                touch,
+            )?;
         }
         Ok(())
     }
 }
 
 /// Runs a command and offers its reply. Answers how many refusals that is, 0 or 1.
-fn run_command<K: Sink, F: Ledger, T: Ledger>(
+fn run_command<K: Sink, F: Ledger, E: Ledger, T: Ledger>(
     alloc: Global,
     pool: &mut Pool,
     command: Command,
     sink: &mut K,
     tops: &mut Steps<F>,
+    entry: &mut Steps<E>,
     touch: &mut Steps<T>,
 ) -> Result<u64, RunEnd>
     requires { IsTrue (is_within_form command) }
@@ -132,7 +144,7 @@ fn run_command<K: Sink, F: Ledger, T: Ledger>(
         (effects (K.shows sink.old) tops.old) (effects (K.shows sink.new) tops.new) (command ∷ [])) }
     ensures one { IfOk result (λ n. n ≤ 1) }
 {
-    let answered = pool.step(&command, tops, touch);
+    let answered = pool.step(&command, tops, entry, touch);
     drop(command);
     let reply = answered?;
     let offered = offer(alloc, &reply, sink);

@@ -8,7 +8,7 @@ use pool_io::{MemorySink, MemorySource};
 use pool_replies::{Refusal, Reply};
 use pool_script::Command;
 use pool_steps::Steps;
-use pool_text::{OutOfMemory, Slots, Text};
+use pool_text::{OutOfMemory, Slots, Text, append_count};
 use std::alloc::Global;
 use std::marker::Brand;
 use std::sync::ledger::{Blank, Ledger};
@@ -41,24 +41,31 @@ fn run(
 }
 
 // Runs a script with counters of its own.
-fn run_counted<F: Ledger, T: Ledger>(
+fn run_counted<F: Ledger, E: Ledger, T: Ledger>(
     alloc: Global,
     words: &[Text],
     source: &mut MemorySource,
     sink: &mut MemorySink,
     tops: Blank,
+    entry: Blank,
     touch: Blank,
 ) -> RunEnd
     requires tops_name { tops.name ≡ F.name }
     requires tops_parts { tops.parts ≡ F.parts }
     requires tops_one { tops.parts ≡ 1 }
+    requires entry_name { entry.name ≡ E.name }
+    requires entry_parts { entry.parts ≡ E.parts }
+    requires entry_one { entry.parts ≡ 1 }
     requires touch_name { touch.name ≡ T.name }
     requires touch_parts { touch.parts ≡ T.parts }
     requires touch_one { touch.parts ≡ 1 }
 {
     let mut tops = Steps::<F>::new(tops);
+    let mut entry = Steps::<E>::new(entry);
     let mut touch = Steps::<T>::new(touch);
-    run_pool(alloc, words, source, sink, &mut tops, &mut touch)
+    run_pool(
+        alloc, words, source, sink, &mut tops, &mut entry, &mut touch,
+    )
 }
 
 fn run_uncounted(
@@ -67,7 +74,15 @@ fn run_uncounted(
     source: &mut MemorySource,
     sink: &mut MemorySink,
 ) -> RunEnd {
-    run_counted::<Brand, Brand>(alloc, words, source, sink, Blank::new(1), Blank::new(1))
+    run_counted::<Brand, Brand, Brand>(
+        alloc,
+        words,
+        source,
+        sink,
+        Blank::new(1),
+        Blank::new(1),
+        Blank::new(1),
+    )
 }
 
 /// Scripts with how many commands are refused, and the replies.
@@ -106,14 +121,14 @@ const SCRIPTS: [(&[u8], u64, &[u8]); 11] = [
         b"refused 14 not built\nrefused 4 block not ended\n",
     ),
     (
-        b"eval \"abc\neval 1 &&\neval \"abc\"\neval 0x1F\neval 1 && 1.5",
-        4,
-        b"refused 6 lexical 2 at 0\nrefused 6 grammar\nrefused 14 not built\n31\nrefused 6 lexical 5 at 5\n",
+        b"eval \"abc\neval 1 &&\neval \"abc\"\neval 0x1F\neval 1 && 1.5\neval { 1 + 2, x }",
+        3,
+        b"refused 6 lexical 2 at 0\nrefused 6 grammar\n\"abc\"\n31\nrefused 6 lexical 5 at 5\n{ 3, undefined }\n",
     ),
     (
-        b"eval (true || error) && (false || undefined)\neval false && \"x\"",
-        1,
-        b"undefined\nrefused 14 not built\n",
+        b"eval (true || error) && (false || undefined)\nadvertise a 5\n[ x = 2; y = x * TARGET.z ]\n.\nevalin a x + 1\nevalin a [ z = 1 ].z\nevalin b x\nevalin b x +",
+        2,
+        b"undefined\nadvertised a\n3\n1\nrefused 8 name not known\nrefused 6 grammar\n",
     ),
 ];
 
@@ -173,7 +188,7 @@ fn repeated(alloc: Global, first: &[u8], more: &[u8], times: usize) -> Result<Te
 fn limits_of_expressions(rt: HostRuntime) -> Result<(), Fail> {
     let alloc = rt.alloc();
     let cases: [(&[u8], &[u8], usize, &[u8]); 4] = [
-        (b"1", b" + 1", 63, b"refused 14 not built\n"),
+        (b"1", b" + 1", 63, b"64\n"),
         (b"1", b" + 1", 64, b"refused 6 depth\n"),
         (b"", b"(", 131, b"refused 6 nesting\n"),
         (b"", b"(", 130, b"refused 6 grammar\n"),
@@ -188,6 +203,31 @@ fn limits_of_expressions(rt: HostRuntime) -> Result<(), Fail> {
         )?;
         assert_eq!(rt; ended.1.bytes(), reply);
     }
+    Ok(())
+}
+
+// An ad in which 24 attributes are each the next one, two are each other, and the last is 1.
+fn chain(alloc: Global) -> Result<Text, OutOfMemory> {
+    let mut script = Text::from_bytes(alloc, b"advertise c 9\n[ A = B; B = A; ")?;
+    for i in 0..24 {
+        script.append(b"C")?;
+        append_count(&mut script, i)?;
+        script.append(b" = C")?;
+        append_count(&mut script, i + 1)?;
+        script.append(b"; ")?;
+    }
+    script.append(b"C24 = 1 ]\n.\nevalin c C1\nevalin c C0\nevalin c A\n")?;
+    Ok(script)
+}
+
+#[test]
+fn references_are_bounded(rt: HostRuntime) -> Result<(), Fail> {
+    let alloc = rt.alloc();
+    let ended = run(alloc, chain(alloc)?.bytes(), (4096, 4096), 0, 0)?;
+    assert_eq!(rt;
+        ended.1.bytes(),
+        b"advertised c\n1\nerror\nerror\n".as_slice()
+    );
     Ok(())
 }
 
@@ -244,29 +284,39 @@ fn statuses(rt: HostRuntime) {
 }
 
 // The replies to two commands of one pool.
-fn two_steps<F: Ledger, T: Ledger>(
+fn two_steps<F: Ledger, E: Ledger, T: Ledger>(
     alloc: Global,
     tops: Blank,
+    entry: Blank,
     touch: Blank,
 ) -> Result<(Reply, Reply), OutOfMemory>
     requires tops_name { tops.name ≡ F.name }
     requires tops_parts { tops.parts ≡ F.parts }
     requires tops_one { tops.parts ≡ 1 }
+    requires entry_name { entry.name ≡ E.name }
+    requires entry_parts { entry.parts ≡ E.parts }
+    requires entry_one { entry.parts ≡ 1 }
     requires touch_name { touch.name ≡ T.name }
     requires touch_parts { touch.parts ≡ T.parts }
     requires touch_one { touch.parts ≡ 1 }
 {
     let mut tops = Steps::<F>::new(tops);
+    let mut entry = Steps::<E>::new(entry);
     let mut touch = Steps::<T>::new(touch);
     let mut pool = Pool::new(alloc);
-    let first = pool.step(&Command::Clock(7), &mut tops, &mut touch)?;
-    let second = pool.step(&Command::Clock(6), &mut tops, &mut touch)?;
+    let first = pool.step(&Command::Clock(7), &mut tops, &mut entry, &mut touch)?;
+    let second = pool.step(&Command::Clock(6), &mut tops, &mut entry, &mut touch)?;
     Ok((first, second))
 }
 
 #[test]
 fn a_pool_steps(rt: HostRuntime) -> Result<(), Fail> {
-    let (first, second) = two_steps::<Brand, Brand>(rt.alloc(), Blank::new(1), Blank::new(1))?;
+    let (first, second) = two_steps::<Brand, Brand, Brand>(
+        rt.alloc(),
+        Blank::new(1),
+        Blank::new(1),
+        Blank::new(1),
+    )?;
     assert!(rt;
         matches!(
             first,

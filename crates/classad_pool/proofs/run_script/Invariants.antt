@@ -5,3 +5,6 @@ ghosts-run_uncounted-F-Ledger a = record { name = a.tops.name; parts = a.tops.pa
 
 abbrev pub ghosts-run_uncounted-T-Ledger : goal.ghosts-run_uncounted-T-Ledger
 ghosts-run_uncounted-T-Ledger a = record { name = a.touch.name; parts = a.touch.parts }
+
+abbrev pub ghosts-run_uncounted-E-Ledger : goal.ghosts-run_uncounted-E-Ledger
+ghosts-run_uncounted-E-Ledger a = record { name = a.entry.name; parts = a.entry.parts }

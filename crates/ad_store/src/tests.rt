@@ -27,94 +27,53 @@ fn listed(alloc: Global, store: &Store) -> Result<String, Fail> {
     Ok(out)
 }
 
+// Puts an empty ad.
+fn put(
+    alloc: Global,
+    store: &mut Store,
+    name: &[u8],
+    born: u64,
+    text_len: u64,
+) -> Result<Put, PutFault> {
+    match empty_ad(alloc) {
+        Ok(ad) => store.put(name, born, 10, text_len, ad),
+        Err(_) => Err(PutFault::OutOfMemory),
+    }
+}
+
 #[test]
 fn ads_come_and_go(rt: HostRuntime) -> Result<(), Fail> {
     let alloc = rt.alloc();
     let mut store = Store::new(alloc);
-    assert_eq!(rt; store.put(b"a", 5, 10, 7, empty_ad(alloc)?)?, Put::Added(0));
-    assert_eq!(rt; store.put(b"b", 6, 10, 7, empty_ad(alloc)?)?, Put::Added(1));
-    assert_eq!(rt;
-        store.put(b"a", 7, 20, 7, empty_ad(alloc)?)?,
-        Put::Replaced(0)
-    );
-    assert_eq!(rt; store.put(b"c", 8, 10, 7, empty_ad(alloc)?)?, Put::Added(2));
-    assert_eq!(rt; listed(alloc, &store)?.as_str(), "a0 b1 c2");
-    if let Some(slot) = store.slot_of(b"a") {
-        assert_eq!(rt; store.born(slot), 7);
-        assert_eq!(rt; store.lifetime(slot), 20);
-        assert_eq!(rt; store.place(slot), 0);
-    }
+    assert_eq!(rt; put(alloc, &mut store, b"a", 5, 7)?, Put::Added(0));
+    assert_eq!(rt; put(alloc, &mut store, b"b", 6, 7)?, Put::Added(1));
+    assert_eq!(rt; put(alloc, &mut store, b"a", 7, 7)?, Put::Replaced(0));
+    assert_eq!(rt; listed(alloc, &store)?.as_str(), "a0 b1");
+    assert_eq!(rt; store.next_expired(15), None);
+    assert_eq!(rt; store.next_expired(16), Some(1));
     assert_eq!(rt; store.withdraw(b"A"), Err(NoName));
     assert_eq!(rt; store.withdraw(b"a"), Ok(0));
-    assert_eq!(rt; store.slot_of(b"a"), None);
-    assert_eq!(rt; listed(alloc, &store)?.as_str(), "b1 c2");
-    assert_eq!(rt; store.put(b"d", 9, 10, 7, empty_ad(alloc)?)?, Put::Added(0));
-    assert_eq!(rt; listed(alloc, &store)?.as_str(), "b1 c2 d0");
+    assert_eq!(rt; listed(alloc, &store)?.as_str(), "b1");
     Ok(())
 }
 
 #[test]
-fn ads_expire(rt: HostRuntime) -> Result<(), Fail> {
-    let alloc = rt.alloc();
-    let mut store = Store::new(alloc);
-    store.put(b"late", 100, 50, 7, empty_ad(alloc)?)?;
-    store.put(b"soon", 100, 10, 7, empty_ad(alloc)?)?;
-    store.put(b"both", 90, 20, 7, empty_ad(alloc)?)?;
-    store.put(b"ever", 0, u64::MAX, 7, empty_ad(alloc)?)?;
-    assert_eq!(rt; store.next_expired(0), None);
-    assert_eq!(rt; store.next_expired(109), None);
-    assert_eq!(rt; store.next_expired(110), Some(1));
-    assert_eq!(rt; store.next_expired(150), Some(0));
-    assert_eq!(rt; store.withdraw(b"soon"), Ok(1));
-    assert_eq!(rt; store.next_expired(110), Some(2));
-    Ok(())
-}
-
-#[test]
-fn limits(rt: HostRuntime) -> Result<(), Fail> {
+fn texts_have_a_limit(rt: HostRuntime) {
     let alloc = rt.alloc();
     let mut store = Store::new(alloc);
     assert_eq!(rt;
-        store.put(b"long", 0, 1, 33_554_433, empty_ad(alloc)?),
+        put(alloc, &mut store, b"long", 0, 33_554_433),
         Err(PutFault::FullText)
     );
     assert_eq!(rt;
-        store.put(b"long", 0, 1, 33_554_431, empty_ad(alloc)?)?,
-        Put::Added(0)
+        put(alloc, &mut store, b"long", 0, 33_554_432),
+        Ok(Put::Added(0))
     );
     assert_eq!(rt;
-        store.put(b"more", 0, 1, 2, empty_ad(alloc)?),
+        put(alloc, &mut store, b"more", 0, 1),
         Err(PutFault::FullText)
     );
-    assert_eq!(rt;
-        store.put(b"more", 0, 1, 1, empty_ad(alloc)?)?,
-        Put::Added(1)
-    );
-    assert_eq!(rt;
-        store.put(b"long", 0, 1, u64::MAX, empty_ad(alloc)?),
-        Err(PutFault::FullText)
-    );
-    assert_eq!(rt;
-        store.put(b"long", 0, 1, 0, empty_ad(alloc)?)?,
-        Put::Replaced(0)
-    );
-    for i in 2..10_000 {
-        let name = format!(in alloc; "ad{i}")?;
-        assert_eq!(rt;
-            store.put(name.as_bytes(), 0, 1, 0, empty_ad(alloc)?)?,
-            Put::Added(i)
-        );
-    }
-    assert_eq!(rt;
-        store.put(b"full", 0, 1, u64::MAX, empty_ad(alloc)?),
-        Err(PutFault::Full)
-    );
-    assert_eq!(rt;
-        store.put(b"ad77", 0, 1, 0, empty_ad(alloc)?)?,
-        Put::Replaced(77)
-    );
-    assert_eq!(rt; store.len(), 10_000);
-    Ok(())
+    assert_eq!(rt; put(alloc, &mut store, b"long", 0, 0), Ok(Put::Replaced(0)));
 }
 
 fn frames_seen<L: Ledger>(blank: Blank, store: &Store) -> u32
@@ -133,8 +92,7 @@ fn frames_seen<L: Ledger>(blank: Blank, store: &Store) -> u32
 #[test]
 fn looks(rt: HostRuntime) -> Result<(), Fail> {
     let mut store = Store::new(rt.alloc());
-    store.put(b"a", 0, 1, 0, empty_ad(rt.alloc())?)?;
-    store.put(b"b", 0, 1, 0, empty_ad(rt.alloc())?)?;
-    assert_eq!(rt; frames_seen::<Brand>(Blank::new(1), &store), 2);
+    put(rt.alloc(), &mut store, b"a", 0, 0)?;
+    assert_eq!(rt; frames_seen::<Brand>(Blank::new(1), &store), 1);
     Ok(())
 }

@@ -1,0 +1,5 @@
+mod CustomerLemmas
+mod ListLemmas
+mod ResourceLemmas
+mod WaitingLemmas
+mod WireLemmas

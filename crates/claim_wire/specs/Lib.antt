@@ -1,0 +1,4 @@
+pub mod Customers
+pub mod Facts
+pub mod Resources
+pub mod Wires

@@ -1,0 +1,1 @@
+// Hits of an index, worked out by hand.

@@ -184,6 +184,14 @@ module _ (test : Test) (m : BTreeMap Place Entry) (slots : BTreeSet ℕ) (rows :
       (IsPermutation-append _ _ _ _ (slots_in_span test Choice.Open open_span m slots rows index ordered (open_covered test)) (slots_in_span test Choice.True (passing_span test) m slots rows index ordered (true_covered test)))
       (passing_chosen test rows undefined index.ads)
 
+  -- what is found, put in order, is what passes
+  pub passing-sorted : holds_with test Lit.Undefined ≡ false → (found sorted answer : List ℕ) → found ≡ chosen Choice.Open open_span ++ chosen Choice.True (passing_span test)
+      → IsPermutation found sorted → answer ≡ sorted → IsPermutation (passing_slots test rows) answer
+  passing-sorted undefined found sorted answer is same end =
+      let P : List ℕ → Type 0 = λ ys. IsPermutation ys sorted in
+      let Q : List ℕ → Type 0 = λ ys. IsPermutation (passing_slots test rows) ys in
+      subst Q (sym end) (IsPermutation-trans _ _ _ (IsPermutation-sym _ _ (passing-found undefined)) (subst P is same))
+
   -- where it is
   failing-found : holds_with test Lit.Undefined ≡ true → IsPermutation (chosen Choice.Untrue (failing_span test)) (sorted_out test false rows)
   failing-found undefined =
@@ -237,6 +245,14 @@ module _ (test : Test) (m : BTreeMap Place Entry) (slots : BTreeSet ℕ) (rows :
             ∙ ap (λ b. is_some (ad_under s rows) && not b) (fails s)
             ∙ turned s (ad_under s rows)
             ∙ sym (member-chosen (passes test) rows index.apart s)
+
+    -- what is found fails; put in order and left out of all, it leaves what passes
+    pub others-sorted : (found failing answer : List ℕ) → found ≡ chosen Choice.Untrue (failing_span test) → IsPermutation found failing → answer ≡ others failing
+        → IsPermutation (passing_slots test rows) answer
+    others-sorted found failing answer is same end =
+        let P : List ℕ → Type 0 = λ ys. IsPermutation ys failing in
+        let Q : List ℕ → Type 0 = λ ys. IsPermutation (passing_slots test rows) ys in
+        subst Q (sym end) (others-pass failing (subst P is same))
 
   -- ---- numbers
 

@@ -180,33 +180,52 @@ fn named_alike(alloc: Global, i: usize) -> Result<Ad, OutOfMemory> {
     ad(alloc, name, integer((i % 10) as i64))
 }
 
-// In the slots 0, 2, 4 .. stand ads whose attribute is 0 to 9, again and again.
-#[test]
-fn names_that_collide_are_kept_apart(rt: HostRuntime) -> Result<(), Fail> {
-    let alloc = rt.alloc();
+// In the slots 0, 2, 4 .. stand 300 ads whose attribute is 0 to 9, again and again.
+fn machines_alike(alloc: Global) -> Result<Index, OutOfMemory> {
     let mut index = Index::new(alloc);
     for i in 0..300 {
         index.add(2 * i, &named_alike(alloc, i)?)?;
     }
-    let high = comparison(alloc, b"an", BinOp::AtLeast, Lit::Integer(7), true)?;
-    let even = comparison(alloc, b"c0", BinOp::AtLeast, Lit::Integer(7), true)?;
-    assert_eq!(rt; index.count(&high), 60);
-    assert_eq!(rt; index.count(&even), 30);
-    // Without the ads of 7 only those of 9 are left.
+    Ok(index)
+}
+
+fn take_out_sevens(alloc: Global, index: &mut Index) -> Result<(), OutOfMemory> {
     for i in 0..300 {
         if i % 10 == 7 {
             index.remove(2 * i, &named_alike(alloc, i)?);
         }
     }
-    let hits = index.hits(&high)?;
+    Ok(())
+}
+
+#[test]
+fn names_that_collide_are_kept_apart(rt: HostRuntime) -> Result<(), Fail> {
+    let alloc = rt.alloc();
+    let mut index = machines_alike(alloc)?;
+    let odd = comparison(alloc, b"an", BinOp::AtLeast, Lit::Integer(7), true)?;
+    let even = comparison(alloc, b"c0", BinOp::AtLeast, Lit::Integer(7), true)?;
+    assert_eq!(rt; index.count(&odd), 60);
+    assert_eq!(rt; index.count(&even), 30);
+    // Without the ads of 7 only those of 9 are left.
+    take_out_sevens(alloc, &mut index)?;
+    let hits = index.hits(&odd)?;
     assert_eq!(rt; hits.len(), 30);
-    for k in 0..hits.len() {
-        assert_eq!(rt; *hits.at(k), 20 * k + 18);
+    for (k, slot) in hits.as_slice().iter().enumerate() {
+        assert_eq!(rt; *slot % 20, 18);
+        assert_eq!(rt; *slot / 20, k);
     }
-    let mut few = Index::new(alloc);
-    few.add(1, &ad(alloc, b"Os", Expr::Literal(string(alloc, b"C0")?))?)?;
-    few.add(2, &ad(alloc, b"Os", Expr::Literal(string(alloc, b"an")?))?)?;
+    Ok(())
+}
+
+#[test]
+fn texts_that_collide_are_kept_apart(rt: HostRuntime) -> Result<(), Fail> {
+    let alloc = rt.alloc();
+    let mut index = Index::new(alloc);
+    let first = Expr::Literal(string(alloc, b"C0")?);
+    add(&mut index, 1, ad(alloc, b"Os", first)?)?;
+    let second = Expr::Literal(string(alloc, b"an")?);
+    add(&mut index, 2, ad(alloc, b"Os", second)?)?;
     let named = comparison(alloc, b"OS", BinOp::Equal, string(alloc, b"AN")?, true)?;
-    finds(&rt, &few, &named, &[2])?;
+    finds(&rt, &index, &named, &[2])?;
     Ok(())
 }

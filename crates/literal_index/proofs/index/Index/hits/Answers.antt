@@ -19,9 +19,9 @@ returns-then-holds-clause-hits c =
     let slots = c.args.self.now.slots in
     let failing : List ℕ = c.deref.result.now in
     let found : c.push_chosen.new.slots.items ≡ chosen_slots test Choice.Untrue (spanned test (failing_span test) m)
-        = c.in_ok-push_chosen.ensures.slots
-        ∙ ap (λ xs. xs ++ chosen_slots test Choice.Untrue (spanned test c.failing.result m)) c.new-chosen.ensures.items
-        ∙ ap (λ span. chosen_slots test Choice.Untrue (spanned test span m)) c.failing.ensures in
+    = c.in_ok-push_chosen.ensures.slots
+    ∙ ap (λ xs. xs ++ chosen_slots test Choice.Untrue (spanned test c.failing.result m)) c.new-chosen.ensures.items
+    ∙ ap (λ span. chosen_slots test Choice.Untrue (spanned test span m)) c.failing.ensures in
     let P : List ℕ → Type 0 = λ xs. IsPermutation c.push_chosen.new.slots.items xs in
     IfOk-weaker c.others.result
     (λ list. list ≡ filter (λ slot. not (list_any (nat_eq slot) failing)) slots.keys)
@@ -50,10 +50,10 @@ returns-clause-hits c =
     let test = c.args.test.now in
     let m = c.args.self.now.entries in
     let found : c.push_chosen-3.new.slots.items ≡ chosen_slots test Choice.Open (spanned test open_span m) ++ chosen_slots test Choice.True (spanned test (passing_span test) m)
-        = c.in_ok-push_chosen-3.ensures.slots
-        ∙ ap (λ xs. xs ++ chosen_slots test Choice.True (spanned test c.passing.result m))
-        (c.in_ok-push_chosen-2.ensures.slots ∙ ap (λ xs. xs ++ chosen_slots test Choice.Open (spanned test open_span m)) c.new-chosen.ensures.items)
-        ∙ ap (λ span. chosen_slots test Choice.Open (spanned test open_span m) ++ chosen_slots test Choice.True (spanned test span m)) c.passing.ensures in
+    = c.in_ok-push_chosen-3.ensures.slots
+    ∙ ap (λ xs. xs ++ chosen_slots test Choice.True (spanned test c.passing.result m))
+    (c.in_ok-push_chosen-2.ensures.slots ∙ ap (λ xs. xs ++ chosen_slots test Choice.Open (spanned test open_span m)) c.new-chosen.ensures.items)
+    ∙ ap (λ span. chosen_slots test Choice.Open (spanned test open_span m) ++ chosen_slots test Choice.True (spanned test span m)) c.passing.ensures in
     IfOk-weaker c.listed.result
     (λ list. list ≡ c.deref-2.result.now)
     (λ list. (rows : List Row) → IsIndex c.args.self.now rows → IsPermutation (passing_slots test rows) list)
@@ -67,10 +67,10 @@ returns-clause-rising c =
     let test = c.args.test.now in
     let m = c.args.self.now.entries in
     let found : c.push_chosen-3.new.slots.items ≡ chosen_slots test Choice.Open (spanned test open_span m) ++ chosen_slots test Choice.True (spanned test (passing_span test) m)
-        = c.in_ok-push_chosen-3.ensures.slots
-        ∙ ap (λ xs. xs ++ chosen_slots test Choice.True (spanned test c.passing.result m))
-        (c.in_ok-push_chosen-2.ensures.slots ∙ ap (λ xs. xs ++ chosen_slots test Choice.Open (spanned test open_span m)) c.new-chosen.ensures.items)
-        ∙ ap (λ span. chosen_slots test Choice.Open (spanned test open_span m) ++ chosen_slots test Choice.True (spanned test span m)) c.passing.ensures in
+    = c.in_ok-push_chosen-3.ensures.slots
+    ∙ ap (λ xs. xs ++ chosen_slots test Choice.True (spanned test c.passing.result m))
+    (c.in_ok-push_chosen-2.ensures.slots ∙ ap (λ xs. xs ++ chosen_slots test Choice.Open (spanned test open_span m)) c.new-chosen.ensures.items)
+    ∙ ap (λ span. chosen_slots test Choice.Open (spanned test open_span m) ++ chosen_slots test Choice.True (spanned test span m)) c.passing.ensures in
     let P : List ℕ → Type 0 = λ xs. IsNonDecreasing xs in
     IfOk-weaker c.listed.result
     (λ list. list ≡ c.deref-2.result.now)

@@ -1,5 +1,5 @@
 -- Attributes put in and taken out one after another.
-use Rattle.std.proofs.Common.{refl, arith, ◌≡◌, ◌≢◌, ◌<◌, ◌≤◌, ◌∙◌, ap, sym, subst, true≢false, ℕ, ◌+◌, Bool, true, false, ◌&&◌, ◌||◌, cond, List, length, Option, None, Some, option_map, slice_get, nat_lt, ltb, lt→ltb, ltb→lt}
+use Rattle.std.proofs.Common.{refl, arith, ◌≡◌, ◌≢◌, ◌<◌, ◌≤◌, ◌∙◌, ap, sym, ℕ, ◌+◌, Bool, true, false, ◌&&◌, ◌||◌, cond, List, Option, None, Some, option_map, slice_get, nat_lt}
 use Rattle.std.specs.Option.{option_map_or}
 use Rattle.std.specs.BTreeMap.{BTreeMap, get, is_at}
 use Rattle.ad_tree.specs.Tree.{Tree}

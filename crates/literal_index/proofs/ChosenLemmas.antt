@@ -1,7 +1,6 @@
 -- The slots that are chosen by a test, against those of the ads that pass it.
-use Rattle.std.proofs.Common.{refl, arith, ◌≡◌, ◌<◌, ◌∙◌, ap, sym, subst, true≢false, ℕ, ◌^◌, ℤ, Bool, true, false, not, ◌&&◌, ◌||◌, ◌==◌, cond, List, [], ◌∷◌, ◌++◌, map, filter, length, Option, None, Some, option_map, slice_get, nat_eq, All, IsPermutation, lt_trans, map-id}
+use Rattle.std.proofs.Common.{refl, arith, ◌≡◌, ◌<◌, ◌∙◌, ap, sym, subst, true≢false, ℕ, ◌^◌, Bool, true, false, not, ◌&&◌, ◌||◌, ◌==◌, cond, List, [], ◌∷◌, ◌++◌, map, filter, Option, None, Some, option_map, slice_get, All, IsPermutation, lt_trans}
 use Rattle.std.specs.Bool.{beq}
-use Rattle.std.specs.List.{IsDistinct}
 use Rattle.std.specs.Map.{lookup, keys_of}
 use Rattle.std.specs.Option.{option_and_then, option_map_or}
 use Rattle.std.specs.Ordering.{eq_by_cmp}
@@ -11,7 +10,7 @@ use Rattle.std.specs.BTreeMap.Range.{range_contains}
 use Rattle.std.specs.BTreeSet.{BTreeSet}
 use Rattle.std.proofs.lemmas.List.{map-append}
 use Rattle.std.proofs.lemmas.List.Elements.{All-tail, filter_agree}
-use Rattle.std.proofs.lemmas.List.Sorted.{IsPermutation-cons, IsPermutation-map, IsPermutation-middle, IsPermutation-refl, IsPermutation-sym, IsPermutation-trans}
+use Rattle.std.proofs.lemmas.List.Sorted.{IsPermutation-cons, IsPermutation-map, IsPermutation-middle, IsPermutation-refl, IsPermutation-trans}
 use Rattle.std.proofs.lemmas.Map.Entries.{lookup-filter-keys, lookup-filter-values, option_filter}
 use Rattle.std.proofs.lemmas.Map.Keys.{IsDistinct-from_sorted}
 use Rattle.std.proofs.lemmas.Map.Made.{IsDistinct-keys_filter}
@@ -29,13 +28,13 @@ use Rattle.literal_index.specs.declared.entry.Choice.{Choice}
 use Rattle.literal_index.specs.declared.span.Span.{Span}
 use Rattle.literal_index.specs.Digests.{digest}
 use Rattle.literal_index.specs.Rows.{Row, ad_under, passes, passing_slots, row_of}
-use Rattle.literal_index.specs.Entries.{chosen_slots, entry_at, entry_in, entry_of, holds_with, is_chosen, is_of, is_place, kind_of, literal_of, place_of, place_order, value_of}
+use Rattle.literal_index.specs.Entries.{chosen_slots, entry_at, entry_in, entry_of, holds_with, is_chosen, is_of, kind_of, literal_of, place_of, place_order, value_of}
 use Rattle.literal_index.specs.Selections.{spanned}
 use Rattle.literal_index.specs.Shown.{AreIndexed, IsRow}
 use Rattle.literal_index.specs.Spans.{Covers, first_place, last_place}
 use Rattle.literal_index.proofs.EntryLemmas.{same-entries}
 use Rattle.literal_index.proofs.ListedLemmas.{at, distinct-rows, lookup-rows, place_equal, rows_entries}
-use Rattle.literal_index.proofs.NamedLemmas.{bytes_same, entries_onto, first_named, is_kept, keeps, kept-apart, kept_slots, passes-named}
+use Rattle.literal_index.proofs.NamedLemmas.{bytes_same, first_named, is_kept, keeps, kept-apart, kept_slots, passes-named}
 use Rattle.literal_index.proofs.Orders.{at_place}
 use Rattle.literal_index.proofs.RowLemmas.{agree}
 use Rattle.literal_index.proofs.SpanLemmas.{in_span}

@@ -1,5 +1,5 @@
 -- Slots as sets of numbers, and what an index answers.
-use Rattle.std.proofs.Common.{refl, arith, ◌≡◌, ◌<◌, ◌∙◌, ap, sym, subst, true≢false, ℕ, ◌+◌, ◌-◌, length-append, Bool, true, false, not, ◌&&◌, ◌||◌, ◌==◌, cond, List, [], ◌∷◌, ◌++◌, map, filter, length, Option, None, Some, is_some, nat_eq, nat_cmp, All, IsPermutation}
+use Rattle.std.proofs.Common.{refl, arith, ◌≡◌, ◌∙◌, ap, sym, subst, true≢false, ℕ, ◌+◌, ◌-◌, length-append, Bool, true, false, not, ◌&&◌, ◌||◌, ◌==◌, cond, List, [], ◌∷◌, ◌++◌, map, filter, length, Option, None, Some, is_some, nat_eq, nat_cmp, IsPermutation}
 use Rattle.std.specs.Prelude.{count_by}
 use Rattle.std.specs.Bool.{beq}
 use Rattle.std.specs.Cmp.{nat_eq_equiv}
@@ -9,19 +9,17 @@ use Rattle.std.specs.Map.{lookup, keys_of}
 use Rattle.std.specs.Option.{option_map_or}
 use Rattle.std.specs.Ordering.{eq_by_cmp}
 use Rattle.std.specs.BTreeMap.{BTreeMap, IsOrdered as IsMapOrdered, is_at}
-use Rattle.std.specs.BTreeSet.{BTreeSet, IsOrdered, contains}
-use Rattle.std.proofs.lemmas.List.Elements.{filter_agree}
+use Rattle.std.specs.BTreeSet.{BTreeSet, IsOrdered}
 use Rattle.std.proofs.lemmas.List.Filters.{length-filter_both}
 use Rattle.std.proofs.lemmas.List.Kept.{IsStrictlySortedBy-filter}
 use Rattle.std.proofs.lemmas.List.Sorted.{IsPermutation-append, IsPermutation-map, IsPermutation-sym, IsPermutation-trans, length_permutation, list_any-IsPermutation}
 use Rattle.std.proofs.lemmas.List.Sums.{length-filter}
 use Rattle.std.proofs.lemmas.List.{length-map}
-use Rattle.std.proofs.lemmas.Map.Keys.{IsDistinct-IsPermutation, IsDistinct-from_sorted, IsDistinct-head, IsDistinct-tail, IsDistinct-cons, IsStrictlyIncreasing-from_distinct, IsStrictlyIncreasing-from_sorted}
+use Rattle.std.proofs.lemmas.Map.Keys.{IsDistinct-IsPermutation, IsDistinct-from_sorted, IsDistinct-head, IsDistinct-tail, IsStrictlyIncreasing-from_distinct, IsStrictlyIncreasing-from_sorted}
 use Rattle.std.proofs.lemmas.Map.Made.{is_member-filter, length-from_same_keys}
 use Rattle.pool_text.specs.declared.language.Lit.{Lit}
 use Rattle.ad_tree.specs.Frames.{Frame}
 use Rattle.conjunct_plan.specs.declared.test.Test.{Test}
-use Rattle.literal_index.specs.declared.place.Kind.{Kind}
 use Rattle.literal_index.specs.declared.place.Place.{Place}
 use Rattle.literal_index.specs.declared.entry.Entry.{Entry}
 use Rattle.literal_index.specs.declared.entry.Choice.{Choice}
@@ -31,7 +29,7 @@ use Rattle.literal_index.specs.Entries.{chosen_slots, holds_with, is_chosen, is_
 use Rattle.literal_index.specs.Selections.{spanned}
 use Rattle.literal_index.specs.Shown.{AreIndexed}
 use Rattle.literal_index.specs.Spans.{Covers, failing_span, open_span, passing_span}
-use Rattle.literal_index.proofs.ChosenLemmas.{chosen_in_span, failing_chosen, passing_chosen, slots_in_span, sorted_out, sorted_out-passing}
+use Rattle.literal_index.proofs.ChosenLemmas.{failing_chosen, passing_chosen, slots_in_span, sorted_out}
 use Rattle.literal_index.proofs.EntryLemmas.{same-entries}
 use Rattle.literal_index.proofs.RowLemmas.{agree, at_number, none-under}
 use Rattle.literal_index.proofs.SpanLemmas.{failing_covered, passing_covered}

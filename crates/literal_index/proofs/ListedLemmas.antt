@@ -1,6 +1,5 @@
 -- All entries of the ads of an index, one ad after another.
-use Rattle.std.proofs.Common.{refl, arith, ◌≡◌, ◌≢◌, ◌<◌, ◌≤◌, ◌∙◌, ap, sym, subst, true≢false, ℕ, zero, suc, ◌+◌, ◌^◌, Bool, true, false, ◌&&◌, ◌||◌, ◌==◌, cond, List, [], ◌∷◌, map, length, Option, None, Some, option_map, slice_get, nat_eq, zero-add}
-use Rattle.std.specs.Bool.{beq}
+use Rattle.std.proofs.Common.{refl, arith, ◌≡◌, ◌≢◌, ◌<◌, ◌∙◌, ap, sym, true≢false, ℕ, zero, suc, ◌+◌, Bool, true, false, ◌==◌, cond, List, [], ◌∷◌, map, Option, None, Some, option_map, slice_get, nat_eq, zero-add}
 use Rattle.std.specs.List.{IsDistinct, AllByRecursion}
 use Rattle.std.specs.Map.{lookup, keys_of}
 use Rattle.std.specs.Option.{option_and_then, option_map_or}
@@ -10,11 +9,11 @@ use Rattle.std.specs.Cmp.{IsEquivalence}
 use Rattle.std.proofs.lemmas.Cmp.{eq_by_cmp_equiv}
 use Rattle.std.proofs.lemmas.Map.Keys.{IsDistinct-cons, IsDistinct-head, IsDistinct-tail}
 use Rattle.ad_tree.specs.Tree.{Tree}
-use Rattle.ad_tree.specs.Frames.{Frame, attributes_at}
+use Rattle.ad_tree.specs.Frames.{attributes_at}
 use Rattle.literal_index.specs.declared.place.Place.{Place}
 use Rattle.literal_index.specs.declared.entry.Entry.{Entry}
 use Rattle.literal_index.specs.Rows.{Row, ad_under}
-use Rattle.literal_index.specs.Entries.{entry_at, entry_in, entry_of, is_place, place_of, place_order}
+use Rattle.literal_index.specs.Entries.{entry_at, entry_in, entry_of, place_of, place_order}
 use Rattle.literal_index.proofs.NamedLemmas.{entries_onto}
 use Rattle.literal_index.proofs.Orders.{at_place, place_order_total}
 use Rattle.literal_index.proofs.RowLemmas.{agree, differ, none-under}

@@ -1,5 +1,5 @@
 -- The attribute of a name, and what a test says of an ad by it.
-use Rattle.std.proofs.Common.{refl, arith, ◌≡◌, ◌<◌, ◌∙◌, ap, sym, true≢false, ℕ, suc, ◌+◌, Bool, true, false, not, ◌&&◌, ◌||◌, cond, List, [], ◌∷◌, map, filter, length, Option, None, Some, option_map, slice_get, nat_lt, one-add}
+use Rattle.std.proofs.Common.{refl, arith, ◌≡◌, ◌∙◌, ap, sym, true≢false, ℕ, suc, ◌+◌, Bool, true, false, not, ◌&&◌, ◌||◌, cond, List, [], ◌∷◌, map, filter, length, Option, None, Some, option_map, slice_get, nat_lt, one-add}
 use Rattle.std.specs.Prelude.{position, bytes_eq}
 use Rattle.std.specs.Bool.{beq}
 use Rattle.std.specs.List.{position_or_len}
@@ -7,12 +7,11 @@ use Rattle.std.specs.Option.{option_and_then, option_map_or, option_or}
 use Rattle.std.proofs.lemmas.Slice.Eq.{bytes_eq-Decides}
 use Rattle.pool_text.specs.declared.language.Lit.{Lit}
 use Rattle.pool_text.specs.Folding.{folded}
-use Rattle.ad_tree.specs.Tree.{Tree, node, frame, literal}
+use Rattle.ad_tree.specs.Tree.{Tree, node, literal}
 use Rattle.ad_tree.specs.Names.{same_name, has_name, are_apart}
-use Rattle.ad_tree.specs.Frames.{Frame, attributes_at, names_of}
+use Rattle.ad_tree.specs.Frames.{attributes_at, names_of}
 use Rattle.ad_tree.specs.Enclosing.{expr_named}
 use Rattle.ad_value.specs.Logic.{is_true}
-use Rattle.ad_value.specs.Plain.{plain_of_lit}
 use Rattle.conjunct_plan.specs.declared.test.Test.{Test}
 use Rattle.conjunct_plan.specs.Decided.{asked, counted, value_with}
 use Rattle.literal_index.specs.declared.entry.Entry.{Entry}

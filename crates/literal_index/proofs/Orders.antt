@@ -1,7 +1,7 @@
 -- The order of places.
-use Rattle.std.proofs.Common.{refl, arith, ◌≡◌, ◌<◌, ◌≤◌, ◌∙◌, ap, sym, ℕ, ◌-◌, ◌^◌, ℤ, pos, Ordering, Bool, true, false, nat_cmp}
+use Rattle.std.proofs.Common.{refl, ◌≡◌, ap, ℕ, ℤ, Ordering, true, nat_cmp}
 use Rattle.std.specs.Cmp.{IsTotalOrder}
-use Rattle.std.specs.Ordering.{int_cmp, ordering_then, is_le, is_gt, is_lt, is_eq}
+use Rattle.std.specs.Ordering.{int_cmp, ordering_then, is_eq}
 use Rattle.std.proofs.lemmas.Map.Lookups.{CmpEqualImpliesEq, exact_unsigned, exact_signed}
 use Rattle.std.proofs.lemmas.Cmp.{tied_itself}
 use Rattle.std.specs.BTreeMap.{is_at}

@@ -1,5 +1,5 @@
 -- What a search among rising numbers finds.
-use Rattle.std.proofs.Common.{refl, arith, ◌≡◌, ◌<◌, ◌≤◌, ◌∙◌, ap, sym, ℕ, Bool, true, false, List, length, get_or, nat_eq, nat_lt}
+use Rattle.std.proofs.Common.{refl, arith, ◌≡◌, ◌<◌, ◌≤◌, sym, ℕ, Bool, true, false, List, length, get_or, nat_eq, nat_lt}
 use Rattle.std.specs.Prelude.{Result, Ok, Err, is_ok, MatchResult}
 use Rattle.std.specs.List.{list_any}
 use Rattle.std.specs.List.Sorted.{IsBinarySearchResult, IsNonDecreasing}

@@ -1,11 +1,9 @@
 -- Where the attributes stand that pass a test.
-use Rattle.std.proofs.Common.{refl, arith, ◌≡◌, ◌<◌, ◌≤◌, ◌∙◌, ap, sym, subst, ℕ, ◌+◌, ◌*◌, ◌-◌, ◌/◌, ◌%◌, ◌^◌, ℤ, pos, negsuc, true≢false, Ordering, Bool, true, false, not, ◌&&◌, cond, nat_cmp, List, [], ◌∷◌, Some, Less, Equal, Greater, mod-lt}
+use Rattle.std.proofs.Common.{refl, arith, ◌≡◌, ◌<◌, ◌∙◌, ap, sym, subst, ℕ, ◌+◌, ◌*◌, ◌-◌, ◌/◌, ◌%◌, ◌^◌, ℤ, pos, negsuc, true≢false, Ordering, Bool, true, false, not, ◌&&◌, cond, nat_cmp, List, [], ◌∷◌, Some, Less, Equal, Greater, mod-lt}
 use Rattle.std.specs.Prelude.{int_lt, int_le}
-use Rattle.std.specs.Bool.{beq}
 use Rattle.std.specs.Cmp.{int_cmp_total, nat_cmp_total}
 use Rattle.std.specs.Cmp.Lexicographic.{slice_cmp}
-use Rattle.std.specs.Ordering.{int_cmp, int_eq, ordering_then, ordering_reverse, is_le, is_gt, is_lt, is_eq}
-use Rattle.std.specs.Str.{bytes_eq}
+use Rattle.std.specs.Ordering.{int_cmp, ordering_then, ordering_reverse, is_le, is_gt, is_lt, is_eq}
 use Rattle.std.specs.declared.ops.Bound.{Bound}
 use Rattle.std.specs.BTreeMap.Range.{range_contains}
 use Rattle.std.proofs.lemmas.Cmp.{tied_itself}
@@ -23,7 +21,7 @@ use Rattle.literal_index.specs.declared.place.Kind.{Kind}
 use Rattle.literal_index.specs.declared.span.Span.{Span}
 use Rattle.literal_index.specs.Digests.{digest, digest_from, number_of_text}
 use Rattle.literal_index.specs.Entries.{holds_with, kind_of, place_order, value_of}
-use Rattle.literal_index.specs.Spans.{Covers, IsLiteral, compared_span, failing_span, first_place, last_place, passing_span, numbers_from, numbers_up_to, span_at, span_from, span_up_to}
+use Rattle.literal_index.specs.Spans.{Covers, IsLiteral, failing_span, first_place, last_place, passing_span, numbers_from, numbers_up_to, span_at, span_from, span_up_to}
 use Rattle.literal_index.proofs.Orders.{kind_order, kind_order_self}
 
 -- ---- places in a span

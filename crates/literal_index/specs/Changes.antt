@@ -1,5 +1,5 @@
 -- How the attributes of an ad change what stands at places.
-use Rattle.std.specs.Prelude.{ℕ, ◌≡◌, Bool, ◌&&◌, nat_lt, List, Option, None, Some, option_map, slice_get, if◌then◌else◌}
+use Rattle.std.specs.Prelude.{ℕ, ◌≡◌, Bool, ◌&&◌, nat_lt, List, None, Some, option_map, slice_get, if◌then◌else◌}
 use Rattle.std.specs.BTreeMap.{BTreeMap, get, is_at}
 use Rattle.ad_tree.specs.Tree.{Tree}
 use Rattle.literal_index.specs.declared.place.Place.{Place}

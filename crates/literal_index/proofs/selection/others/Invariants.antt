@@ -1,4 +1,4 @@
-use Rattle.std.proofs.Common.{◌≡◌, ◌++◌, filter, map, not, nat_eq}
+use Rattle.std.proofs.Common.{◌≡◌, filter, map, not, nat_eq}
 use Rattle.std.specs.List.{list_any}
 use Rattle.std.specs.Map.Iter.{deref}
 use Rattle.literal_index.proofs.selection.others.Given as goal

@@ -1,10 +1,9 @@
-use Rattle.std.proofs.Common.{◌∙◌, ◌-◌, ◌+◌, ap, ap₂, sym, length, ℕ}
+use Rattle.std.proofs.Common.{◌∙◌, ◌-◌, ◌+◌, ap, ap₂, sym, ℕ}
 use Rattle.std.specs.Prelude.{count_by}
 use Rattle.literal_index.specs.declared.span.Span.{Span}
 use Rattle.literal_index.specs.declared.entry.Choice.{Choice}
 use Rattle.literal_index.specs.Entries.{is_chosen}
 use Rattle.literal_index.specs.Selections.{spanned}
-use Rattle.literal_index.specs.Spans.{failing_span, open_span, passing_span}
 use Rattle.literal_index.proofs.HitLemmas.{others-count, passing-count}
 use Rattle.literal_index.proofs.index.Index.count.Goals as goal
 

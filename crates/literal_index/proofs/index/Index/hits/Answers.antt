@@ -2,7 +2,6 @@ use Rattle.std.proofs.Common.{◌≡◌, ◌∙◌, ◌++◌, ap, sym, subst, �
 use Rattle.std.specs.List.{list_any}
 use Rattle.std.specs.List.Sorted.{IsNonDecreasing, IsStrictlyIncreasing}
 use Rattle.std.proofs.lemmas.Result.{IfOk-weaker}
-use Rattle.literal_index.specs.declared.span.Span.{Span}
 use Rattle.literal_index.specs.declared.entry.Choice.{Choice}
 use Rattle.literal_index.specs.Entries.{chosen_slots}
 use Rattle.literal_index.specs.Rows.{Row, passing_slots}

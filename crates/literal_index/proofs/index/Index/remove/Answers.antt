@@ -1,4 +1,4 @@
-use Rattle.std.proofs.Common.{◌≡◌, subst, ℕ, length}
+use Rattle.std.proofs.Common.{subst, ℕ}
 use Rattle.ad_tree.specs.Ad.{ad_frames}
 use Rattle.ad_tree.specs.Frames.{attributes_at}
 use Rattle.literal_index.specs.Changes.{HasTaken}

@@ -69,7 +69,11 @@ impl Index {
         self.slots.remove(&slot);
     }
 
-    /// The slots of the ads whose roots don't decide against the test, each once, rising.
+    /// The slots of the ads that a test leaves, in rising order and without repeats.
+    ///
+    /// A test leaves an ad whose literal makes it true, one whose attribute is no literal and so decides nothing, and,
+    /// where the test is true of Undefined, one without the attribute. Requirements are conjunctions (Raman, Livny,
+    /// Solomon 1998), so all other ads fail them.
     pub fn hits(&self, test: &Test) -> Result<Slots, OutOfMemory>
         ensures hits { IfOk result (λ slots. (rows : List Row) → IsIndex self.now rows
             → IsPermutation (passing_slots test.now rows) slots) }
@@ -98,7 +102,7 @@ impl Index {
         listed(self.alloc, &in_order(chosen)?)
     }
 
-    /// How many hits a test has. No memory is taken.
+    /// How many slots `hits` has to answer. No memory is taken.
     pub fn count(&self, test: &Test) -> usize
         ensures { (rows : List Row) → IsIndex self.now rows → result ≡ length (passing_slots test.now rows) }
     {

@@ -1,0 +1,10 @@
+mod ChangeLemmas
+mod ChosenLemmas
+mod EntryLemmas
+mod HitLemmas
+mod ListedLemmas
+mod NamedLemmas
+mod Orders
+mod RowLemmas
+mod SearchLemmas
+mod SpanLemmas

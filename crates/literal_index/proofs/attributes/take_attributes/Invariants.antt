@@ -1,0 +1,7 @@
+use Rattle.ad_tree.specs.Ad.{ad_frames}
+use Rattle.ad_tree.specs.Frames.{attributes_at}
+use Rattle.literal_index.specs.Changes.{HasTaken}
+use Rattle.literal_index.proofs.attributes.take_attributes.Given as goal
+
+abbrev pub invariant-loop-attr : goal.invariant-loop-attr
+invariant-loop-attr l = HasTaken l.attr l.slot (attributes_at (ad_frames l.ad) 0) l.initial.entries l.entries

@@ -1,0 +1,77 @@
+// Attributes of an ad, put into the order of places and taken out of it.
+ghost use Rattle.std.specs.Prelude.{◌≡◌, ◌≤◌, ◌<◌, ◌^◌, length, None, OnOk, OnErr, IsTrue};
+ghost use Rattle.std.specs.BTreeMap.{get};
+ghost use Rattle.ad_tree.specs.Ad.{ad_frames};
+ghost use Rattle.ad_tree.specs.Frames.{attributes_at};
+ghost use Rattle.ad_tree.specs.Tree.{tree};
+ghost use Rattle.literal_index.specs.Entries.{entry_of, is_place, place_of, place_order};
+ghost use Rattle.literal_index.specs.Changes.{HasPut, HasPutOne, HasTaken, HasTakenOne, IsSame};
+
+use crate::entry::{Entry, place_of};
+use crate::place::Place;
+use ad_tree::{Ad, Expr};
+use pool_text::{OutOfMemory, Text};
+use std::collections::BTreeMap;
+
+/// Puts in the attributes of the root of the ad under a slot. At want of memory it takes out again what it put in.
+pub fn put_attributes(
+    entries: &mut BTreeMap<Place, Entry>,
+    slot: usize,
+    ad: &Ad,
+) -> Result<(), OutOfMemory>
+    ensures few { length (attributes_at (ad_frames ad.now) 0) < 2 ^ 32 }
+    ensures ok { OnOk result (HasPut (length (attributes_at (ad_frames ad.now) 0)) slot (attributes_at (ad_frames ad.now) 0) entries.old entries.new) }
+    ensures err { OnErr result (((q : Place) → IsTrue (is_place slot (attributes_at (ad_frames ad.now) 0) q)
+        → get place_order entries.old q ≡ None) → IsSame entries.old entries.new) }
+{
+    for attr in 0..ad.count(0) {
+        if let Err(refused) = put_attribute(
+            entries,
+            slot,
+            attr,
+            ad.name(0, attr),
+            ad.expr(0, attr),
+        ) {
+            take_attributes(entries, slot, ad, attr);
+            return Err(refused);
+        }
+    }
+    Ok(())
+}
+
+fn put_attribute(
+    entries: &mut BTreeMap<Place, Entry>,
+    slot: usize,
+    attr: u32,
+    name: &Text,
+    expr: &Expr,
+) -> Result<(), OutOfMemory>
+    ensures ok { OnOk result (HasPutOne slot attr (name.now, tree expr.now) entries.old entries.new) }
+    ensures err { OnErr result (IsSame entries.old entries.new) }
+{
+    let entry = Entry::of(name, expr)?;
+    entries.insert(place_of(slot, attr, name, expr), entry)?;
+    Ok(())
+}
+
+/// Takes out the first so many attributes of the root of the ad under a slot. No memory is taken.
+pub fn take_attributes(entries: &mut BTreeMap<Place, Entry>, slot: usize, ad: &Ad, count: u32)
+    requires { count ≤ length (attributes_at (ad_frames ad.now) 0) }
+    ensures { HasTaken count slot (attributes_at (ad_frames ad.now) 0) entries.old entries.new }
+{
+    for attr in 0..count {
+        take_attribute(entries, slot, attr, ad.name(0, attr), ad.expr(0, attr));
+    }
+}
+
+fn take_attribute(
+    entries: &mut BTreeMap<Place, Entry>,
+    slot: usize,
+    attr: u32,
+    name: &Text,
+    expr: &Expr,
+)
+    ensures { HasTakenOne slot attr (name.now, tree expr.now) entries.old entries.new }
+{
+    entries.remove(&place_of(slot, attr, name, expr));
+}

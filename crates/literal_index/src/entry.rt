@@ -1,0 +1,164 @@
+// What the index keeps of an attribute.
+ghost use Rattle.std.specs.Prelude.{◌≡◌, IfOk};
+ghost use Rattle.std.specs.Option.{option_copied};
+ghost use Rattle.ad_tree.specs.Tree.{tree};
+ghost use Rattle.ad_value.specs.Logic.{is_true};
+ghost use Rattle.ad_value.specs.Plain.{plain, plain_of_lit};
+ghost use Rattle.conjunct_plan.specs.Decided.{asked, value_with};
+ghost use Rattle.literal_index.specs.Entries.{entry_of, holds_with, is_chosen, is_of, kind_of, literal_of, place_of, value_of};
+
+use crate::digest::{digest, number_of_text};
+use crate::place::{Kind, Place};
+use ad_tree::Expr;
+use ad_value::{Value, binary_of_literals};
+use conjunct_plan::Test;
+use pool_text::{Lit, OutOfMemory, Text, same_folded};
+
+/// The name of an attribute, and its literal where its expression is one.
+#[derive(Debug, Drop)]
+pub struct Entry {
+    pub name: Text,
+    pub literal: Option<Lit>,
+}
+
+impl Entry {
+    /// What is kept of an attribute.
+    pub fn of(name: &Text, expr: &Expr) -> Result<Entry, OutOfMemory>
+        ensures { IfOk result (λ entry. entry ≡ entry_of (name.now, tree expr.now)) }
+    {
+        let literal = match literal_of(expr) {
+            Some(lit) => Some(copy_of(lit)?),
+            None => None,
+        };
+        Ok(Entry {
+            name: name.copy()?,
+            literal,
+        })
+    }
+
+    /// Whether the attribute is the one that the test asks for, and of this choice.
+    pub fn is_chosen(&self, test: &Test, choice: Choice) -> bool
+        ensures { result ≡ is_chosen test.now choice self.now }
+    {
+        self.is_of(test, choice) && same_folded(asked(test).bytes(), self.name.bytes())
+    }
+
+    fn is_of(&self, test: &Test, choice: Choice) -> bool
+        ensures { result ≡ is_of test.now choice self.now.literal }
+    {
+        match (&self.literal, choice) {
+            (None, Choice::Open) => true,
+            (Some(lit), Choice::True) => holds(test, lit),
+            (Some(lit), Choice::Untrue) => !holds(test, lit),
+            _ => false,
+        }
+    }
+}
+
+/// Attributes that have no literal, a literal that makes a test true, or one that doesn't.
+#[derive(Clone, Copy, Debug)]
+pub enum Choice {
+    Open,
+    True,
+    Untrue,
+}
+
+/// The place of an attribute of the ad in a slot.
+pub fn place_of(slot: usize, attr: u32, name: &Text, expr: &Expr) -> Place
+    ensures { result ≡ place_of slot attr (name.now, tree expr.now) }
+{
+    let found = literal_of(expr);
+    Place {
+        name: digest(name.bytes()),
+        kind: kind_of(found),
+        value: value_of(found),
+        slot,
+        attr,
+    }
+}
+
+/// The name of the attribute that a test asks for.
+pub fn asked(test: &Test) -> &Text
+    ensures { result.now ≡ asked test.now }
+{
+    match test {
+        Test::Truth { name } => name,
+        Test::Compare { name, .. } => name,
+    }
+}
+
+/// Whether the test is true where its attribute is this literal. It takes no memory.
+pub fn holds(test: &Test, found: &Lit) -> bool
+    ensures { result ≡ holds_with test.now found.now }
+{
+    match test {
+        Test::Truth { .. } => matches!(found, Lit::Boolean(true)),
+        Test::Compare {
+            op,
+            lit,
+            attr_left: true,
+            ..
+        } => is_true(&binary_of_literals(*op, found, lit)),
+        Test::Compare {
+            op,
+            lit,
+            attr_left: false,
+            ..
+        } => is_true(&binary_of_literals(*op, lit, found)),
+    }
+}
+
+// Whether the value is the Boolean true.
+fn is_true(value: &Value) -> bool
+    ensures { result ≡ is_true (plain value.now) }
+{
+    matches!(value, Value::Boolean(true))
+}
+
+// The literal that an expression is, if it is one.
+fn literal_of(expr: &Expr) -> Option<&Lit>
+    ensures { option_copied result ≡ literal_of (tree expr.now) }
+{
+    match expr {
+        Expr::Literal(lit) => Some(lit),
+        _ => None,
+    }
+}
+
+/// What an attribute is whose expression is this literal or none.
+pub fn kind_of(found: Option<&Lit>) -> Kind
+    ensures { result ≡ kind_of (option_copied found.entry) }
+{
+    match found {
+        None => Kind::Open,
+        Some(Lit::Undefined) => Kind::Undefined,
+        Some(Lit::Error) => Kind::Error,
+        Some(Lit::Boolean(_) | Lit::Integer(_)) => Kind::Number,
+        Some(Lit::Str(_)) => Kind::Str,
+    }
+}
+
+/// The number by which such attributes are ordered.
+pub fn value_of(found: Option<&Lit>) -> i64
+    ensures { result ≡ value_of (option_copied found.entry) }
+{
+    match found {
+        Some(Lit::Boolean(true)) => 1,
+        Some(Lit::Integer(n)) => *n,
+        Some(Lit::Str(text)) => number_of_text(text.bytes()),
+        _ => 0,
+    }
+}
+
+// A second literal of the same value.
+fn copy_of(lit: &Lit) -> Result<Lit, OutOfMemory>
+    ensures { IfOk result (λ copy. copy ≡ lit.now) }
+{
+    Ok(match lit {
+        Lit::Undefined => Lit::Undefined,
+        Lit::Error => Lit::Error,
+        Lit::Boolean(b) => Lit::Boolean(*b),
+        Lit::Integer(n) => Lit::Integer(*n),
+        Lit::Str(text) => Lit::Str(text.copy()?),
+    })
+}

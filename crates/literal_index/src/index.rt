@@ -1,0 +1,116 @@
+// The index of the ads of a pool.
+ghost use Rattle.std.specs.Prelude.{◌≡◌, ◌∷◌, ◌++◌, ◌<◌, [], ℕ, length, IfOk, OnOk, OnErr, None, List};
+ghost use Rattle.std.specs.List.Sorted.{IsPermutation, IsStrictlyIncreasing};
+ghost use Rattle.ad_tree.specs.Ad.{ad_frames};
+ghost use Rattle.literal_index.specs.Rows.{Row, ad_under, passing_slots, row_of};
+
+use crate::attributes::{put_attributes, take_attributes};
+use crate::entry::{Choice, Entry, holds};
+use crate::place::{Kind, Place};
+use crate::selection::{count_chosen, in_order, listed, others, push_chosen};
+use crate::span::Span;
+use ad_tree::Ad;
+use conjunct_plan::Test;
+use pool_text::{Lit, OutOfMemory, Slots};
+use std::alloc::Global;
+use std::collections::{BTreeMap, BTreeSet};
+
+/// The attributes that are no literals, which decide nothing.
+const OPEN: Span = Span::At(Kind::Open, 0);
+
+/// An index of ads, each under a slot of its own, by the literals of the attributes of their roots.
+///
+/// The attributes of one name stand together in one order, by kind and number of their literals, so those that can make
+/// a test true are found by their place.
+#[derive(Debug, Drop)]
+pub struct Index {
+    alloc: Global,
+    entries: BTreeMap<Place, Entry>,
+    slots: BTreeSet<usize>,
+}
+
+impl Index {
+    ghost use Rattle.literal_index.specs.Shown.{IsIndex};
+
+    /// An index of no ads, which takes no memory yet.
+    pub fn new(alloc: Global) -> Index
+        ensures { IsIndex result [] }
+    {
+        Index {
+            alloc,
+            entries: BTreeMap::new(alloc),
+            slots: BTreeSet::new(alloc),
+        }
+    }
+
+    /// Adds an ad under a slot under which there is none. Want of memory leaves the index as it was.
+    pub fn add(&mut self, slot: usize, ad: &Ad) -> Result<(), OutOfMemory>
+        ensures ok { OnOk result ((before after : List Row) → IsIndex self.old (before ++ after)
+            → ad_under slot (before ++ after) ≡ None
+            → IsIndex self.new (before ++ row_of slot (ad_frames ad.now) ∷ after)) }
+        ensures err { OnErr result ((rows : List Row) → IsIndex self.old rows
+            → ad_under slot rows ≡ None → IsIndex self.new rows) }
+    {
+        self.slots.insert(slot)?;
+        if let Err(refused) = put_attributes(&mut self.entries, slot, ad) {
+            self.slots.remove(&slot);
+            return Err(refused);
+        }
+        Ok(())
+    }
+
+    /// Takes out the ad under a slot, which has to be given as it was added. No memory is taken.
+    pub fn remove(&mut self, slot: usize, ad: &Ad)
+        ensures { (before after : List Row)
+            → IsIndex self.old (before ++ row_of slot (ad_frames ad.now) ∷ after)
+            → IsIndex self.new (before ++ after) }
+    {
+        take_attributes(&mut self.entries, slot, ad, ad.count(0));
+        self.slots.remove(&slot);
+    }
+
+    /// The slots of the ads that a test leaves, in rising order and without repeats.
+    ///
+    /// A test leaves an ad whose literal makes it true, one whose attribute is no literal and so decides nothing, and,
+    /// where the test is true of Undefined, one without the attribute. Requirements are conjunctions (Raman, Livny,
+    /// Solomon 1998), so all other ads fail them.
+    pub fn hits(&self, test: &Test) -> Result<Slots, OutOfMemory>
+        ensures hits { IfOk result (λ slots. (rows : List Row) → IsIndex self.now rows
+            → IsPermutation (passing_slots test.now rows) slots) }
+        ensures rising { IfOk result (λ slots. (rows : List Row) → IsIndex self.now rows
+            → IsStrictlyIncreasing slots) }
+    {
+        let mut chosen = Vec::new(self.alloc);
+        if holds(test, &Lit::Undefined) {
+            push_chosen(
+                &self.entries,
+                test,
+                Choice::Untrue,
+                Span::failing(test),
+                &mut chosen,
+            )?;
+            return others(self.alloc, &self.slots, &in_order(chosen)?);
+        }
+        push_chosen(&self.entries, test, Choice::Open, OPEN, &mut chosen)?;
+        push_chosen(
+            &self.entries,
+            test,
+            Choice::True,
+            Span::passing(test),
+            &mut chosen,
+        )?;
+        listed(self.alloc, &in_order(chosen)?)
+    }
+
+    /// How many slots `hits` has to answer. No memory is taken.
+    pub fn count(&self, test: &Test) -> usize
+        ensures { (rows : List Row) → IsIndex self.now rows → result ≡ length (passing_slots test.now rows) }
+    {
+        if holds(test, &Lit::Undefined) {
+            let failing = count_chosen(&self.entries, test, Choice::Untrue, Span::failing(test));
+            return self.slots.len().saturating_sub(failing);
+        }
+        count_chosen(&self.entries, test, Choice::Open, OPEN)
+            + count_chosen(&self.entries, test, Choice::True, Span::passing(test))
+    }
+}

@@ -1,0 +1,14 @@
+//! An index of ads by the literals of their attributes, which answers a test by the ads that don't decide against it.
+#![tactic(auto)]
+
+mod attributes;
+mod digest;
+mod entry;
+mod index;
+mod place;
+mod selection;
+mod span;
+#[cfg(test)]
+mod tests;
+
+pub use index::Index;

@@ -40,24 +40,28 @@ both-true (text bytes) right e = absurd (cc)
 both-true (list_value items) right e = absurd (cc)
 both-true (ad_at place) right e = absurd (cc)
 
+-- the same once one more result is joined
+abbrev Behind : Plain → List (Option Plain) → Type 0
+Behind left rs = (p : Plain) → conjunction (and_value left p) rs ≡ Some (boolean true) → (and_value left p ≡ boolean true) × All IsTrueResult rs
+
 -- a chain of `&&` is true only where its beginning and each result are
 all-true : (left : Plain) (rs : List (Option Plain)) → conjunction left rs ≡ Some (boolean true) → (left ≡ boolean true) × All IsTrueResult rs
 all-true left [] e = (cc, All-nil IsTrueResult)
-all-true left (r ∷ rs) e = by (and_is_decided left) refl e
+all-true left (r ∷ rs) e = by (λ p h. all-true (and_value left p) rs h) (and_is_decided left) refl e
   where
-    open_yet : (o : Option Plain) → r ≡ o → option_and_then (λ p. conjunction (and_value left p) rs) o ≡ Some (boolean true) → (left ≡ boolean true) × All IsTrueResult (r ∷ rs)
-    open_yet None is h = absurd (cc)
-    open_yet (Some p) is h =
-        let (both, others) = all-true (and_value left p) rs h in
-        let (one, other) = both-true left p both in
-        (one, All-cons IsTrueResult r rs (is ∙ ap Some other) others)
+    open_yet : Behind left rs → (o : Option Plain) → r ≡ o → option_and_then (λ p. conjunction (and_value left p) rs) o ≡ Some (boolean true) → (left ≡ boolean true) × All IsTrueResult (r ∷ rs)
+    open_yet behind None is h = absurd (cc)
+    open_yet behind (Some p) is h =
+        let both = behind p h in
+        let parts = both-true left p both.0 in
+        (parts.0, All-cons IsTrueResult r rs (is ∙ ap Some parts.1) both.1)
 
-    by : (b : Bool) → and_is_decided left ≡ b → (if b then Some left else option_and_then (λ p. conjunction (and_value left p) rs) r) ≡ Some (boolean true) → (left ≡ boolean true) × All IsTrueResult (r ∷ rs)
-    by true decided h =
+    by : Behind left rs → (b : Bool) → and_is_decided left ≡ b → (if b then Some left else option_and_then (λ p. conjunction (and_value left p) rs) r) ≡ Some (boolean true) → (left ≡ boolean true) × All IsTrueResult (r ∷ rs)
+    by behind true decided h =
         let same : left ≡ boolean true = cc in
         let turned : true ≡ false = sym decided ∙ ap and_is_decided same in
         absurd (cc)
-    by false decided h = open_yet r refl h
+    by behind false decided h = open_yet behind r refl h
 
 module _ (at : Pos → Option Plain) (w : PlainWorld) (p : AdPlace) where
   abbrev pub IsTrueAt : Tree → Type 0

@@ -2,6 +2,7 @@
 use Rattle.std.proofs.Common.{◌≡◌, ◌<◌, ◌-◌, ℕ, zero, suc, Bool, true, false, not, ◌&&◌, ◌||◌, refl, List, [], ◌∷◌, ◌++◌, length, Option, None, Some, option_map, unwrap_or, slice_get, cond, nat_eq, All, ap, sym, ◌∙◌, subst, arith}
 use Rattle.std.specs.List.{filter_map, list_any, cons_option}
 use Rattle.std.specs.Option.{option_and_then, option_map_or}
+use Rattle.std.proofs.lemmas.Bool.{eqb-true}
 use Rattle.std.proofs.lemmas.List.Elements.{All-tail}
 use Rattle.pool_text.specs.declared.language.AdPlace.{AdPlace}
 use Rattle.pool_text.specs.declared.language.Pos.{Pos}
@@ -30,16 +31,16 @@ use Rattle.bilateral_match.proofs.TestLemmas.{IsSide, conjunct-value}
 -- where each tree has P, no test of one is decided against
 none-decided : (F : Tree → Option Test) (D : Test → Bool) (P : Tree → Type 0) → ((t : Tree) (test : Test) → F t ≡ Some test → D test ≡ true → P t → ⊥)
     → (ts : List Tree) → list_any D (filter_map F ts) ≡ true → All P ts → ⊥
-none-decided F D P no [] e h = cc
-none-decided F D P no (t ∷ ts) e h = by (F t) refl e
+none-decided F D P never [] e h = cc
+none-decided F D P never (t ∷ ts) e h = by (λ k. none-decided F D P never ts k (All-tail P t ts h)) (F t) refl e
   where
-    among : (test : Test) → F t ≡ Some test → (b : Bool) → D test ≡ b → (b || list_any D (filter_map F ts)) ≡ true → ⊥
-    among test is true decided k = no t test is decided (h 0 t (omega arith))
-    among test is false decided k = none-decided F D P no ts k (All-tail P t ts h)
+    among : (list_any D (filter_map F ts) ≡ true → ⊥) → (test : Test) → F t ≡ Some test → (b : Bool) → D test ≡ b → (b || list_any D (filter_map F ts)) ≡ true → ⊥
+    among behind test is true decided k = never t test is decided (h 0 t (omega arith))
+    among behind test is false decided k = behind k
 
-    by : (o : Option Test) → F t ≡ o → list_any D (cons_option o (filter_map F ts)) ≡ true → ⊥
-    by None is k = none-decided F D P no ts k (All-tail P t ts h)
-    by (Some test) is k = among test is (D test) refl k
+    by : (list_any D (filter_map F ts) ≡ true → ⊥) → (o : Option Test) → F t ≡ o → list_any D (cons_option o (filter_map F ts)) ≡ true → ⊥
+    by behind None is k = behind k
+    by behind (Some test) is k = among behind test is (D test) refl k
 
 true-is : (v : Plain) → is_true v ≡ true → v ≡ boolean true
 true-is undefined e = absurd (cc)
@@ -96,11 +97,11 @@ module _ (w : PlainWorld) (p : AdPlace) (ls : List (List ℕ)) (other : List Fra
 
 module _ (w : PlainWorld) (some : 0 < length w.docked) where
   there : nat_eq (length w.docked) 0 ≡ false
-  there = by (length w.docked) some
+  there = by (nat_eq (length w.docked) 0) refl
     where
-      by : (m : ℕ) → 0 < m → nat_eq m 0 ≡ false
-      by zero h = absurd (omega (arith, h))
-      by (suc m) h = refl
+      by : (b : Bool) → nat_eq (length w.docked) 0 ≡ b → nat_eq (length w.docked) 0 ≡ false
+      by true e = let none_docked : length w.docked ≡ 0 = eqb-true (length w.docked) 0 e in absurd (omega (arith, some, none_docked))
+      by false e = e
 
   pub request-sees : IsSide w (request_side w) w.request (labels_of w.ports) (last_ad w) 0
   request-sees = record {

@@ -93,11 +93,12 @@ unlabelled-one x label k rest apart = ap (λ b. or_else (cond b (Found.Place (re
 pub unlabelled : (w : PlainWorld) (x : List ℕ) (k : ℕ) (ports : List Port) (docked : List (List Frame)) → has_name x (labels_of ports) ≡ false → first_found w x (labels_from k ports docked) ≡ Found.Nothing
 unlabelled w x k [] docked apart = refl
 unlabelled w x k (port ∷ ports) [] apart = refl
-unlabelled w x k (port ∷ ports) (ad ∷ docked) apart = by (same_name port.label x) (has_name x (labels_of ports)) refl refl apart
+unlabelled w x k (port ∷ ports) (ad ∷ docked) apart = by (λ e. unlabelled w x (suc k) ports docked e) (same_name port.label x) refl apart
   where
-    by : (a b : Bool) → same_name port.label x ≡ a → has_name x (labels_of ports) ≡ b → (a || b) ≡ false → first_found w x (labels_from k (port ∷ ports) (ad ∷ docked)) ≡ Found.Nothing
-    by true b e f g = absurd (cc)
-    by false b e f g = unlabelled-one x port.label k (first_found w x (labels_from (suc k) ports docked)) e ∙ unlabelled w x (suc k) ports docked (f ∙ g)
+    by : (has_name x (labels_of ports) ≡ false → first_found w x (labels_from (suc k) ports docked) ≡ Found.Nothing)
+        → (a : Bool) → same_name port.label x ≡ a → (a || has_name x (labels_of ports)) ≡ false → first_found w x (labels_from k (port ∷ ports) (ad ∷ docked)) ≡ Found.Nothing
+    by behind true e g = absurd (cc)
+    by behind false e g = unlabelled-one x port.label k (first_found w x (labels_from (suc k) ports docked)) e ∙ behind g
 
 -- ---- values
 

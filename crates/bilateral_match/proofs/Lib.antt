@@ -1,8 +1,10 @@
 mod ConjunctLemmas
 mod DecidedLemmas
 mod FindLemmas
+mod LoopLemmas
 mod OrderLemmas
 pub mod PlaceLemmas
 pub mod RowLemmas
 mod ScanLemmas
 mod TestLemmas
+mod WeighLemmas

@@ -41,11 +41,11 @@ ties-are-one a b h k = by_rank (int_cmp b.rank a.rank) (nat_cmp a.place b.place)
     same_parts ranks places = cc
 
     by_rank : (r s : Ordering) → int_cmp b.rank a.rank ≡ r → nat_cmp a.place b.place ≡ s → is_lt (ordering_then r s) ≡ false → (ordering_then r s ≡ Greater → ⊥) → a ≡ b
-    by_rank Less s is as f g = absurd (cc)
-    by_rank Greater s is as f g = absurd (g refl)
-    by_rank Equal Less is as f g = absurd (cc)
-    by_rank Equal Greater is as f g = absurd (g refl)
-    by_rank Equal Equal is as f g = same_parts (int_ranked b.rank a.rank Equal (sym is)) (ranked a.place b.place Equal (sym as))
+    by_rank Less s ranks places f g = absurd (cc)
+    by_rank Greater s ranks places f g = absurd (g refl)
+    by_rank Equal Less ranks places f g = absurd (cc)
+    by_rank Equal Greater ranks places f g = absurd (g refl)
+    by_rank Equal Equal ranks places f g = same_parts (int_ranked b.rank a.rank Equal (sym ranks)) (ranked a.place b.place Equal (sym places))
 
 -- ---- each before those behind it
 
@@ -74,11 +74,11 @@ in-order-from (m ∷ ms) h = (λ k d within. sorted_far (λ a b. is_lt (match_or
 
 entered-permutation : (m : Match) (ms : List Match) → IsPermutation (m ∷ ms) (entered m ms)
 entered-permutation m [] = IsPermutation-refl (m ∷ [])
-entered-permutation m (o ∷ os) = by (is_lt (match_order m o))
+entered-permutation m (o ∷ os) = by (entered-permutation m os) (is_lt (match_order m o))
   where
-    by : (b : Bool) → IsPermutation (m ∷ o ∷ os) (if b then m ∷ o ∷ os else o ∷ entered m os)
-    by true = IsPermutation-refl (m ∷ o ∷ os)
-    by false = IsPermutation-trans (m ∷ o ∷ os) (o ∷ m ∷ os) (o ∷ entered m os) (IsPermutation-middle (m ∷ []) o os) (IsPermutation-cons o (m ∷ os) (entered m os) (entered-permutation m os))
+    by : IsPermutation (m ∷ os) (entered m os) → (b : Bool) → IsPermutation (m ∷ o ∷ os) (if b then m ∷ o ∷ os else o ∷ entered m os)
+    by behind true = IsPermutation-refl (m ∷ o ∷ os)
+    by behind false = IsPermutation-trans (m ∷ o ∷ os) (o ∷ m ∷ os) (o ∷ entered m os) (IsPermutation-middle (m ∷ []) o os) (IsPermutation-cons o (m ∷ os) (entered m os) behind)
 
 pub arranged-permutation : (ms : List Match) → IsPermutation ms (arranged ms)
 arranged-permutation [] = IsPermutation-refl []
@@ -87,14 +87,14 @@ arranged-permutation (m ∷ ms) =
 
 entered-in-order : (m : Match) (ms : List Match) → InOrder ms → InOrder (entered m ms)
 entered-in-order m [] h = (All-nil (NotAfter m), tt)
-entered-in-order m (o ∷ os) h = by (is_lt (match_order m o)) refl
+entered-in-order m (o ∷ os) h = by (entered-in-order m os h.1) (is_lt (match_order m o)) refl
   where
-    by : (b : Bool) → is_lt (match_order m o) ≡ b → InOrder (if b then m ∷ o ∷ os else o ∷ entered m os)
-    by true before =
+    by : InOrder (entered m os) → (b : Bool) → is_lt (match_order m o) ≡ b → InOrder (if b then m ∷ o ∷ os else o ∷ entered m os)
+    by behind true before =
         let over : NotAfter m o = match_weak.one_way m o before in
         (All-cons (NotAfter m) o os over (λ k d within. match_weak.chain (get_or os k d) o m (h.0 k d within) over), h)
-    by false after =
-        (All-permutation (NotAfter o) (m ∷ os) (entered m os) (entered-permutation m os) (All-cons (NotAfter o) m os after h.0), entered-in-order m os h.1)
+    by behind false after =
+        (All-permutation (NotAfter o) (m ∷ os) (entered m os) (entered-permutation m os) (All-cons (NotAfter o) m os after h.0), behind)
 
 pub arranged-in-order : (ms : List Match) → InOrder (arranged ms)
 arranged-in-order [] = tt

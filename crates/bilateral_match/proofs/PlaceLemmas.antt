@@ -26,19 +26,19 @@ leaves test advert = not (is_decided test advert.ad 0)
 
 pub length-places : (keeps : Advert → Bool) (k : ℕ) (ads : List Advert) → length (places_where keeps k ads) ≡ count_by keeps ads
 length-places keeps k [] = refl
-length-places keeps k (a ∷ ads) = by (keeps a) ∙ sym (sum_by-cons (λ a. cond (keeps a) 1 0) a ads)
+length-places keeps k (a ∷ ads) = by (length-places keeps (suc k) ads) (keeps a) ∙ sym (sum_by-cons (λ (a : Advert). cond (keeps a) 1 0) a ads)
   where
-    by : (b : Bool) → length (if b then k ∷ places_where keeps (suc k) ads else places_where keeps (suc k) ads) ≡ cond b 1 0 + count_by keeps ads
-    by true = let rest = length-places keeps (suc k) ads in omega (arith, rest)
-    by false = let rest = length-places keeps (suc k) ads in omega (arith, rest)
+    by : length (places_where keeps (suc k) ads) ≡ count_by keeps ads → (b : Bool) → length (if b then k ∷ places_where keeps (suc k) ads else places_where keeps (suc k) ads) ≡ cond b 1 0 + count_by keeps ads
+    by rest true = omega (arith, rest)
+    by rest false = omega (arith, rest)
 
 places-within : (keeps : Advert → Bool) (k n : ℕ) (ads : List Advert) → k + length ads ≤ n → All (λ place. place < n) (places_where keeps k ads)
 places-within keeps k n [] fits = All-nil (λ place. place < n)
-places-within keeps k n (a ∷ ads) fits = by (keeps a)
+places-within keeps k n (a ∷ ads) fits = by (places-within keeps (suc k) n ads (omega (arith, fits))) (keeps a)
   where
-    by : (b : Bool) → All (λ place. place < n) (if b then k ∷ places_where keeps (suc k) ads else places_where keeps (suc k) ads)
-    by true = All-cons (λ place. place < n) k (places_where keeps (suc k) ads) (omega (arith, fits)) (places-within keeps (suc k) n ads (omega (arith, fits)))
-    by false = places-within keeps (suc k) n ads (omega (arith, fits))
+    by : All (λ place. place < n) (places_where keeps (suc k) ads) → (b : Bool) → All (λ place. place < n) (if b then k ∷ places_where keeps (suc k) ads else places_where keeps (suc k) ads)
+    by rest true = All-cons (λ place. place < n) k (places_where keeps (suc k) ads) (omega (arith, fits)) rest
+    by rest false = rest
 
 -- candidates are places of ads
 pub candidates-within : (request : List Frame) (ads : List Advert) (places : List ℕ) → AreCandidates request ads places → (n : ℕ) → length ads ≤ n → All (λ place. place < n) places
@@ -51,19 +51,19 @@ abbrev pub AreApart : List ℕ → Type 0
 AreApart slots = (i j slot : ℕ) → slice_get slots i ≡ Some slot → slice_get slots j ≡ Some slot → i ≡ j
 
 -- the first place of a slot
-place_in : List ℕ → ℕ → ℕ
+unfoldable pub place_in : List ℕ → ℕ → ℕ
 place_in [] slot = 0
 place_in (s ∷ slots) slot = cond (nat_eq s slot) 0 (suc (place_in slots slot))
 
 place_in-there : (slots : List ℕ) (p slot : ℕ) → slice_get slots p ≡ Some slot → slice_get slots (place_in slots slot) ≡ Some slot
 unfolding place_in
 place_in-there [] p slot e = absurd (cc)
-place_in-there (s ∷ slots) p slot e = by (nat_eq s slot) refl p e
+place_in-there (s ∷ slots) p slot e = by (λ p e. place_in-there slots p slot e) (nat_eq s slot) refl p e
   where
-    by : (b : Bool) → nat_eq s slot ≡ b → (p : ℕ) → slice_get (s ∷ slots) p ≡ Some slot → slice_get (s ∷ slots) (cond b 0 (suc (place_in slots slot))) ≡ Some slot
-    by true same p e = ap Some (eqb-true s slot same)
-    by false other zero e = let one : s ≡ slot = cc in let turned : nat_eq s slot ≡ true = eq-eqb s slot one in absurd (cc)
-    by false other (suc p) e = place_in-there slots p slot e
+    by : ((p : ℕ) → slice_get slots p ≡ Some slot → slice_get slots (place_in slots slot) ≡ Some slot) → (b : Bool) → nat_eq s slot ≡ b → (p : ℕ) → slice_get (s ∷ slots) p ≡ Some slot → slice_get (s ∷ slots) (cond b 0 (suc (place_in slots slot))) ≡ Some slot
+    by behind true same p e = ap Some (eqb-true s slot same)
+    by behind false other zero e = let one : s ≡ slot = cc in let turned : nat_eq s slot ≡ true = eq-eqb s slot one in absurd (cc)
+    by behind false other (suc p) e = behind p e
 
 pub place_in-is : (slots : List ℕ) → AreApart slots → (p slot : ℕ) → slice_get slots p ≡ Some slot → place_in slots slot ≡ p
 place_in-is slots apart p slot e = apart (place_in slots slot) p slot (place_in-there slots p slot e) e
@@ -87,43 +87,35 @@ module _ (test : Test) where
   rows-places all k [] [] same at = refl
   rows-places all k [] (s ∷ slots) same at = absurd (omega (arith, same))
   rows-places all k (a ∷ ads) [] same at = absurd (omega (arith, same))
-  rows-places all k (a ∷ ads) (s ∷ slots) same at = by (leaves test a)
+  rows-places all k (a ∷ ads) (s ∷ slots) same at =
+      by (rows-places all (suc k) ads slots (omega (arith, same)) (λ i slot is. let moved : k + suc i ≡ suc k + i = omega arith in at (suc i) slot is ∙ moved)) (leaves test a)
     where
       here : place_in all s ≡ k
-      here = let first = at 0 s refl in rw (add-zero k) at first
+      here = at 0 s refl ∙ add-zero k
 
-      rest : map (place_in all) (passing_slots test (rows_beside ads slots)) ≡ places_where (leaves test) (suc k) ads
-      rest = rows-places all (suc k) ads slots (omega (arith, same)) (λ i slot is. let moved : k + suc i ≡ suc k + i = omega arith in at (suc i) slot is ∙ moved)
-
-      by : (b : Bool) → map (place_in all) (map (λ row. row.slot) (cond b (row_of s a.ad ∷ filter (passes test) (rows_beside ads slots)) (filter (passes test) (rows_beside ads slots)))) ≡ (if b then k ∷ places_where (leaves test) (suc k) ads else places_where (leaves test) (suc k) ads)
-      by true = cc (here, rest)
-      by false = rest
+      by : map (place_in all) (passing_slots test (rows_beside ads slots)) ≡ places_where (leaves test) (suc k) ads → (b : Bool) → map (place_in all) (map (λ row. row.slot) (cond b (row_of s a.ad ∷ filter (passes test) (rows_beside ads slots)) (filter (passes test) (rows_beside ads slots)))) ≡ (if b then k ∷ places_where (leaves test) (suc k) ads else places_where (leaves test) (suc k) ads)
+      by rest true = let first = here in cc
+      by rest false = rest
 
   pub length-passing : (ads : List Advert) (slots : List ℕ) → length ads ≡ length slots → length (passing_slots test (rows_beside ads slots)) ≡ left_by ads test
   length-passing [] [] same = refl
   length-passing [] (s ∷ slots) same = absurd (omega (arith, same))
   length-passing (a ∷ ads) [] same = absurd (omega (arith, same))
-  length-passing (a ∷ ads) (s ∷ slots) same = by (leaves test a) ∙ sym (sum_by-cons (λ (advert : Advert). cond (leaves test advert) 1 0) a ads)
+  length-passing (a ∷ ads) (s ∷ slots) same = by (length-passing ads slots (omega (arith, same))) (leaves test a) ∙ sym (sum_by-cons (λ (advert : Advert). cond (leaves test advert) 1 0) a ads)
     where
-      rest : length (passing_slots test (rows_beside ads slots)) ≡ left_by ads test
-      rest = length-passing ads slots (omega (arith, same))
-
-      by : (b : Bool) → length (map (λ row. row.slot) (cond b (row_of s a.ad ∷ filter (passes test) (rows_beside ads slots)) (filter (passes test) (rows_beside ads slots)))) ≡ cond b 1 0 + left_by ads test
-      by true = omega (arith, rest)
-      by false = omega (arith, rest)
+      by : length (passing_slots test (rows_beside ads slots)) ≡ left_by ads test → (b : Bool) → length (map (λ row. row.slot) (cond b (row_of s a.ad ∷ filter (passes test) (rows_beside ads slots)) (filter (passes test) (rows_beside ads slots)))) ≡ cond b 1 0 + left_by ads test
+      by rest true = omega (arith, rest)
+      by rest false = omega (arith, rest)
 
   -- the slots are slots of ads
   passing-held : (all : List ℕ) (ads : List Advert) (slots : List ℕ) → ((i slot : ℕ) → slice_get slots i ≡ Some slot → Contains all slot) → All (Contains all) (passing_slots test (rows_beside ads slots))
   passing-held all [] slots at = All-nil (Contains all)
   passing-held all (a ∷ ads) [] at = All-nil (Contains all)
-  passing-held all (a ∷ ads) (s ∷ slots) at = by (leaves test a)
+  passing-held all (a ∷ ads) (s ∷ slots) at = by (passing-held all ads slots (λ i slot is. at (suc i) slot is)) (leaves test a)
     where
-      rest : All (Contains all) (passing_slots test (rows_beside ads slots))
-      rest = passing-held all ads slots (λ i slot is. at (suc i) slot is)
-
-      by : (b : Bool) → All (Contains all) (map (λ row. row.slot) (cond b (row_of s a.ad ∷ filter (passes test) (rows_beside ads slots)) (filter (passes test) (rows_beside ads slots))))
-      by true = All-cons (Contains all) s (passing_slots test (rows_beside ads slots)) (at 0 s refl) rest
-      by false = rest
+      by : All (Contains all) (passing_slots test (rows_beside ads slots)) → (b : Bool) → All (Contains all) (map (λ row. row.slot) (cond b (row_of s a.ad ∷ filter (passes test) (rows_beside ads slots)) (filter (passes test) (rows_beside ads slots))))
+      by rest true = All-cons (Contains all) s (passing_slots test (rows_beside ads slots)) (at 0 s refl) rest
+      by rest false = rest
 
 contains-at : (all : List ℕ) (i slot : ℕ) → slice_get all i ≡ Some slot → Contains all slot
 contains-at all i slot is = (i, slice_get_within all i slot is, get_or_from_slice_get all i slot slot is)
@@ -134,9 +126,9 @@ hits-held test ads all slots moved = All-permutation (Contains all) (passing_slo
 -- ---- candidates
 
 any-at : (p : Test → Bool) (tests : List Test) (k : ℕ) (test : Test) → k < length tests → get_or tests k test ≡ test → p test ≡ true → list_any p tests ≡ true
-any-at p [] k test within is yes = absurd (omega (arith, within))
-any-at p (t ∷ tests) zero test within is yes = ap (λ (b : Bool). b || list_any p tests) (ap p is ∙ yes)
-any-at p (t ∷ tests) (suc k) test within is yes = by (p t) (any-at p tests k test (omega (arith, within)) is yes)
+any-at p [] k test within is passed = absurd (omega (arith, within))
+any-at p (t ∷ tests) zero test within is passed = ap (λ (b : Bool). b || list_any p tests) (ap p is ∙ passed)
+any-at p (t ∷ tests) (suc k) test within is passed = by (p t) (any-at p tests k test (omega (arith, within)) is yes)
   where
     by : (b : Bool) → list_any p tests ≡ true → (b || list_any p tests) ≡ true
     by true e = refl
@@ -150,6 +142,13 @@ not-left request test one advert e =
     not-false : (b : Bool) → not b ≡ false → b ≡ true
     not-false true e = refl
     not-false false e = absurd (cc)
+
+-- one more number
+pub range-next : (a n : ℕ) → range_with_len a (suc n) ≡ range_with_len a n ++ (a + n) ∷ []
+range-next a zero = ap (λ (k : ℕ). k ∷ []) (sym (add-zero a))
+range-next a (suc n) =
+    let same : (a + 1) + n ≡ a + suc n = omega arith in
+    ap (λ (l : List ℕ). a ∷ l) (range-next (a + 1) n ∙ ap (λ (k : ℕ). range_with_len (a + 1) n ++ k ∷ []) same)
 
 module _ (request : List Frame) (ads : List Advert) (all : List ℕ) (same : length ads ≡ length all) where
   -- the places of the slots that a test of the request leaves

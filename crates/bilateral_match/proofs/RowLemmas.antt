@@ -1,5 +1,5 @@
 -- How the rows of a store change with it, for those who keep an index of them.
-use Rattle.std.proofs.Common.{◌≡◌, ◌<◌, ℕ, zero, suc, Bool, true, false, ◌||◌, refl, List, [], ◌∷◌, ◌++◌, length, map, Option, None, Some, slice_get, cond, if◌then◌else◌, nat_eq, ap, sym, ◌∙◌, subst, arith}
+use Rattle.std.proofs.Common.{◌≡◌, ◌<◌, ℕ, zero, suc, Bool, true, false, ◌||◌, refl, List, [], ◌∷◌, ◌++◌, length, map, Option, None, Some, slice_get, take, cond, if◌then◌else◌, nat_eq, ap, sym, ◌∙◌, subst, arith}
 use Rattle.std.proofs.lemmas.Bool.{eqb-true}
 use Rattle.std.specs.List.{list_any}
 use Rattle.ad_tree.specs.Frames.{Frame}
@@ -15,11 +15,11 @@ pub rows-added : (advert : Advert) (ads : List Advert) (slots : List ℕ) (slot 
 rows-added advert [] [] slot same new = refl
 rows-added advert [] (s ∷ slots) slot same new = absurd (omega (arith, same))
 rows-added advert (a ∷ ads) [] slot same new = absurd (omega (arith, same))
-rows-added advert (a ∷ ads) (s ∷ slots) slot same new = by (is_named advert.name a) new
+rows-added advert (a ∷ ads) (s ∷ slots) slot same new = by (λ e. rows-added advert ads slots slot (omega (arith, same)) e) (is_named advert.name a) new
   where
-    by : (b : Bool) → (b || has advert.name ads) ≡ false → rows_beside (if b then advert ∷ ads else a ∷ placed advert ads) (s ∷ (slots ++ slot ∷ [])) ≡ row_of s a.ad ∷ (rows_beside ads slots ++ row_of slot advert.ad ∷ [])
-    by true e = absurd (cc)
-    by false e = ap (λ (rows : List Row). row_of s a.ad ∷ rows) (rows-added advert ads slots slot (omega (arith, same)) e)
+    by : (has advert.name ads ≡ false → rows_beside (placed advert ads) (slots ++ slot ∷ []) ≡ rows_beside ads slots ++ row_of slot advert.ad ∷ []) → (b : Bool) → (b || has advert.name ads) ≡ false → rows_beside (if b then advert ∷ ads else a ∷ placed advert ads) (s ∷ (slots ++ slot ∷ [])) ≡ row_of s a.ad ∷ (rows_beside ads slots ++ row_of slot advert.ad ∷ [])
+    by behind true e = absurd (cc)
+    by behind false e = ap (λ (rows : List Row). row_of s a.ad ∷ rows) (behind e)
 
 -- ---- an ad under a name that there is
 
@@ -71,11 +71,11 @@ round-behind name a ads s slot slots other r = record {
 pub rows-round : (name : List ℕ) (ads : List Advert) (slots : List ℕ) (slot : ℕ) → slot_beside (is_named name) ads slots ≡ Some slot → IsRound name ads slots slot
 rows-round name [] slots slot e = absurd (cc)
 rows-round name (a ∷ ads) [] slot e = absurd (cc)
-rows-round name (a ∷ ads) (s ∷ slots) slot e = by (is_named name a) refl e
+rows-round name (a ∷ ads) (s ∷ slots) slot e = by (λ h. rows-round name ads slots slot h) (is_named name a) refl e
   where
-    by : (b : Bool) → is_named name a ≡ b → (if b then Some s else slot_beside (is_named name) ads slots) ≡ Some slot → IsRound name (a ∷ ads) (s ∷ slots) slot
-    by true named h = round-here name a ads s slot slots named cc
-    by false other h = round-behind name a ads s slot slots other (rows-round name ads slots slot h)
+    by : (slot_beside (is_named name) ads slots ≡ Some slot → IsRound name ads slots slot) → (b : Bool) → is_named name a ≡ b → (if b then Some s else slot_beside (is_named name) ads slots) ≡ Some slot → IsRound name (a ∷ ads) (s ∷ slots) slot
+    by behind true named h = round-here name a ads s slot slots named cc
+    by behind false other h = round-behind name a ads s slot slots other (behind h)
 
 -- ---- slots that are apart
 
@@ -89,12 +89,12 @@ tail-apart : (s : ℕ) (slots : List ℕ) → AreApart (s ∷ slots) → AreApar
 tail-apart s slots apart i j slot h k = let same : suc i ≡ suc j = apart (suc i) (suc j) slot h k in omega (arith, same)
 
 not-among : (slot : ℕ) (rows : List Row) → ((i : ℕ) → slice_get (map (λ (row : Row). row.slot) rows) i ≡ Some slot → ⊥) → ad_under slot rows ≡ None
-not-among slot [] no = refl
-not-among slot (row ∷ rows) no = by (nat_eq row.slot slot) refl
+not-among slot [] never = refl
+not-among slot (row ∷ rows) never = by (not-among slot rows (λ i is. never (suc i) is)) (nat_eq row.slot slot) refl
   where
-    by : (b : Bool) → nat_eq row.slot slot ≡ b → (if b then Some row.ad else ad_under slot rows) ≡ None
-    by true same = absurd (no 0 (ap Some (eqb-true row.slot slot same)))
-    by false other = not-among slot rows (λ i is. no (suc i) is)
+    by : ad_under slot rows ≡ None → (b : Bool) → nat_eq row.slot slot ≡ b → (if b then Some row.ad else ad_under slot rows) ≡ None
+    by behind true same = absurd (never 0 (ap Some (eqb-true row.slot slot same)))
+    by behind false other = behind
 
 behind : (before : List Row) (slot : ℕ) (ad : List Frame) (after : List Row) → slice_get (map (λ (row : Row). row.slot) (before ++ row_of slot ad ∷ after)) (length before) ≡ Some slot
 behind [] slot ad after = refl
@@ -103,16 +103,39 @@ behind (row ∷ before) slot ad after = behind before slot ad after
 none-under : (before : List Row) (slot : ℕ) (ad : List Frame) (after : List Row) → AreApart (map (λ (row : Row). row.slot) (before ++ row_of slot ad ∷ after)) → ad_under slot (before ++ after) ≡ None
 none-under [] slot ad after apart =
     not-among slot after (λ i is. let same : 0 ≡ suc i = apart 0 (suc i) slot refl is in omega (arith, same))
-none-under (row ∷ before) slot ad after apart = by (nat_eq row.slot slot) refl
+none-under (row ∷ before) slot ad after apart =
+    by (none-under before slot ad after (tail-apart row.slot (map (λ (row : Row). row.slot) (before ++ row_of slot ad ∷ after)) apart)) (nat_eq row.slot slot) refl
   where
-    by : (b : Bool) → nat_eq row.slot slot ≡ b → (if b then Some row.ad else ad_under slot (before ++ after)) ≡ None
-    by true same =
+    by : ad_under slot (before ++ after) ≡ None → (b : Bool) → nat_eq row.slot slot ≡ b → (if b then Some row.ad else ad_under slot (before ++ after)) ≡ None
+    by rest true same =
         let clash : 0 ≡ suc (length before) = apart 0 (suc (length before)) slot (ap Some (eqb-true row.slot slot same)) (behind before slot ad after) in
         absurd (omega (arith, clash))
-    by false other = none-under before slot ad after (tail-apart row.slot (map (λ (row : Row). row.slot) (before ++ row_of slot ad ∷ after)) apart)
+    by rest false other = rest
 
 -- an ad's slot is under no other row
 pub alone-under : (ads : List Advert) (slots : List ℕ) (before : List Row) (slot : ℕ) (ad : List Frame) (after : List Row) → length ads ≡ length slots → AreApart slots
     → rows_beside ads slots ≡ before ++ row_of slot ad ∷ after → ad_under slot (before ++ after) ≡ None
 alone-under ads slots before slot ad after same apart are =
     none-under before slot ad after (subst AreApart (sym (slots-of-rows ads slots same) ∙ ap (map (λ (row : Row). row.slot)) are) apart)
+
+-- ---- row by row
+
+-- the rows up to a place with the row at it
+pub rows-next : (ads : List Advert) (slots : List ℕ) (i slot : ℕ) (a : Advert) → slice_get slots i ≡ Some slot → slice_get ads i ≡ Some a
+    → take (suc i) (rows_beside ads slots) ≡ take i (rows_beside ads slots) ++ row_of slot a.ad ∷ []
+rows-next [] slots i slot a h k = absurd (cc)
+rows-next (b ∷ ads) [] i slot a h k = absurd (cc)
+rows-next (b ∷ ads) (s ∷ slots) zero slot a h k = let one : s ≡ slot = cc in let same : b ≡ a = cc in cc
+rows-next (b ∷ ads) (s ∷ slots) (suc i) slot a h k = ap (λ (rows : List Row). row_of s b.ad ∷ rows) (rows-next ads slots i slot a h k)
+
+among-first : (ads : List Advert) (slots : List ℕ) (i j slot : ℕ) → slice_get (map (λ (row : Row). row.slot) (take i (rows_beside ads slots))) j ≡ Some slot → (j < i) × (slice_get slots j ≡ Some slot)
+among-first ads slots zero j slot h = absurd (cc)
+among-first [] slots (suc i) j slot h = absurd (cc)
+among-first (b ∷ ads) [] (suc i) j slot h = absurd (cc)
+among-first (b ∷ ads) (s ∷ slots) (suc i) zero slot h = (omega arith, h)
+among-first (b ∷ ads) (s ∷ slots) (suc i) (suc j) slot h = let rest = among-first ads slots i j slot h in (omega (arith, rest.0), rest.1)
+
+-- whose slot is under none of those before it
+pub none-before : (ads : List Advert) (slots : List ℕ) (i slot : ℕ) → AreApart slots → slice_get slots i ≡ Some slot → ad_under slot (take i (rows_beside ads slots)) ≡ None
+none-before ads slots i slot apart there =
+    not-among slot (take i (rows_beside ads slots)) (λ j is. let rest = among-first ads slots i j slot is in let same : i ≡ j = apart i j slot there rest.1 in omega (arith, rest.0, same))

@@ -4,10 +4,9 @@ use Rattle.std.proofs.Math.Nat.{zero-mul}
 use Rattle.std.specs.List.{cons_option, filter_map}
 use Rattle.std.specs.List.Sorted.{IsPermutation, IsSorted}
 use Rattle.std.specs.Option.{option_and_then, option_map_or}
-use Rattle.std.proofs.lemmas.List.Elements.{All-cons, All-nil}
+use Rattle.std.proofs.lemmas.List.Elements.{All-cons, All-nil, All-tail}
 use Rattle.std.proofs.lemmas.List.Sorted.{sum_by-IsPermutation}
 use Rattle.std.proofs.lemmas.List.Sums.{sum_by-cons}
-use Rattle.std.proofs.lemmas.Option.{slice_get_within}
 use Rattle.ad_tree.specs.Frames.{Frame}
 use Rattle.ad_store.specs.Stock.{Advert}
 use Rattle.eval_scope.specs.World.{attribute_count}
@@ -35,13 +34,14 @@ no-match moment request k advert decided =
 
 -- ---- sums
 
-pub sum-filter_map : {X Y : Type 0} (f : Y → ℕ) (h : X → Option Y) (xs : List X) → sum_by f (filter_map h xs) ≡ sum_by (λ x. option_map_or f (h x) 0) xs
-sum-filter_map f h [] = refl
-sum-filter_map f h (x ∷ xs) = by (h x) ∙ sym (sum_by-cons (λ x. option_map_or f (h x) 0) x xs)
-  where
-    by : (o : Option Y) → sum_by f (cons_option o (filter_map h xs)) ≡ option_map_or f o 0 + sum_by (λ x. option_map_or f (h x) 0) xs
-    by None = sum-filter_map f h xs ∙ sym (zero-add (sum_by (λ x. option_map_or f (h x) 0) xs))
-    by (Some y) = sum_by-cons f y (filter_map h xs) ∙ ap (λ n. f y + n) (sum-filter_map f h xs)
+module _ {X Y : Type 0} (f : Y → ℕ) (h : X → Option Y) where
+  pub sum-filter_map : (xs : List X) → sum_by f (filter_map h xs) ≡ sum_by (λ x. option_map_or f (h x) 0) xs
+  sum-filter_map [] = refl
+  sum-filter_map (x ∷ xs) = by (sum-filter_map xs) (h x) ∙ sym (sum_by-cons (λ x. option_map_or f (h x) 0) x xs)
+    where
+      by : sum_by f (filter_map h xs) ≡ sum_by (λ x. option_map_or f (h x) 0) xs → (o : Option Y) → sum_by f (cons_option o (filter_map h xs)) ≡ option_map_or f o 0 + sum_by (λ x. option_map_or f (h x) 0) xs
+      by behind None = behind ∙ sym (zero-add (sum_by (λ x. option_map_or f (h x) 0) xs))
+      by behind (Some y) = sum_by-cons f y (filter_map h xs) ∙ ap (λ n. f y + n) behind
 
 -- the sum of what each ad gives at its place, for ads that stand from place k on
 total : (ℕ → Advert → ℕ) → ℕ → List Advert → ℕ
@@ -53,26 +53,24 @@ module _ (passes : Advert → Bool) (h : ℕ → Advert → ℕ) (none : (k : �
   places-total : (k : ℕ) (ads : List Advert) → ((i : ℕ) (a : Advert) → slice_get ads i ≡ Some a → G (k + i) ≡ h (k + i) a) → sum_by G (places_where passes k ads) ≡ total h k ads
   unfolding total
   places-total k [] at = refl
-  places-total k (a ∷ ads) at = by (passes a) refl
+  places-total k (a ∷ ads) at =
+      by (places-total (suc k) ads (λ i b is. let same : k + suc i ≡ suc k + i = omega arith in let P : ℕ → Type 0 = λ n. G n ≡ h n b in subst P same (at (suc i) b is))) (passes a) refl
     where
       here : G k ≡ h k a
-      here = let first = at 0 a refl in rw (add-zero k) at first
+      here = let P : ℕ → Type 0 = λ n. G n ≡ h n a in subst P (add-zero k) (at 0 a refl)
 
-      rest : sum_by G (places_where passes (suc k) ads) ≡ total h (suc k) ads
-      rest = places-total (suc k) ads (λ i b is. let same : k + suc i ≡ suc k + i = omega arith in rw same at (at (suc i) b is))
-
-      by : (b : Bool) → passes a ≡ b → sum_by G (if b then k ∷ places_where passes (suc k) ads else places_where passes (suc k) ads) ≡ h k a + total h (suc k) ads
-      by true e = let head = sum_by-cons G k (places_where passes (suc k) ads) in omega (arith, head, here, rest)
-      by false e = let nothing = none k a e in omega (arith, nothing, rest)
+      by : sum_by G (places_where passes (suc k) ads) ≡ total h (suc k) ads → (b : Bool) → passes a ≡ b → sum_by G (if b then k ∷ places_where passes (suc k) ads else places_where passes (suc k) ads) ≡ h k a + total h (suc k) ads
+      by rest true e = let head = sum_by-cons G k (places_where passes (suc k) ads) in omega (arith, head, here, rest)
+      by rest false e = let nothing = none k a e in omega (arith, nothing, rest)
 
 matches-total : (moment : ℕ) (request : List Frame) (f : Match → ℕ) (k : ℕ) (ads : List Advert) → sum_by f (matches_from moment request k ads) ≡ total (λ k a. option_map_or f (match_with moment request k a) 0) k ads
 unfolding total
 matches-total moment request f k [] = refl
-matches-total moment request f k (a ∷ ads) = by (match_with moment request k a)
+matches-total moment request f k (a ∷ ads) = by (matches-total moment request f (suc k) ads) (match_with moment request k a)
   where
-    by : (o : Option Match) → sum_by f (cons_option o (matches_from moment request (suc k) ads)) ≡ option_map_or f o 0 + total (λ k a. option_map_or f (match_with moment request k a) 0) (suc k) ads
-    by None = matches-total moment request f (suc k) ads ∙ sym (zero-add (total (λ k a. option_map_or f (match_with moment request k a) 0) (suc k) ads))
-    by (Some m) = sum_by-cons f m (matches_from moment request (suc k) ads) ∙ ap (λ n. f m + n) (matches-total moment request f (suc k) ads)
+    by : sum_by f (matches_from moment request (suc k) ads) ≡ total (λ k a. option_map_or f (match_with moment request k a) 0) (suc k) ads → (o : Option Match) → sum_by f (cons_option o (matches_from moment request (suc k) ads)) ≡ option_map_or f o 0 + total (λ k a. option_map_or f (match_with moment request k a) 0) (suc k) ads
+    by behind None = behind ∙ sym (zero-add (total (λ k a. option_map_or f (match_with moment request k a) 0) (suc k) ads))
+    by behind (Some m) = sum_by-cons f m (matches_from moment request (suc k) ads) ∙ ap (λ n. f m + n) behind
 
 evaluations-total : (request : List Frame) (k : ℕ) (ads : List Advert) → total (λ k a. evaluations_most request a.ad) k ads ≡ 3 * undecided_count request ads
 unfolding total
@@ -134,15 +132,15 @@ module _ (moment : ℕ) (request : List Frame) (ads : List Advert) (places : Lis
       one-order sorted (answers moment request ads) (in-order-from sorted ordered) (arranged-in-order (matches_from moment request 0 ads))
       (λ f. sum_by-IsPermutation f found sorted moved ∙ ap (sum_by f) is ∙ found-sum f ∙ sym (sum_by-IsPermutation f (matches_from moment request 0 ads) (answers moment request ads) (arranged-permutation (matches_from moment request 0 ads))))
 
--- each match that is found is with an ad that there is
-pub found-held : (moment : ℕ) (request : List Frame) (ads : List Advert) (places : List ℕ) → All (λ (m : Match). m.place < length ads) (filter_map (match_at moment request ads) places)
-found-held moment request ads [] = All-nil (λ (m : Match). m.place < length ads)
-found-held moment request ads (place ∷ places) = by (slice_get ads place) refl
+-- each match that is found is at one of the places
+pub found-at : (moment : ℕ) (request : List Frame) (ads : List Advert) (P : ℕ → Type 0) (places : List ℕ) → All P places → All (λ (m : Match). P m.place) (filter_map (match_at moment request ads) places)
+found-at moment request ads P [] h = All-nil (λ (m : Match). P m.place)
+found-at moment request ads P (place ∷ places) h = by (found-at moment request ads P places (All-tail P place places h)) (slice_get ads place)
   where
-    by_rank : (o : Option ℤ) → place < length ads → All (λ (m : Match). m.place < length ads) (cons_option (option_map (λ rank. record { place = place; rank = rank }) o) (filter_map (match_at moment request ads) places))
-    by_rank None within = found-held moment request ads places
-    by_rank (Some rank) within = All-cons (λ (m : Match). m.place < length ads) (record { place = place; rank = rank }) (filter_map (match_at moment request ads) places) within (found-held moment request ads places)
+    by_rank : All (λ (m : Match). P m.place) (filter_map (match_at moment request ads) places) → (o : Option ℤ) → All (λ (m : Match). P m.place) (cons_option (option_map (λ rank. record { place = place; rank = rank }) o) (filter_map (match_at moment request ads) places))
+    by_rank rest None = rest
+    by_rank rest (Some rank) = All-cons (λ (m : Match). P m.place) (record { place = place; rank = rank }) (filter_map (match_at moment request ads) places) (h 0 place (omega arith)) rest
 
-    by : (o : Option Advert) → slice_get ads place ≡ o → All (λ (m : Match). m.place < length ads) (cons_option (option_and_then (match_with moment request place) o) (filter_map (match_at moment request ads) places))
-    by None is = found-held moment request ads places
-    by (Some a) is = by_rank (ranked moment request a.ad) (slice_get_within ads place a is)
+    by : All (λ (m : Match). P m.place) (filter_map (match_at moment request ads) places) → (o : Option Advert) → All (λ (m : Match). P m.place) (cons_option (option_and_then (match_with moment request place) o) (filter_map (match_at moment request ads) places))
+    by rest None = rest
+    by rest (Some a) = by_rank rest (ranked moment request a.ad)

@@ -1,5 +1,5 @@
 // Which ads a query looks at: those that its narrowest test leaves.
-ghost use Rattle.std.specs.Prelude.{◌≡◌, [], length, slice_get, map, All, IfOk, IfNone, IfSome, Some, Contains};
+ghost use Rattle.std.specs.Prelude.{◌≡◌, ◌<◌, [], length, slice_get, map, All, IfOk, IfNone, IfSome, Some, Contains};
 ghost use Rattle.std.specs.List.{range_with_len};
 ghost use Rattle.ad_tree.specs.Ad.{ad_frames};
 ghost use Rattle.ad_store.specs.Store.{stock_of};
@@ -26,13 +26,17 @@ pub fn candidates(
 ) -> Result<Slots, OutOfMemory>
     requires index { IsIndex index.now (rows_of (stock_of store.now)) }
     requires single { request.now.ports ≡ [] }
-    ensures { IfOk result (AreCandidates (ad_frames request.now.ad) (stock_of store.now).ads) }
+    ensures places { IfOk result (AreCandidates (ad_frames request.now.ad) (stock_of store.now).ads) }
+    ensures held { IfOk result (All (λ place. place < length (stock_of store.now).slots)) }
 {
+    let count = store.len();
+    store.slots_are_apart();
     let tests = plan(alloc, &request.ad, 0, &request.ports)?;
-    match narrowest(store, index, &tests) {
-        Some(test) => places_of(alloc, store, &index.hits(test)?),
-        None => all_places(alloc, store.len()),
-    }
+    let Some(test) = narrowest(store, index, &tests) else {
+        return Ok(all_places(alloc, count)?);
+    };
+    let slots = index.hits(test)?;
+    Ok(places_of(alloc, store, &slots)?)
 }
 
 // The test that leaves the fewest ads, where some test leaves fewer than all.
@@ -54,7 +58,7 @@ fn narrowest<'a>(store: &Store, index: &Index, tests: &'a Tests) -> Option<&'a T
     best
 }
 
-// The places of the ads in these slots.
+// The places of the ads in these slots. No two ads have one slot.
 fn places_of(alloc: Global, store: &Store, slots: &Slots) -> Result<Slots, OutOfMemory>
     requires { All (Contains (stock_of store.now).slots) slots.now }
     ensures { IfOk result (λ places. map (slice_get (stock_of store.now).slots) places ≡ map Some slots.now) }

@@ -49,7 +49,7 @@ pub fn query<F: Ledger, E: Ledger, T: Ledger>(
     let places = candidates(alloc, store, index, request)?;
     let mut found = matches_at(alloc, store, request, moment, &places, tops, entry, touch)?;
     arrange(&mut found)?;
-    hits_of(alloc, store, &found)
+    Ok(hits_of(alloc, store, &found)?)
 }
 
 // Puts matches in order: by rank falling, and at equal ranks by place.

@@ -1,13 +1,9 @@
 -- Loops over lists, step by step.
 use Rattle.std.proofs.Common.{◌≡◌, ◌<◌, ◌≤◌, ◌+◌, ℕ, refl, List, [], ◌∷◌, ◌++◌, length, map, take, get_or, Option, Some, slice_get, sum_by, ap, sym, ◌∙◌, subst, arith}
 use Rattle.std.specs.List.{cons_option, filter_map}
-use Rattle.std.proofs.lemmas.List.{map-append, take_all, take_more}
+use Rattle.std.proofs.lemmas.List.{take_all, take_more}
 use Rattle.std.proofs.lemmas.List.Elements.{filter_map-append}
 use Rattle.std.proofs.lemmas.List.Sums.{sum_by_more, sum_by_more_le}
-use Rattle.std.proofs.lemmas.Option.{get_or_from_slice_get}
-use Rattle.bilateral_match.specs.declared.hit.Hit.{Hit}
-use Rattle.bilateral_match.specs.declared.hit.Match.{Match}
-use Rattle.bilateral_match.specs.Answers.{hit_of}
 
 -- ---- a bound that grows with each number
 
@@ -34,15 +30,3 @@ module _ {Y : Type 0} (h : ℕ → Option Y) (xs : List ℕ) (i : ℕ) where
 
   pub finds-all : (ys : List ℕ) (found : List Y) → xs ≡ ys → length xs ≤ i → found ≡ filter_map h (take i xs) → found ≡ filter_map h ys
   finds-all ys found same past so_far = so_far ∙ ap (filter_map h) (take_all i xs past ∙ same)
-
--- ---- hits
-
-pub hits-next : (slots : List ℕ) (found : List Match) (i : ℕ) (d : Match) (hits new : List Hit) (slot : ℕ) → i < length found → hits ≡ map (hit_of slots) (take i found)
-    → slice_get slots (get_or found i d).place ≡ Some slot → new ≡ hits ++ record { slot = slot; rank = (get_or found i d).rank } ∷ [] → new ≡ map (hit_of slots) (take (i + 1) found)
-hits-next slots found i d hits new slot within so_far is added =
-    let at : get_or slots (get_or found i d).place 0 ≡ slot = get_or_from_slice_get slots (get_or found i d).place slot 0 is in
-    added
-    ∙ ap (λ (hs : List Hit). hs ++ record { slot = slot; rank = (get_or found i d).rank } ∷ []) so_far
-    ∙ ap (λ (n : ℕ). map (hit_of slots) (take i found) ++ record { slot = n; rank = (get_or found i d).rank } ∷ []) (sym at)
-    ∙ sym (map-append (hit_of slots) (take i found) (get_or found i d ∷ []))
-    ∙ ap (map (hit_of slots)) (sym (take_more found i d within))

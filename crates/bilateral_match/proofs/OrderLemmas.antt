@@ -1,7 +1,7 @@
 -- Matches in order: there is one such list of given matches.
-use Rattle.std.proofs.Common.{◌≡◌, ◌<◌, ◌≤◌, ◌+◌, ℕ, zero, suc, zero-le, Bool, true, false, refl, List, [], ◌∷◌, ◌++◌, length, get_or, sum_by, cond, if◌then◌else◌, All, ap, sym, ◌∙◌, subst, arith, add-one, ℤ}
+use Rattle.std.proofs.Common.{◌≡◌, ◌<◌, ◌≤◌, ◌+◌, ℕ, zero, suc, zero-le, Bool, true, false, refl, List, [], ◌∷◌, ◌++◌, length, get_or, sum_by, cond, if◌then◌else◌, All, ap, sym, ◌∙◌, subst, arith, add-one, zero-add, ℤ, Less, Equal, Greater}
 use Rattle.std.specs.Cmp.{IsTotalOrder, IsStrictWeakOrder}
-use Rattle.std.specs.Ordering.{Less, Equal, Greater, int_cmp, is_lt, nat_cmp, ordering_reverse, ordering_then}
+use Rattle.std.specs.Ordering.{int_cmp, is_lt, nat_cmp, ordering_reverse, ordering_then}
 use Rattle.std.specs.declared.cmp.Ordering.{Ordering}
 use Rattle.std.specs.List.Sorted.{IsPermutation, IsSorted}
 use Rattle.std.proofs.lemmas.Cmp.{back_total, int_cmp_total, int_ranked, nat_cmp_total, on_total, ranked, then_total}
@@ -38,7 +38,9 @@ ties-are-one a b h k = by_rank (int_cmp b.rank a.rank) (nat_cmp a.place b.place)
     turned r s e f g = let same : s ≡ Less = e ∙ ap ordering_reverse g in let other : true ≡ false = sym (ap is_lt same) ∙ f in cc
 
     same_parts : b.rank ≡ a.rank → a.place ≡ b.place → a ≡ b
-    same_parts ranks places = cc
+    same_parts ranks places =
+        ap (λ (p : ℕ). let m : Match = record { place = p; rank = a.rank } in m) places
+        ∙ ap (λ (r : ℤ). let m : Match = record { place = b.place; rank = r } in m) (sym ranks)
 
     by_rank : (r s : Ordering) → int_cmp b.rank a.rank ≡ r → nat_cmp a.place b.place ≡ s → is_lt (ordering_then r s) ≡ false → (ordering_then r s ≡ Greater → ⊥) → a ≡ b
     by_rank Less s ranks places f g = absurd (cc)
@@ -112,6 +114,7 @@ none-before m [] h = refl
 none-before m (o ∷ os) h =
     sum_by-cons (λ o. cond (is_lt (match_order o m)) 1 0) o os
     ∙ ap (λ (b : Bool). cond b 1 0 + sum_by (λ o. cond (is_lt (match_order o m)) 1 0) os) (h 0 o (omega arith))
+    ∙ zero-add (sum_by (λ o. cond (is_lt (match_order o m)) 1 0) os)
     ∙ none-before m os (All-tail (NotAfter m) o os h)
 
 first-not-before : (m o : Match) (os : List Match) → sum_by (λ o. cond (is_lt (match_order o m)) 1 0) (o ∷ os) ≡ 0 → is_lt (match_order o m) ≡ false

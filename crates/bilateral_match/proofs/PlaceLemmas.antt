@@ -128,7 +128,7 @@ hits-held test ads all slots moved = All-permutation (Contains all) (passing_slo
 any-at : (p : Test → Bool) (tests : List Test) (k : ℕ) (test : Test) → k < length tests → get_or tests k test ≡ test → p test ≡ true → list_any p tests ≡ true
 any-at p [] k test within is passed = absurd (omega (arith, within))
 any-at p (t ∷ tests) zero test within is passed = ap (λ (b : Bool). b || list_any p tests) (ap p is ∙ passed)
-any-at p (t ∷ tests) (suc k) test within is passed = by (p t) (any-at p tests k test (omega (arith, within)) is yes)
+any-at p (t ∷ tests) (suc k) test within is passed = by (p t) (any-at p tests k test (omega (arith, within)) is passed)
   where
     by : (b : Bool) → list_any p tests ≡ true → (b || list_any p tests) ≡ true
     by true e = refl

@@ -68,10 +68,18 @@ fn hits_of(alloc: Global, store: &Store, found: &[Match]) -> Result<Hits, OutOfM
 {
     let mut hits = Hits::new(alloc);
     for m in found {
-        hits.push(Hit {
-            slot: store.at(m.place),
-            rank: m.rank,
-        })?;
+        hits.push(hit_at(store, m))?;
     }
     Ok(hits)
+}
+
+// A match with the slot of its ad.
+fn hit_at(store: &Store, m: &Match) -> Hit
+    requires { m.now.place < length (stock_of store.now).slots }
+    ensures { result ≡ hit_of (stock_of store.now).slots m.now }
+{
+    Hit {
+        slot: store.at(m.place),
+        rank: m.rank,
+    }
 }

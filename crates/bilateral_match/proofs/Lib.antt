@@ -2,6 +2,7 @@ mod ConjunctLemmas
 mod DecidedLemmas
 mod FindLemmas
 mod LoopLemmas
+mod NarrowLemmas
 mod OrderLemmas
 pub mod PlaceLemmas
 pub mod RowLemmas

@@ -1,5 +1,5 @@
 -- How the rows of a store change with it, for those who keep an index of them.
-use Rattle.std.proofs.Common.{◌≡◌, ◌<◌, ℕ, zero, suc, Bool, true, false, ◌||◌, refl, List, [], ◌∷◌, ◌++◌, length, map, Option, None, Some, slice_get, take, cond, if◌then◌else◌, nat_eq, ap, sym, ◌∙◌, subst, arith}
+use Rattle.std.proofs.Common.{◌≡◌, ◌<◌, ℕ, zero, suc, Bool, true, false, ◌||◌, refl, List, [], ◌∷◌, ◌++◌, length, map, Option, None, Some, option_map, slice_get, take, cond, if◌then◌else◌, nat_eq, ap, sym, ◌∙◌, subst, arith}
 use Rattle.std.proofs.lemmas.Bool.{eqb-true}
 use Rattle.std.specs.List.{list_any}
 use Rattle.ad_tree.specs.Frames.{Frame}
@@ -121,12 +121,21 @@ alone-under ads slots before slot ad after same apart are =
 -- ---- row by row
 
 -- the rows up to a place with the row at it
-pub rows-next : (ads : List Advert) (slots : List ℕ) (i slot : ℕ) (a : Advert) → slice_get slots i ≡ Some slot → slice_get ads i ≡ Some a
-    → take (suc i) (rows_beside ads slots) ≡ take i (rows_beside ads slots) ++ row_of slot a.ad ∷ []
-rows-next [] slots i slot a h k = absurd (cc)
-rows-next (b ∷ ads) [] i slot a h k = absurd (cc)
-rows-next (b ∷ ads) (s ∷ slots) zero slot a h k = let one : s ≡ slot = cc in let same : b ≡ a = cc in cc
-rows-next (b ∷ ads) (s ∷ slots) (suc i) slot a h k = ap (λ (rows : List Row). row_of s b.ad ∷ rows) (rows-next ads slots i slot a h k)
+pub rows-next : (ads : List Advert) (slots : List ℕ) (i slot : ℕ) (ad : List Frame) → slice_get slots i ≡ Some slot → option_map (λ (a : Advert). a.ad) (slice_get ads i) ≡ Some ad
+    → take (suc i) (rows_beside ads slots) ≡ take i (rows_beside ads slots) ++ row_of slot ad ∷ []
+rows-next [] slots i slot ad h k = absurd (cc)
+rows-next (b ∷ ads) [] i slot ad h k = absurd (cc)
+rows-next (b ∷ ads) (s ∷ slots) zero slot ad h k =
+    let one : s ≡ slot = cc in
+    let same : b.ad ≡ ad = cc in
+    ap (λ (n : ℕ). row_of n b.ad ∷ []) one ∙ ap (λ (f : List Frame). row_of slot f ∷ []) same
+rows-next (b ∷ ads) (s ∷ slots) (suc i) slot ad h k = ap (λ (rows : List Row). row_of s b.ad ∷ rows) (rows-next ads slots i slot ad h k)
+
+pub length-rows : (ads : List Advert) (slots : List ℕ) → length ads ≡ length slots → length (rows_beside ads slots) ≡ length slots
+length-rows [] [] same = refl
+length-rows [] (s ∷ slots) same = absurd (omega (arith, same))
+length-rows (a ∷ ads) [] same = absurd (omega (arith, same))
+length-rows (a ∷ ads) (s ∷ slots) same = ap suc (length-rows ads slots (omega (arith, same)))
 
 among-first : (ads : List Advert) (slots : List ℕ) (i j slot : ℕ) → slice_get (map (λ (row : Row). row.slot) (take i (rows_beside ads slots))) j ≡ Some slot → (j < i) × (slice_get slots j ≡ Some slot)
 among-first ads slots zero j slot h = absurd (cc)

@@ -35,7 +35,11 @@ pub fn a_conjunct_has_the_value_of_its_test(world: &World<'_>, expr: &Expr)
 {}
 
 /// An expression is true only where each of its conjuncts is, whatever their order and whatever values the others have.
-pub fn a_conjunction_is_true_only_where_its_conjuncts_are(world: &World<'_>, at: AdPlace, expr: &Expr)
+pub fn a_conjunction_is_true_only_where_its_conjuncts_are(
+    world: &World<'_>,
+    at: AdPlace,
+    expr: &Expr,
+)
     ensures { (n : ℕ) → let w = world_of world.now in
         value_with n w at (tree expr.now) ≡ Some (boolean true)
         → All (λ conjunct. value_with n w at conjunct ≡ Some (boolean true)) (conjuncts (tree expr.now)) }

@@ -9,7 +9,7 @@ mod querying;
 mod tests;
 mod weighing;
 
-pub use hit::{Hit, Hits};
+pub use hit::{Hit, Hits, Match};
 pub use laws::{
     a_conjunct_has_the_value_of_its_test, a_conjunction_is_true_only_where_its_conjuncts_are,
     a_decided_dock_is_never_true, answers_are_all_matches_in_order,

@@ -65,7 +65,8 @@ fn index_of<T: Ledger>(
 {
     store.slots_are_apart();
     let mut index = Index::new(alloc);
-    for i in 0..store.len() {
+    let count = store.len();
+    for i in 0..count {
         let slot = store.at(i);
         index.add(slot, store.look(slot, touch))?;
     }

@@ -51,8 +51,7 @@ fn is_decided(alloc: Global, request: &Request, ad: &Ad) -> bool
     ensures { result ≡ is_dock_decided (ad_frames request.now.ad) 0 [] (ad_frames ad.now) }
 {
     let no_ports = Ports::new(alloc);
-    rules_out(&request.ad, 0, &request.ports, ad, 0)
-        || rules_out(ad, 0, &no_ports, &request.ad, 0)
+    rules_out(&request.ad, 0, &request.ports, ad, 0) || rules_out(ad, 0, &no_ports, &request.ad, 0)
 }
 
 // The match with the ad at a place, if it docks. It counts one in `touch`.

@@ -121,43 +121,70 @@ fn found(alloc: Global, store: &Store, rank: Expr) -> Result<String, Fail> {
     )
 }
 
-fn put(store: &mut Store, name: &[u8], ad: Ad) -> Result<(), Fail> {
+// Puts a machine.
+fn put(alloc: Global, store: &mut Store, name: &[u8], memory: Expr) -> Result<(), Fail> {
+    let ad = machine(alloc, memory)?;
     store.put(name, 0, 9, 4, ad)?;
     Ok(())
 }
 
+// Puts `[ Disk = 128; Requirements = true ]`.
+fn put_disk(alloc: Global, store: &mut Store, name: &[u8]) -> Result<(), Fail> {
+    let ad = ad(alloc, [b"Disk", b"Requirements"], integer(128), truth())?;
+    store.put(name, 0, 9, 4, ad)?;
+    Ok(())
+}
+
+fn text(alloc: Global, bytes: &[u8]) -> Result<Expr, OutOfMemory> {
+    Ok(Expr::Literal(Lit::Str(Text::from_bytes(alloc, bytes)?)))
+}
+
+fn product(alloc: Global, left: i64, right: i64) -> Result<Expr, OutOfMemory> {
+    Ok(Expr::Binary(
+        BinOp::Mul,
+        Box::new(alloc, integer(left))?,
+        Box::new(alloc, integer(right))?,
+    ))
+}
+
+// Machines with 128, none, a text, 64 * 2 and 32 of memory.
+fn five(alloc: Global) -> Result<Store, Fail> {
+    let mut store = Store::new(alloc);
+    put(alloc, &mut store, b"a", integer(128))?;
+    put_disk(alloc, &mut store, b"b")?;
+    put(alloc, &mut store, b"c", text(alloc, b"big")?)?;
+    put(alloc, &mut store, b"d", product(alloc, 64, 2)?)?;
+    put(alloc, &mut store, b"e", integer(32))?;
+    Ok(store)
+}
+
 #[test]
 fn five_machines(rt: HostRuntime) -> Result<(), Fail> {
-    let alloc = rt.alloc();
-    let mut store = Store::new(alloc);
-    put(&mut store, b"a", machine(alloc, integer(128))?)?;
-    let small = ad(alloc, [b"Disk", b"Requirements"], integer(128), truth())?;
-    put(&mut store, b"b", small)?;
-    let big = Expr::Literal(Lit::Str(Text::from_bytes(alloc, b"big")?));
-    put(&mut store, b"c", machine(alloc, big)?)?;
-    let twice = Expr::Binary(
-        BinOp::Mul,
-        Box::new(alloc, integer(64))?,
-        Box::new(alloc, integer(2))?,
+    let store = five(rt.alloc())?;
+    assert_eq!(rt; found(rt.alloc(), &store, integer(7))?.as_str(), "0:7 3:7");
+    Ok(())
+}
+
+#[test]
+fn ranks_fall(rt: HostRuntime) -> Result<(), Fail> {
+    let mut store = five(rt.alloc())?;
+    put(rt.alloc(), &mut store, b"e", integer(256))?;
+    let memory = target(rt.alloc(), b"Memory")?;
+    assert_eq!(rt;
+        found(rt.alloc(), &store, memory)?.as_str(),
+        "4:256 0:128 3:128"
     );
-    put(&mut store, b"d", machine(alloc, twice)?)?;
-    put(&mut store, b"e", machine(alloc, integer(32))?)?;
-    assert_eq!(rt; found(alloc, &store, integer(7))?.as_str(), "0:7 3:7");
-    let memory = target(alloc, b"Memory")?;
-    put(&mut store, b"e", machine(alloc, integer(256))?)?;
-    assert_eq!(rt; found(alloc, &store, memory)?.as_str(), "4:256 0:128 3:128");
     Ok(())
 }
 
 #[test]
 fn equal_ranks_by_place(rt: HostRuntime) -> Result<(), Fail> {
-    let alloc = rt.alloc();
-    let mut store = Store::new(alloc);
-    put(&mut store, b"a", machine(alloc, integer(64))?)?;
-    put(&mut store, b"b", machine(alloc, integer(64))?)?;
+    let mut store = Store::new(rt.alloc());
+    put(rt.alloc(), &mut store, b"a", integer(64))?;
+    put(rt.alloc(), &mut store, b"b", integer(64))?;
     store.withdraw(b"a")?;
     // The new ad takes the slot of the one that left, and stands last.
-    put(&mut store, b"c", machine(alloc, integer(64))?)?;
-    assert_eq!(rt; found(alloc, &store, truth())?.as_str(), "1:1 0:1");
+    put(rt.alloc(), &mut store, b"c", integer(64))?;
+    assert_eq!(rt; found(rt.alloc(), &store, truth())?.as_str(), "1:1 0:1");
     Ok(())
 }

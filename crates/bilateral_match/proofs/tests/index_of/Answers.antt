@@ -16,7 +16,7 @@ loop-i-preserved g c =
     let none = ap (ad_under c.at-slot.result) (append-nil before) ∙ none-before stock.ads stock.slots c.loop-i.i c.at-slot.result c.slots_are_apart.ensures c.at-slot.ensures.place in
     let next = ap (λ (n : ℕ). take n (rows_of stock)) (add-one c.loop-i.i)
     ∙ rows-next stock.ads stock.slots c.loop-i.i c.at-slot.result (ad_frames c.look.result.now) c.at-slot.ensures.place (c.look.ensures.ad c.loop-i.i c.at-slot.ensures.place) in
-    subst (λ (rows : List Row). IsIndex c.add.new.index rows) (sym next) (c.in_ok-add.ensures.ok before [] held none)
+    subst (λ (rows : List Row). IsIndex c.add.new.self rows) (sym next) (c.in_ok-add.ensures.ok before [] held none)
 
 pub returns : goal.returns
 returns g c =

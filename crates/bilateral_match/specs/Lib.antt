@@ -1,0 +1,6 @@
+pub mod Answers
+pub mod Candidates
+pub mod Counts
+pub mod Docks
+pub mod Rows
+pub mod Scan

@@ -42,6 +42,7 @@ mark_case true note i k is free = by_number (eqb i k) refl
   where
     none : names note k ≡ false
     none = ap (λ n. names n k) (free refl)
+
     by_number : (b : Bool) → eqb i k ≡ b → eqb i k ≡ cond b true (names note k)
     by_number true same = same
     by_number false same = same ∙ sym none
@@ -119,9 +120,9 @@ gone part notes later jobs i job noted at none within closes = λ slot k.
 -- a job that is idle lists nothing
 filled-idle : (job : Job) → job.standing ≡ Standing.Idle → IsFilled job
 filled-idle job idle = record {
-    distinct = subst (λ s. AllPairs (λ a b. a ≢ b) (slots_of s)) (sym idle) (λ i j d before within. absurd (omega arith));
-    enough = λ busy. absurd (busy idle)
-  }
+  distinct = subst (λ s. AllPairs (λ a b. a ≢ b) (slots_of s)) (sym idle) (λ i j d before within. absurd (omega arith));
+  enough = λ busy. absurd (busy idle);
+}
 
 module _ (keys : List (Vec ℕ Global)) (jobs : List Job) (offers claims : List (Option ℕ)) (text : ℕ) (kept : IsKept keys jobs offers claims text) (i : ℕ) (job : Job) (at : slice_get jobs i ≡ Some job) where
   pub freed_kept : (fewer_offers fewer_claims : List (Option ℕ))
@@ -130,15 +131,15 @@ module _ (keys : List (Vec ℕ Global)) (jobs : List Job) (offers claims : List 
       → ((slot : ℕ) → note_at fewer_claims slot ≡ cond (lists (claim_of job.standing) slot) None (note_at claims slot))
       → IsKept keys (slice_set jobs i (record job { standing = Standing.Idle })) fewer_offers fewer_claims text
   freed_kept fewer_offers fewer_claims same_offers same_claims clears_offers clears_claims = record {
-      named = kept.named ∙ sym (map-set_same (λ j. j.name) jobs i job (record job { standing = Standing.Idle }) at refl);
-      offered = cleared offer_of offers fewer_offers jobs i job Standing.Idle kept.offered at refl clears_offers;
-      claimed = cleared claim_of claims fewer_claims jobs i job Standing.Idle kept.claimed at refl clears_claims;
-      room = omega (arith, kept.room);
-      counted = kept.counted ∙ sym (sum_by-set_same (λ j. j.text_len) jobs i job (record job { standing = Standing.Idle }) at refl);
-      within = kept.within;
-      few = omega (arith, kept.few, length-set jobs i (record job { standing = Standing.Idle }));
-      filled = All-set IsFilled jobs i (record job { standing = Standing.Idle }) (filled-idle (record job { standing = Standing.Idle }) refl) kept.filled
-    }
+    named = kept.named ∙ sym (map-set_same (λ j. j.name) jobs i job (record job { standing = Standing.Idle }) at refl);
+    offered = cleared offer_of offers fewer_offers jobs i job Standing.Idle kept.offered at refl clears_offers;
+    claimed = cleared claim_of claims fewer_claims jobs i job Standing.Idle kept.claimed at refl clears_claims;
+    room = omega (arith, kept.room);
+    counted = kept.counted ∙ sym (sum_by-set_same (λ j. j.text_len) jobs i job (record job { standing = Standing.Idle }) at refl);
+    within = kept.within;
+    few = omega (arith, kept.few, length-set jobs i (record job { standing = Standing.Idle }));
+    filled = All-set IsFilled jobs i (record job { standing = Standing.Idle }) (filled-idle (record job { standing = Standing.Idle }) refl) kept.filled;
+  }
 
   pub offered_kept : (slots : List ℕ) (more_offers more_claims : List (Option ℕ))
       → job.standing ≡ Standing.Idle → wanted job.request ≡ length slots → AreFree slots jobs → AllPairs (λ a b. a ≢ b) slots
@@ -147,16 +148,16 @@ module _ (keys : List (Vec ℕ Global)) (jobs : List Job) (offers claims : List 
       → ((slot : ℕ) → note_at more_claims slot ≡ note_at claims slot)
       → IsKept keys (slice_set jobs i (record job { standing = Standing.Matched slots })) more_offers more_claims text
   offered_kept slots more_offers more_claims idle number free distinct room marks same = record {
-      named = kept.named ∙ sym (map-set_same (λ j. j.name) jobs i job (record job { standing = Standing.Matched slots }) at refl);
-      offered = marked offer_of offers more_offers jobs i job (Standing.Matched slots) kept.offered at (ap offer_of idle)
-          (λ slot listed. noted-position (λ j. lists (offer_of j.standing) slot) jobs (note_at offers slot) (kept.offered slot) ∙ listed_one (λ s. offered_to s jobs ≡ None) slots slot free listed) marks;
-      claimed = same_part claim_of more_claims more_claims jobs i job (Standing.Matched slots) (renoted claim_of claims more_claims jobs kept.claimed same) at (sym (ap claim_of idle));
-      room = room;
-      counted = kept.counted ∙ sym (sum_by-set_same (λ j. j.text_len) jobs i job (record job { standing = Standing.Matched slots }) at refl);
-      within = kept.within;
-      few = omega (arith, kept.few, length-set jobs i (record job { standing = Standing.Matched slots }));
-      filled = All-set IsFilled jobs i (record job { standing = Standing.Matched slots }) (record { distinct = distinct; enough = λ _. sym number }) kept.filled
-    }
+    named = kept.named ∙ sym (map-set_same (λ j. j.name) jobs i job (record job { standing = Standing.Matched slots }) at refl);
+    offered = marked offer_of offers more_offers jobs i job (Standing.Matched slots) kept.offered at (ap offer_of idle)
+        (λ slot listed. noted-position (λ j. lists (offer_of j.standing) slot) jobs (note_at offers slot) (kept.offered slot) ∙ listed_one (λ s. offered_to s jobs ≡ None) slots slot free listed) marks;
+    claimed = same_part claim_of more_claims more_claims jobs i job (Standing.Matched slots) (renoted claim_of claims more_claims jobs kept.claimed same) at (sym (ap claim_of idle));
+    room = room;
+    counted = kept.counted ∙ sym (sum_by-set_same (λ j. j.text_len) jobs i job (record job { standing = Standing.Matched slots }) at refl);
+    within = kept.within;
+    few = omega (arith, kept.few, length-set jobs i (record job { standing = Standing.Matched slots }));
+    filled = All-set IsFilled jobs i (record job { standing = Standing.Matched slots }) (record { distinct = distinct; enough = λ _. sym number }) kept.filled;
+  }
 
   pub gone_kept : (fewer_keys : List (Vec ℕ Global)) (fewer_offers fewer_claims : List (Option ℕ))
       → job.standing ≡ Standing.Idle → i < length jobs → fewer_keys ≡ remove keys i
@@ -165,45 +166,45 @@ module _ (keys : List (Vec ℕ Global)) (jobs : List Job) (offers claims : List 
       → ((slot : ℕ) → note_at fewer_claims slot ≡ option_map (λ k. cond (ltb i k) (k - 1) k) (note_at claims slot))
       → IsKept fewer_keys (remove jobs i) fewer_offers fewer_claims (text - job.text_len)
   gone_kept fewer_keys fewer_offers fewer_claims idle within fewer same_offers same_claims closes_offers closes_claims = record {
-      named = ap (map (λ key. key.items)) fewer ∙ map-remove (λ key. key.items) keys i ∙ ap (λ l. remove l i) kept.named ∙ sym (map-remove (λ j. j.name) jobs i);
-      offered = gone offer_of offers fewer_offers jobs i job kept.offered at (ap offer_of idle) within closes_offers;
-      claimed = gone claim_of claims fewer_claims jobs i job kept.claimed at (ap claim_of idle) within closes_claims;
-      room = omega (arith, kept.room);
-      counted = omega (arith, kept.counted, sum_by-remove_at (λ j. j.text_len) jobs i job at);
-      within = omega (arith, kept.within);
-      few = omega (arith, kept.few, length-remove_le jobs i);
-      filled = All-remove IsFilled jobs i kept.filled
-    }
+    named = ap (map (λ key. key.items)) fewer ∙ map-remove (λ key. key.items) keys i ∙ ap (λ l. remove l i) kept.named ∙ sym (map-remove (λ j. j.name) jobs i);
+    offered = gone offer_of offers fewer_offers jobs i job kept.offered at (ap offer_of idle) within closes_offers;
+    claimed = gone claim_of claims fewer_claims jobs i job kept.claimed at (ap claim_of idle) within closes_claims;
+    room = omega (arith, kept.room);
+    counted = omega (arith, kept.counted, sum_by-remove_at (λ j. j.text_len) jobs i job at);
+    within = omega (arith, kept.within);
+    few = omega (arith, kept.few, length-remove_le jobs i);
+    filled = All-remove IsFilled jobs i kept.filled;
+  }
 
 pub less_text : (jobs : List Job) (i : ℕ) (job : Job) → slice_get jobs i ≡ Some job → job.text_len ≤ text_of jobs
 less_text jobs i job at = omega (arith, sum_by-remove_at (λ j. j.text_len) jobs i job at)
 
 pub widened_kept : (keys : List (Vec ℕ Global)) (jobs : List Job) (offers claims more_offers more_claims : List (Option ℕ)) (text : ℕ) → IsKept keys jobs offers claims text → length more_offers ≤ length more_claims → ((slot : ℕ) → note_at more_offers slot ≡ note_at offers slot) → ((slot : ℕ) → note_at more_claims slot ≡ note_at claims slot) → IsKept keys jobs more_offers more_claims text
 widened_kept keys jobs offers claims more_offers more_claims text kept room same_offers same_claims = record {
-    named = kept.named;
-    offered = renoted offer_of offers more_offers jobs kept.offered same_offers;
-    claimed = renoted claim_of claims more_claims jobs kept.claimed same_claims;
-    room = room;
-    counted = kept.counted;
-    within = kept.within;
-    few = kept.few;
-    filled = kept.filled
-  }
+  named = kept.named;
+  offered = renoted offer_of offers more_offers jobs kept.offered same_offers;
+  claimed = renoted claim_of claims more_claims jobs kept.claimed same_claims;
+  room = room;
+  counted = kept.counted;
+  within = kept.within;
+  few = kept.few;
+  filled = kept.filled;
+}
 
 -- ---- a job that is taken
 
 module _ (keys later_keys : List (Vec ℕ Global)) (jobs : List Job) (offers claims : List (Option ℕ)) (text : ℕ) (kept : IsKept keys jobs offers claims text) (job : Job) (idle : job.standing ≡ Standing.Idle) where
   pub entered_kept : map (λ key. key.items) later_keys ≡ map (λ key. key.items) keys ++ job.name ∷ [] → length jobs < 10000 → text + job.text_len ≤ 33554432 → IsKept later_keys (jobs ++ job ∷ []) offers claims (text + job.text_len)
   entered_kept last few light = record {
-      named = last ∙ ap (λ l. l ++ job.name ∷ []) kept.named ∙ sym (map-push (λ j. j.name) jobs job);
-      offered = λ slot i. kept.offered slot i ∙ sym (passes_at-push (λ j. lists (offer_of j.standing) slot) jobs job i (ap (λ s. lists (offer_of s) slot) idle));
-      claimed = λ slot i. kept.claimed slot i ∙ sym (passes_at-push (λ j. lists (claim_of j.standing) slot) jobs job i (ap (λ s. lists (claim_of s) slot) idle));
-      room = kept.room;
-      counted = omega (arith, kept.counted, sum_by_push (λ j. j.text_len) jobs job);
-      within = light;
-      few = omega (arith, length-push jobs job);
-      filled = All-push IsFilled jobs job kept.filled (filled-idle job idle)
-    }
+    named = last ∙ ap (λ l. l ++ job.name ∷ []) kept.named ∙ sym (map-push (λ j. j.name) jobs job);
+    offered = λ slot i. kept.offered slot i ∙ sym (passes_at-push (λ j. lists (offer_of j.standing) slot) jobs job i (ap (λ s. lists (offer_of s) slot) idle));
+    claimed = λ slot i. kept.claimed slot i ∙ sym (passes_at-push (λ j. lists (claim_of j.standing) slot) jobs job i (ap (λ s. lists (claim_of s) slot) idle));
+    room = kept.room;
+    counted = omega (arith, kept.counted, sum_by_push (λ j. j.text_len) jobs job);
+    within = light;
+    few = omega (arith, length-push jobs job);
+    filled = All-push IsFilled jobs job kept.filled (filled-idle job idle);
+  }
 
 -- ---- why a job is not taken
 

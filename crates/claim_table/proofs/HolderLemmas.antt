@@ -38,11 +38,8 @@ enough_at (Standing.Claimed slots) n slot enough listed = enough (λ same. cc)
 pub claims_enough : (job : Job) (slot : ℕ) → IsFilled job → lists (claim_of job.standing) slot ≡ true → length (claim_of job.standing) ≡ wanted job.request
 claims_enough job slot filled listed = enough_at job.standing (wanted job.request) slot filled.enough listed
 
-pub wants_few : (request : Request) → wanted request ≤ 8
-wants_few request = let few = request.are_ports.few in omega arith
-
 -- the job that claims a slot lists it
 pub claimed_lists : (claims : List (Option ℕ)) (jobs : List Job) (slot i : ℕ) (job : Job) → AreNoted claim_of claims jobs → Some i ≡ claimed_by slot jobs → slice_get jobs i ≡ Some job → lists (claim_of job.standing) slot ≡ true
 claimed_lists claims jobs slot i job noted is at =
     noted-passes (λ j. lists (claim_of j.standing) slot) jobs (note_at claims slot) i job (noted slot)
-        (noted-position (λ j. lists (claim_of j.standing) slot) jobs (note_at claims slot) (noted slot) ∙ sym is) at
+    (noted-position (λ j. lists (claim_of j.standing) slot) jobs (note_at claims slot) (noted slot) ∙ sym is) at

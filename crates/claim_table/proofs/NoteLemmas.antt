@@ -16,7 +16,7 @@ same_number : (k : ℕ) → eqb k k ≡ true
 same_number k = grind (arith, nat_tests)
 
 -- the place of the first that passes, by recursion
-pub first_at : {A : Type 0} → (A → Bool) → List A → Option ℕ
+first_at : {A : Type 0} → (A → Bool) → List A → Option ℕ
 first_at test [] = None
 first_at test (x ∷ xs) = cond (test x) (Some 0) (option_map suc (first_at test xs))
 
@@ -32,7 +32,7 @@ position_later m n false is =
 position_now : (n : ℕ) → cond {A = Option ℕ} (ltb 0 (suc n)) (Some 0) None ≡ Some 0
 position_now n = let tested : ltb 0 (suc n) ≡ true = grind (arith, nat_tests) in ap (λ c. cond c (Some 0) None) tested
 
-pub position-first : {A : Type 0} (test : A → Bool) (xs : List A) → position test xs ≡ first_at test xs
+position-first : {A : Type 0} (test : A → Bool) (xs : List A) → position test xs ≡ first_at test xs
 unfolding first_at
 position-first test [] = refl
 position-first test (x ∷ xs) = by_test (test x) (position-first test xs)
@@ -100,13 +100,13 @@ passes_from test jobs i job at = ap (λ o. option_map_or test o false) at
 
 -- the job that the note names passes
 pub noted-passes : (test : Job → Bool) (jobs : List Job) (note : Option ℕ) (i : ℕ) (job : Job) → ((k : ℕ) → names note k ≡ passes_at test jobs k) → note ≡ Some i → slice_get jobs i ≡ Some job → test job ≡ true
-noted-passes test jobs note i job noted is at = sym (passes_from test jobs i job at) ∙ sym (noted i) ∙ ap (λ n. names n i) is ∙ same_number i
+noted-passes test jobs _ i job noted is at = sym (passes_from test jobs i job at) ∙ sym (noted i) ∙ ap (λ n. names n i) is ∙ same_number i
 
 pub noted-exclusive : (part : Standing → List ℕ) (notes : List (Option ℕ)) (jobs : List Job) → AreNoted part notes jobs → AreExclusive part jobs
 noted-exclusive part notes jobs noted = λ slot i j a b at_i at_j in_a in_b.
     one_named (note_at notes slot) i j
-        (noted slot i ∙ passes_from (λ job. lists (part job.standing) slot) jobs i a at_i ∙ in_a)
-        (noted slot j ∙ passes_from (λ job. lists (part job.standing) slot) jobs j b at_j ∙ in_b)
+    (noted slot i ∙ passes_from (λ job. lists (part job.standing) slot) jobs i a at_i ∙ in_a)
+    (noted slot j ∙ passes_from (λ job. lists (part job.standing) slot) jobs j b at_j ∙ in_b)
 
 -- ---- notes that are written
 
@@ -139,6 +139,7 @@ marked-everywhere notes later slots number same reached marked slot = by_place (
     by_listed : (b : Bool) → lists slots slot ≡ b → length notes ≤ slot → None ≡ cond b number None
     by_listed true listed past = absurd (omega (arith, listed_one (λ s. s < length notes) slots slot reached listed))
     by_listed false listed past = refl
+
     by_place : (slot < length notes) ⊎ (length notes ≤ slot) → note_at later slot ≡ cond (lists slots slot) number (note_at notes slot)
     by_place (inl within) = marked slot within
     by_place (inr past) =

@@ -17,7 +17,7 @@ IsCause fault refused = refused ≡ Some fault
 
 -- the one value of the answer that there is no job
 abbrev pub no_job : NoJob
-no_job = record { }
+no_job = record {}
 
 -- the list that a job gives back
 abbrev pub given_back : Standing → Result (List ℕ) JobFault

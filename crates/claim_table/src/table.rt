@@ -366,7 +366,11 @@ fn copy_of(alloc: Global, slots: &[usize]) -> Result<Slots, OutOfMemory>
 fn note(notes: &[Option<usize>], slot: usize) -> Option<usize>
     ensures { result ≡ note_at notes.now slot }
 {
-    if slot < notes.len() { notes[slot] } else { None }
+    if slot < notes.len() {
+        notes[slot]
+    } else {
+        None
+    }
 }
 
 // Puts a name and its job last. Memory is taken first.

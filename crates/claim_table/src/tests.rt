@@ -71,9 +71,18 @@ fn jobs_come_and_go(rt: HostRuntime) -> Result<(), Fail> {
     let alloc = rt.alloc();
     let mut table = with_job(alloc, single(alloc)?)?;
     assert_eq!(rt; table.submit(b"h", b"ann", single(alloc)?, 11), Ok(()));
-    assert_eq!(rt; table.submit(b"g", b"ann", single(alloc)?, 1), Err(SubmitFault::InUse));
-    assert_eq!(rt; table.submit(b"i", b"ann", single(alloc)?, 33_554_413), Err(SubmitFault::FullText));
-    assert_eq!(rt; table.submit(b"i", b"ann", single(alloc)?, 33_554_412), Ok(()));
+    assert_eq!(rt;
+        table.submit(b"g", b"ann", single(alloc)?, 1),
+        Err(SubmitFault::InUse)
+    );
+    assert_eq!(rt;
+        table.submit(b"i", b"ann", single(alloc)?, 33_554_413),
+        Err(SubmitFault::FullText)
+    );
+    assert_eq!(rt;
+        table.submit(b"i", b"ann", single(alloc)?, 33_554_412),
+        Ok(())
+    );
     assert_eq!(rt; table.text_len(), 33_554_432);
     assert_eq!(rt; table.remove(b"g").is_ok(), true);
     assert_eq!(rt; table.remove(b"g").is_ok(), false);
@@ -93,14 +102,14 @@ fn an_offer_is_given_back(rt: HostRuntime) -> Result<(), Fail> {
     assert_eq!(rt; table.state(b"g"), Some(JobState::Matched));
     assert_eq!(rt; table.slots(b"g"), [3, 5].as_slice());
     assert_eq!(rt; table.offered_to(5), Some(0));
-    assert_eq!(rt; table.offered(4), false);
+    assert!(rt; !table.offered(4));
     assert_eq!(rt; table.claimed_by(5), None);
-    assert_eq!(rt; table.holder(5).is_none(), true);
+    assert!(rt; table.holder(5).is_none());
     match table.release(b"g") {
         Ok(slots) => assert_eq!(rt; slots.as_slice(), [3, 5].as_slice()),
         Err(_) => assert!(rt; false),
     }
-    assert_eq!(rt; table.offered(5), false);
+    assert!(rt; !table.offered(5));
     match table.release(b"g") {
         Ok(_) => assert!(rt; false),
         Err(fault) => assert_eq!(rt; fault, JobFault::WrongState(JobState::Idle)),

@@ -19,10 +19,10 @@ invariant_of-self c =
     let same_offers : length c.put.new.notes.items ≡ length t.offers.items = omega (arith, c.put.ensures.len, c.put.new.notes.ok.0, t.offers.ok.0) in
     let same_claims : length c.put-2.new.notes.items ≡ length t.claims.items = omega (arith, c.put-2.ensures.len, c.put-2.new.notes.ok.0, t.claims.ok.0) in
     record {
-        kept = subst (λ s. IsKept t.names.keys (slice_set t.jobs.items c.args.i (record job { standing = s })) c.put.new.notes.items c.put-2.new.notes.items t.text) (sym c.replace-was.ensures.after)
-            (freed_kept t.names.keys t.jobs.items t.offers.items t.claims.items t.text t.kept c.args.i job at c.put.new.notes.items c.put-2.new.notes.items same_offers same_claims
-                (cleared-everywhere t.offers.items c.put.new.notes.items (offer_of job.standing) same_offers (λ slot within. c.put.ensures.notes slot (omega (arith, t.offers.ok.0)) ∙ ap (λ s. cond (lists s slot) None (note_at t.offers.items slot)) offer))
-                (cleared-everywhere t.claims.items c.put-2.new.notes.items (claim_of job.standing) same_claims (λ slot within. c.put-2.ensures.notes slot (omega (arith, t.claims.ok.0)) ∙ ap (λ s. cond (lists s slot) None (note_at t.claims.items slot)) claim)))
+      kept = subst (λ s. IsKept t.names.keys (slice_set t.jobs.items c.args.i (record job { standing = s })) c.put.new.notes.items c.put-2.new.notes.items t.text) (sym c.replace-was.ensures.after)
+          (freed_kept t.names.keys t.jobs.items t.offers.items t.claims.items t.text t.kept c.args.i job at c.put.new.notes.items c.put-2.new.notes.items same_offers same_claims
+          (cleared-everywhere t.offers.items c.put.new.notes.items (offer_of job.standing) same_offers (λ slot within. c.put.ensures.notes slot (omega (arith, t.offers.ok.0)) ∙ ap (λ s. cond (lists s slot) None (note_at t.offers.items slot)) offer))
+          (cleared-everywhere t.claims.items c.put-2.new.notes.items (claim_of job.standing) same_claims (λ slot within. c.put-2.ensures.notes slot (omega (arith, t.claims.ok.0)) ∙ ap (λ s. cond (lists s slot) None (note_at t.claims.items slot)) claim)));
     }
 
 pub returns-clause-slots : goal.returns-clause-slots

@@ -21,15 +21,15 @@ invariant_of-self-2 c =
     let room : length c.put.new.notes.items ≤ length c.widen.new.claims.items = omega (arith, same, c.widen.ensures.room, c.widen.new.claims.ok.0, wide.ok.0) in
     let reached : All (λ s. s < length wide.items) slots = All-weaker (λ s. s < vec_len wide) (λ s. s < length wide.items) (λ s less. omega (arith, wide.ok.0)) slots (subst (All (λ s. s < vec_len wide)) c.as_slice.ensures c.in_ok-widen.ensures.reached) in
     record {
-        kept = subst (λ s. IsKept t.names.keys (slice_set t.jobs.items i (record job { standing = s })) c.put.new.notes.items c.widen.new.claims.items t.text) (sym c.replace-idle.ensures.after)
-            (offered_kept t.names.keys t.jobs.items t.offers.items t.claims.items t.text t.kept i job at slots c.put.new.notes.items c.widen.new.claims.items
-                (value_at (λ j. j.standing) t.jobs.items i Standing.Idle job at c.requires.idle)
-                (value_at (λ j. wanted j.request) t.jobs.items i (length slots) job at c.requires.wanted)
-                c.requires.free c.requires.distinct room
-                (λ slot. marked-everywhere wide.items c.put.new.notes.items slots (Some i) same reached
-                    (λ other within. c.put.ensures.notes other (omega (arith, wide.ok.0)) ∙ ap (λ s. cond (lists s other) (Some i) (note_at wide.items other)) c.as_slice-2.ensures) slot
-                    ∙ ap (cond (lists slots slot) (Some i)) (c.widen.ensures.offers slot))
-                c.widen.ensures.claims)
+      kept = subst (λ s. IsKept t.names.keys (slice_set t.jobs.items i (record job { standing = s })) c.put.new.notes.items c.widen.new.claims.items t.text) (sym c.replace-idle.ensures.after)
+          (offered_kept t.names.keys t.jobs.items t.offers.items t.claims.items t.text t.kept i job at slots c.put.new.notes.items c.widen.new.claims.items
+          (value_at (λ j. j.standing) t.jobs.items i Standing.Idle job at c.requires.idle)
+          (value_at (λ j. wanted j.request) t.jobs.items i (length slots) job at c.requires.wanted)
+          c.requires.free c.requires.distinct room
+          (λ slot. marked-everywhere wide.items c.put.new.notes.items slots (Some i) same reached
+          (λ other within. c.put.ensures.notes other (omega (arith, wide.ok.0)) ∙ ap (λ s. cond (lists s other) (Some i) (note_at wide.items other)) c.as_slice-2.ensures) slot
+          ∙ ap (cond (lists slots slot) (Some i)) (c.widen.ensures.offers slot))
+          c.widen.ensures.claims);
     }
 
 pub returns-clause-ok : goal.returns-clause-ok

@@ -32,9 +32,9 @@ invariant_of-self-2 c =
     let job : Job = record { name = c.args.name.now; user = c.args.user.now; text_len = c.args.text_len; request = c.args.request; standing = Standing.Idle } in
     let entered = sym c.is_err.ensures.value ∙ c.if-is_err.false in
     record {
-        kept = subst (λ l. IsKept c.enter-entered.new.names.keys l t.offers.items t.claims.items (t.text + c.args.text_len)) (sym (ok_gives c.enter-entered.result c.enter-entered.ensures.jobs entered))
-            (entered_kept t.names.keys c.enter-entered.new.names.keys t.jobs.items t.offers.items t.claims.items t.text t.kept job refl
-                (ok_gives c.enter-entered.result c.enter-entered.ensures.names entered) (omega (arith, t.jobs.ok.0)) (omega (arith, c.saturating_add.ensures)))
+      kept = subst (λ l. IsKept c.enter-entered.new.names.keys l t.offers.items t.claims.items (t.text + c.args.text_len)) (sym (ok_gives c.enter-entered.result c.enter-entered.ensures.jobs entered))
+          (entered_kept t.names.keys c.enter-entered.new.names.keys t.jobs.items t.offers.items t.claims.items t.text t.kept job refl
+          (ok_gives c.enter-entered.result c.enter-entered.ensures.names entered) (omega (arith, t.jobs.ok.0)) (omega (arith, c.saturating_add.ensures)));
     }
 
 pub returns-clause-none : goal.returns-clause-none

@@ -1,5 +1,5 @@
 -- What the answers of the table say.
-use Rattle.std.specs.Prelude.{◌≡◌, ℕ, List, [], ◌∷◌, ◌++◌, slice_get, remove, Option, None, Some, Result, Ok, Err, option_map}
+use Rattle.std.specs.Prelude.{◌≡◌, ℕ, List, ◌++◌, slice_get, remove, Option, None, Some, Result, Ok, Err, option_map}
 use Rattle.std.specs.Option.{option_and_then, option_map_or, option_to_list}
 use Rattle.claim_table.specs.declared.answers.Freed.{Freed}
 use Rattle.claim_table.specs.declared.answers.JobFault.{JobFault}
@@ -8,7 +8,7 @@ use Rattle.claim_table.specs.declared.answers.NoJob.{NoJob}
 use Rattle.claim_table.specs.declared.answers.SubmitFault.{SubmitFault}
 use Rattle.claim_table.specs.declared.job.Job.{Job}
 use Rattle.claim_table.specs.declared.job.Standing.{Standing}
-use Rattle.claim_table.specs.Jobs.{claimed_by, job_named, numbered, offered_to, slots_of}
+use Rattle.claim_table.specs.Jobs.{claimed_by, job_named, offered_to, slots_of}
 
 -- the fault is the refusal; memory is asked for only where there is none
 abbrev pub IsCause : SubmitFault → Option SubmitFault → Type 0

@@ -1,4 +1,4 @@
-use Rattle.std.proofs.Common.{◌≡◌, ◌<◌, ◌+◌, ◌∙◌, All, arith, length, subst, sym, take, take_all, vec_len}
+use Rattle.std.proofs.Common.{◌<◌, ◌∙◌, All, arith, subst, take, take_all, vec_len}
 use Rattle.std.proofs.lemmas.List.Elements.{All-more, All-weaker}
 use Rattle.claim_table.proofs.notes.widen.Goals as goal
 

@@ -1,4 +1,4 @@
-use Rattle.std.proofs.Common.{◌≡◌, cond, length, refl, sym, subst, slice_get, slice_set, None, Some, ◌∙◌, ap, arith, vec_len, ◌<◌}
+use Rattle.std.proofs.Common.{◌≡◌, cond, length, refl, sym, subst, slice_get, slice_set, None, Some, ◌∙◌, ap, arith}
 use Rattle.std.specs.Prelude.{option_map}
 use Rattle.std.specs.Option.{option_map_or}
 use Rattle.std.proofs.lemmas.Option.{slice_get_read}

@@ -1,5 +1,4 @@
-use Rattle.std.proofs.Common.{◌≡◌, ◌+◌, ◌<◌, ◌≤◌, ◌∙◌, ◌∷◌, ◌++◌, [], arith, refl, subst, sym}
-use Rattle.std.specs.List.{list_any}
+use Rattle.std.proofs.Common.{◌+◌, ◌∙◌, arith, refl, subst, sym}
 use Rattle.claim_table.specs.declared.job.Job.{Job}
 use Rattle.claim_table.specs.declared.job.Standing.{Standing}
 use Rattle.claim_table.specs.Kept.{IsKept}

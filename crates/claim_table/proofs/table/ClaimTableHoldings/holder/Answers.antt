@@ -1,4 +1,4 @@
-use Rattle.std.proofs.Common.{◌≡◌, ◌∙◌, Some, ap, length, refl, slice_get, subst, sym, true}
+use Rattle.std.proofs.Common.{◌≡◌, ◌∙◌, Some, ap, length, refl, slice_get, true}
 use Rattle.std.proofs.lemmas.Option.{slice_get_read}
 use Rattle.claim_table.specs.Jobs.{IsFilled, claim_of, lists}
 use Rattle.claim_table.proofs.HolderLemmas.{All-found, claimed_lists, claims_enough, stands_at}

@@ -1,0 +1,44 @@
+-- Who holds a slot: it stands at its port, and there are as many slots as the request wants.
+use Rattle.std.proofs.Common.{◌≡◌, ◌≢◌, ℕ, zero, suc, ◌+◌, All, Bool, true, false, not, ◌||◌, cond, eqb, List, [], ◌∷◌, length, slice_get, Option, Some, refl, sym, ◌∙◌, ap, subst, arith}
+use Rattle.std.specs.List.{position_or_len}
+use Rattle.std.proofs.lemmas.Bool.Decides.{nat_tests}
+use Rattle.std.proofs.lemmas.List.Elements.{All-head, All-tail}
+use Rattle.claim_table.specs.declared.job.Job.{Job}
+use Rattle.claim_table.specs.declared.job.Standing.{Standing}
+use Rattle.claim_table.specs.Jobs.{IsFilled, claim_of, claimed_by, lists, slots_of, wanted}
+use Rattle.claim_table.specs.Kept.{AreNoted, note_at}
+use Rattle.claim_table.proofs.NoteLemmas.{noted-passes, noted-position}
+
+-- a slot stands at its first place
+pub stands_at : (slots : List ℕ) (slot : ℕ) → lists slots slot ≡ true → slice_get slots (position_or_len (λ s. eqb s slot) slots) ≡ Some slot
+stands_at [] slot listed = absurd (cc)
+stands_at (s ∷ slots) slot listed = by_slot (eqb s slot) refl listed (λ rest. stands_at slots slot rest)
+  where
+    by_slot : (b : Bool) → eqb s slot ≡ b → (b || lists slots slot) ≡ true
+        → (lists slots slot ≡ true → slice_get slots (position_or_len (λ t. eqb t slot) slots) ≡ Some slot)
+        → slice_get (s ∷ slots) (cond (not b) (1 + position_or_len (λ t. eqb t slot) slots) 0) ≡ Some slot
+    by_slot true here is later = let same : s ≡ slot = grind (arith, nat_tests) in ap (λ k. Some k) same
+    by_slot false here is later =
+        let next : 1 + position_or_len (λ t. eqb t slot) slots ≡ suc (position_or_len (λ t. eqb t slot) slots) = omega arith in
+        ap (slice_get (s ∷ slots)) next ∙ later is
+
+-- what holds of all jobs holds of each
+pub All-found : (P : Job → Type 0) (jobs : List Job) (i : ℕ) (job : Job) → All P jobs → slice_get jobs i ≡ Some job → P job
+All-found P [] i job all at = absurd (cc)
+All-found P (first ∷ jobs) zero job all at = let here : first ≡ job = cc in subst P here (All-head P first jobs all)
+All-found P (first ∷ jobs) (suc i) job all at = All-found P jobs i job (All-tail P first jobs all) at
+
+enough_at : (standing : Standing) (n slot : ℕ) → (standing ≢ Standing.Idle → length (slots_of standing) ≡ n) → lists (claim_of standing) slot ≡ true → length (claim_of standing) ≡ n
+enough_at Standing.Idle n slot enough listed = absurd (cc)
+enough_at (Standing.Matched slots) n slot enough listed = absurd (cc)
+enough_at (Standing.Claimed slots) n slot enough listed = enough (λ same. cc)
+
+-- a job that has claimed a slot has claimed as many as it wants
+pub claims_enough : (job : Job) (slot : ℕ) → IsFilled job → lists (claim_of job.standing) slot ≡ true → length (claim_of job.standing) ≡ wanted job.request
+claims_enough job slot filled listed = enough_at job.standing (wanted job.request) slot filled.enough listed
+
+-- the job that claims a slot lists it
+pub claimed_lists : (claims : List (Option ℕ)) (jobs : List Job) (slot i : ℕ) (job : Job) → AreNoted claim_of claims jobs → Some i ≡ claimed_by slot jobs → slice_get jobs i ≡ Some job → lists (claim_of job.standing) slot ≡ true
+claimed_lists claims jobs slot i job noted is at =
+    noted-passes (λ j. lists (claim_of j.standing) slot) jobs (note_at claims slot) i job (noted slot)
+    (noted-position (λ j. lists (claim_of j.standing) slot) jobs (note_at claims slot) (noted slot) ∙ sym is) at

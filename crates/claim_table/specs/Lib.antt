@@ -1,0 +1,5 @@
+pub mod Answers
+pub mod Holders
+pub mod Jobs
+pub mod Kept
+pub mod Table

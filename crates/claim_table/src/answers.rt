@@ -1,0 +1,55 @@
+// What the calls of the table answer.
+use pool_text::{Items, Slots, Text};
+use thiserror::Error;
+
+/// What becomes of a job between its submission and its removal.
+#[derive(Clone, Copy, Debug, PartialEq, Eq)]
+pub enum JobState {
+    Idle,
+    /// Resources are offered to it.
+    Matched,
+    /// It has claimed its resources.
+    Claimed,
+}
+
+/// Why a job was not taken.
+#[derive(Clone, Copy, Debug, PartialEq, Eq, Error)]
+pub enum SubmitFault {
+    /// A job of this name is there.
+    #[error("a job has this name")]
+    InUse,
+    /// There are 10,000 jobs.
+    #[error("the pool has as many jobs as it may")]
+    Full,
+    /// The texts of all jobs and this one are more than 33,554,432 bytes together.
+    #[error("the pool has as much text of jobs as it may")]
+    FullText,
+    #[error("out of memory")]
+    OutOfMemory,
+}
+
+/// Why a job gave nothing back.
+#[derive(Clone, Copy, Debug, PartialEq, Eq, Error)]
+pub enum JobFault {
+    #[error("no job has this name")]
+    NoJob,
+    /// The job's state is this one.
+    #[error("the job is {0:?}")]
+    WrongState(JobState),
+}
+
+/// No job has the name.
+#[derive(Clone, Copy, Debug, PartialEq, Eq, Error)]
+#[error("no job has this name")]
+pub struct NoJob;
+
+/// A job that lost its resources, with its user and the slots that it had.
+#[derive(Debug, Drop)]
+pub struct Freed {
+    pub job: Text,
+    pub user: Text,
+    pub slots: Slots,
+}
+
+/// A list of jobs that lost their resources.
+pub type FreedList = Items<Freed>;

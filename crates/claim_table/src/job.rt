@@ -1,0 +1,81 @@
+// A job, and how it stands.
+ghost use Rattle.std.specs.Prelude.{◌≡◌};
+ghost use Rattle.claim_table.specs.Jobs.{claim_of, offer_of, slots_of, state_of};
+
+use crate::JobState;
+use ad_tree::Request;
+use pool_text::{Slots, Text};
+use std::alloc::Global;
+use std::convert::AsSlice;
+
+/// A job, as the table holds it.
+#[derive(Debug, Drop)]
+pub struct Job {
+    pub name: Text,
+    pub user: Text,
+    pub text_len: u64,
+    pub request: Request,
+    pub standing: Standing,
+}
+
+/// How a job stands, with the slots that are offered to it or that it has claimed.
+#[derive(Debug, Drop)]
+pub enum Standing {
+    Idle,
+    Matched(Slots),
+    Claimed(Slots),
+}
+
+impl Standing {
+    pub(crate) fn state(&self) -> JobState
+        ensures { result ≡ state_of self.now }
+    {
+        match self {
+            Standing::Idle => JobState::Idle,
+            Standing::Matched(_) => JobState::Matched,
+            Standing::Claimed(_) => JobState::Claimed,
+        }
+    }
+
+    /// The slots that are offered.
+    pub(crate) fn offer(&self) -> &[usize]
+        ensures { result.now ≡ offer_of self.now }
+    {
+        match self {
+            Standing::Matched(slots) => slots.as_slice(),
+            _ => &[],
+        }
+    }
+
+    /// The slots that are claimed.
+    pub(crate) fn claim(&self) -> &[usize]
+        ensures { result.now ≡ claim_of self.now }
+    {
+        match self {
+            Standing::Claimed(slots) => slots.as_slice(),
+            _ => &[],
+        }
+    }
+
+    /// The slots, offered or claimed.
+    pub(crate) fn slots(&self) -> &[usize]
+        ensures { result.now ≡ slots_of self.now }
+    {
+        match self {
+            Standing::Idle => &[],
+            Standing::Matched(slots) => slots.as_slice(),
+            Standing::Claimed(slots) => slots.as_slice(),
+        }
+    }
+
+    /// The list itself.
+    pub(crate) fn into_slots(self, alloc: Global) -> Slots
+        ensures { result ≡ slots_of self }
+    {
+        match self {
+            Standing::Idle => Slots::new(alloc),
+            Standing::Matched(slots) => slots,
+            Standing::Claimed(slots) => slots,
+        }
+    }
+}

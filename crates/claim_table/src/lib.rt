@@ -1,0 +1,14 @@
+//! The jobs of a pool, and the resources that are offered to them and claimed by them.
+#![tactic(auto)]
+
+mod answers;
+mod job;
+mod notes;
+mod table;
+
+pub use answers::{Freed, FreedList, JobFault, JobState, NoJob, SubmitFault};
+pub use job::{Job, Standing};
+pub use table::ClaimTable;
+
+#[cfg(test)]
+mod tests;

@@ -1,0 +1,403 @@
+// The table of jobs.
+ghost use Rattle.std.specs.Prelude.{◌≡◌, ◌≢◌, ◌==◌, ◌<◌, ◌≤◌, ◌++◌, ◌∷◌, ℕ, [], All, AllPairs, false, bytes_eq, length, map, max, option_map, remove, slice_get, Err, IfSome, IfErr, IfOk, None, Ok, OnErr, OnOk, Some};
+ghost use Rattle.std.specs.List.{list_any, position_or_len};
+ghost use Rattle.claim_table.specs.declared.job.Standing.{Standing};
+ghost use Rattle.claim_table.specs.Answers.{IsCause, freed_at, freed_by, no_job, release_answer, without_at};
+ghost use Rattle.claim_table.specs.Kept.{IsKept, note_at};
+
+use crate::notes::{close_gap, put, widen};
+use crate::{Freed, FreedList, Job, JobFault, JobState, NoJob, Standing, SubmitFault};
+use ad_store::{Held, Holdings};
+use ad_tree::Request;
+use indexmap::IndexSet;
+use pool_text::{OutOfMemory, Slots, Text};
+use std::alloc::Global;
+use std::convert::AsSlice;
+use std::mem::replace;
+
+const JOBS_LIMIT: usize = 10_000;
+
+const TEXT_LIMIT: u64 = 33_554_432;
+
+/// The jobs in the order of their submission, each under a name of its own, and who is offered and has claimed what. A
+/// resource, named by its slot, is in at most one offer and in at most one claim.
+///
+/// A job is found by its name's hash, and by a slot at once; no look-up takes memory.
+#[derive(Debug, Drop)]
+pub struct ClaimTable {
+    alloc: Global,
+    names: IndexSet<Vec<u8>>,
+    jobs: Vec<Job>,
+    offers: Vec<Option<usize>>,
+    claims: Vec<Option<usize>>,
+    text: u64,
+    ghost kept: { IsKept names.keys jobs.items offers.items claims.items text },
+}
+
+impl ClaimTable {
+    ghost use Rattle.std.specs.Option.{option_map_or};
+    ghost use Rattle.claim_table.specs.Table.{jobs_of};
+    ghost use Rattle.claim_table.specs.Jobs.{AreExclusive, AreFree, AreNamedApart, IsFilled, claim_of, claimed_by, idle_at, job_named, jobs_limit, lost, numbered, offer_of, offered_to, refusal, slots_of, state_of, text_limit, text_of, wanted, with_standing};
+
+    /// A table without jobs, which takes no memory yet.
+    pub fn new(alloc: Global) -> ClaimTable
+        ensures { jobs_of result ≡ [] }
+    {
+        ClaimTable {
+            alloc,
+            names: IndexSet::new(alloc),
+            jobs: Vec::new(alloc),
+            offers: Vec::new(alloc),
+            claims: Vec::new(alloc),
+            text: 0,
+        }
+    }
+
+    /// How many jobs there are.
+    pub fn len(&self) -> usize
+        ensures len { result ≡ length (jobs_of self.now) }
+        ensures few { result ≤ jobs_limit }
+    {
+        self.jobs.len()
+    }
+
+    /// The length of the texts of all jobs together, in bytes.
+    pub fn text_len(&self) -> u64
+        ensures text { result ≡ text_of (jobs_of self.now) }
+        ensures within { result ≤ text_limit }
+    {
+        self.text
+    }
+
+    /// Takes a job that is idle, behind those that are there.
+    ///
+    /// `InUse` exactly where a job has the name, `Full` exactly where there are 10,000 jobs, `FullText` exactly where
+    /// the texts of all jobs and this one, of `text_len` bytes, are more than 33,554,432 bytes together; the first that
+    /// applies is answered. A job that isn't taken changes nothing.
+    pub fn submit(
+        &mut self,
+        name: &[u8],
+        user: &[u8],
+        request: Request,
+        text_len: u64,
+    ) -> Result<(), SubmitFault>
+        ensures ok { OnOk result (jobs_of self.new ≡ jobs_of self.old ++ (record { name = name.now; user = user.now; text_len = text_len; request = request; standing = Standing.Idle }) ∷ []) }
+        ensures none { OnOk result (refusal name.now text_len (jobs_of self.old) ≡ None) }
+        ensures cause { IfErr result (λ fault. IsCause fault (refusal name.now text_len (jobs_of self.old))) }
+        ensures err { OnErr result (jobs_of self.new ≡ jobs_of self.old) }
+    {
+        if self.names.get_index_of(name).is_some() {
+            return Err(SubmitFault::InUse);
+        }
+        if self.jobs.len() >= JOBS_LIMIT {
+            return Err(SubmitFault::Full);
+        }
+        if self.text.saturating_add(text_len) > TEXT_LIMIT {
+            return Err(SubmitFault::FullText);
+        }
+        let entered = enter(
+            self.alloc,
+            &mut self.names,
+            &mut self.jobs,
+            name,
+            user,
+            request,
+            text_len,
+        );
+        if entered.is_err() {
+            return Err(SubmitFault::OutOfMemory);
+        }
+        self.text += text_len;
+        Ok(())
+    }
+
+    // The number of the job of a name.
+    fn find(&self, name: &[u8]) -> Option<usize>
+        ensures number { result ≡ numbered name.now (jobs_of self.now) }
+        ensures within { IfSome result (λ i. i < length (jobs_of self.now)) }
+    {
+        self.names.get_index_of(name)
+    }
+
+    /// The state of the job of a name, `None` exactly where there is none.
+    pub fn state(&self, name: &[u8]) -> Option<JobState>
+        ensures { result ≡ option_map (λ job. state_of job.standing) (job_named name.now (jobs_of self.now)) }
+    {
+        match self.find(name) {
+            Some(i) => Some(self.jobs[i].standing.state()),
+            None => None,
+        }
+    }
+
+    /// The slots of the job of a name, offered or claimed; none where it is idle or isn't there.
+    pub fn slots(&self, name: &[u8]) -> &[usize]
+        ensures { result.now ≡ option_map_or (λ job. slots_of job.standing) (job_named name.now (jobs_of self.now)) [] }
+    {
+        match self.find(name) {
+            Some(i) => self.jobs[i].standing.slots(),
+            None => &[],
+        }
+    }
+
+    /// The number of the job that a slot is offered to.
+    pub fn offered_to(&self, slot: usize) -> Option<usize>
+        ensures number { result ≡ offered_to slot (jobs_of self.now) }
+        ensures within { IfSome result (λ i. i < length (jobs_of self.now)) }
+    {
+        note(&self.offers, slot)
+    }
+
+    /// The number of the job that has claimed a slot.
+    pub fn claimed_by(&self, slot: usize) -> Option<usize>
+        ensures number { result ≡ claimed_by slot (jobs_of self.now) }
+        ensures within { IfSome result (λ i. i < length (jobs_of self.now)) }
+    {
+        note(&self.claims, slot)
+    }
+
+    /// Law: no two jobs are offered one slot, no two have claimed one, and no job lists one twice.
+    pub fn resources_are_apart(&self)
+        ensures offers { AreExclusive offer_of (jobs_of self.now) }
+        ensures claims { AreExclusive claim_of (jobs_of self.now) }
+        ensures filled { All IsFilled (jobs_of self.now) }
+    {}
+
+    /// Law: no two jobs have one name.
+    pub fn names_are_apart(&self)
+        ensures { AreNamedApart (jobs_of self.now) }
+    {
+        // The set's length comes with the fact that its keys differ.
+        let _len = self.names.len();
+    }
+
+    /// Offers slots to job `i`, which is idle; they are as many as it wants, no two of them are one, and none is offered.
+    /// Memory is taken first.
+    pub fn offer(&mut self, i: usize, slots: Slots) -> Result<(), OutOfMemory>
+        requires idle { option_map (λ job. job.standing) (slice_get (jobs_of self.old) i) ≡ Some Standing.Idle }
+        requires free { AreFree slots (jobs_of self.old) }
+        requires distinct { AllPairs (λ a b. a ≢ b) slots }
+        requires wanted { option_map (λ job. wanted job.request) (slice_get (jobs_of self.old) i) ≡ Some (length slots) }
+        ensures ok { OnOk result (jobs_of self.new ≡ with_standing (jobs_of self.old) i (Standing.Matched slots)) }
+        ensures err { OnErr result (jobs_of self.new ≡ jobs_of self.old) }
+    {
+        widen(&mut self.offers, &mut self.claims, slots.as_slice())?;
+        put(&mut self.offers, slots.as_slice(), Some(i));
+        let _idle = replace(&mut self.jobs[i].standing, Standing::Matched(slots));
+        Ok(())
+    }
+
+    // Makes job `i` idle and hands back its slots.
+    fn free(&mut self, i: usize) -> Slots
+        requires { i < length (jobs_of self.old) }
+        ensures slots { option_map (λ job. slots_of job.standing) (slice_get (jobs_of self.old) i) ≡ Some result }
+        ensures jobs { jobs_of self.new ≡ with_standing (jobs_of self.old) i Standing.Idle }
+    {
+        let was = replace(&mut self.jobs[i].standing, Standing::Idle);
+        put(&mut self.offers, was.offer(), None);
+        put(&mut self.claims, was.claim(), None);
+        was.into_slots(self.alloc)
+    }
+
+    // Takes out job `i`, which is idle.
+    fn take_out(&mut self, i: usize)
+        requires { option_map (λ job. job.standing) (slice_get (jobs_of self.old) i) ≡ Some Standing.Idle }
+        ensures { jobs_of self.new ≡ remove (jobs_of self.old) i }
+    {
+        self.names.shift_remove_index(i);
+        let job = self.jobs.remove(i);
+        close_gap(&mut self.offers, i);
+        close_gap(&mut self.claims, i);
+        self.text -= job.text_len;
+    }
+
+    /// Makes a matched or claimed job idle, and hands back its slots. `WrongState` exactly where it is idle, `NoJob`
+    /// exactly where there is none of the name.
+    pub fn release(&mut self, name: &[u8]) -> Result<Slots, JobFault>
+        ensures answer { result ≡ release_answer name.now (jobs_of self.old) }
+        ensures ok { OnOk result (jobs_of self.new ≡ idle_at (numbered name.now (jobs_of self.old)) (jobs_of self.old)) }
+        ensures err { OnErr result (jobs_of self.new ≡ jobs_of self.old) }
+    {
+        let Some(i) = self.find(name) else {
+            return Err(JobFault::NoJob);
+        };
+        if self.jobs[i].standing.state() == JobState::Idle {
+            return Err(JobFault::WrongState(JobState::Idle));
+        }
+        Ok(self.free(i))
+    }
+
+    /// Takes out the job of a name, in any state, and hands back its slots. `NoJob` exactly where there is none.
+    pub fn remove(&mut self, name: &[u8]) -> Result<Slots, NoJob>
+        ensures answer { result ≡ option_map_or (λ job. Ok (slots_of job.standing)) (job_named name.now (jobs_of self.old)) (Err no_job) }
+        ensures jobs { jobs_of self.new ≡ without_at (numbered name.now (jobs_of self.old)) (jobs_of self.old) }
+    {
+        let Some(i) = self.find(name) else {
+            return Err(NoJob);
+        };
+        let slots = self.free(i);
+        self.take_out(i);
+        Ok(slots)
+    }
+
+    /// Ends the claim and then the offer that name a slot, whose resource leaves: each such job becomes idle with all
+    /// its slots freed, and is told in the list as it stood.
+    pub fn lose(&mut self, slot: usize) -> Result<FreedList, OutOfMemory>
+        ensures freed { IfOk result (λ list. list ≡ freed_by slot (jobs_of self.old)) }
+        ensures ok { OnOk result (jobs_of self.new ≡ lost slot (jobs_of self.old)) }
+        ensures err { OnErr result (jobs_of self.new ≡ jobs_of self.old) }
+    {
+        let claimed = self.claimed_by(slot);
+        let offered = self.offered_to(slot);
+        let mut freed = FreedList::new(self.alloc);
+        self.tell(claimed, &mut freed)?;
+        self.tell(offered, &mut freed)?;
+        self.make_idle(claimed);
+        self.make_idle(offered);
+        Ok(freed)
+    }
+
+    // Adds the job of a number, where there is one, to a list of those that lose their slots.
+    fn tell(&self, number: Option<usize>, freed: &mut FreedList) -> Result<(), OutOfMemory>
+        requires { IfSome number (λ i. i < length (jobs_of self.now)) }
+        ensures { OnOk result (freed.new ≡ freed.old ++ freed_at number (jobs_of self.now)) }
+    {
+        let Some(i) = number else {
+            return Ok(());
+        };
+        let job = &self.jobs[i];
+        freed.push(Freed {
+            job: job.name.copy()?,
+            user: job.user.copy()?,
+            slots: copy_of(self.alloc, job.standing.slots())?,
+        })
+    }
+
+    // Makes the job of a number idle, where there is one.
+    fn make_idle(&mut self, number: Option<usize>)
+        requires { IfSome number (λ i. i < length (jobs_of self.old)) }
+        ensures jobs { jobs_of self.new ≡ idle_at number (jobs_of self.old) }
+        ensures len { length (jobs_of self.new) ≡ length (jobs_of self.old) }
+    {
+        if let Some(i) = number {
+            let _slots = self.free(i);
+        }
+    }
+
+    /// The name of job `i`, counted from 0 in the order of submission.
+    pub fn job(&self, i: usize) -> &Text
+        requires { i < length (jobs_of self.now) }
+        ensures { option_map (λ job. job.name) (slice_get (jobs_of self.now) i) ≡ Some result.now }
+    {
+        &self.jobs[i].name
+    }
+
+    /// The user of job `i`.
+    pub fn user(&self, i: usize) -> &Text
+        requires { i < length (jobs_of self.now) }
+        ensures { option_map (λ job. job.user) (slice_get (jobs_of self.now) i) ≡ Some result.now }
+    {
+        &self.jobs[i].user
+    }
+
+    /// The request of job `i`.
+    pub fn request(&self, i: usize) -> &Request
+        requires { i < length (jobs_of self.now) }
+        ensures { option_map (λ job. job.request) (slice_get (jobs_of self.now) i) ≡ Some result.now }
+    {
+        &self.jobs[i].request
+    }
+}
+
+impl Holdings for ClaimTable {
+    ghost use Rattle.std.specs.Prelude.{is_some};
+    ghost use Rattle.claim_table.specs.Holders.{holder_of};
+    ghost use Rattle.claim_table.specs.Jobs.{offered_to};
+    ghost use Rattle.claim_table.specs.Table.{jobs_of};
+
+    ghost is_offered = { λ table slot. is_some (offered_to slot (jobs_of table)) };
+
+    ghost holding = { λ table slot. holder_of (jobs_of table) slot };
+
+    fn offered(&self, slot: usize) -> bool {
+        self.offered_to(slot).is_some()
+    }
+
+    fn holder(&self, slot: usize) -> Option<Held<'_>> {
+        let Some(i) = self.claimed_by(slot) else {
+            return None;
+        };
+        let job = &self.jobs[i];
+        let slots = job.standing.claim();
+        Some(Held {
+            request: &job.request,
+            slots,
+            port: port_of(slots, slot),
+        })
+    }
+}
+
+// The first place of a slot among those of a job.
+fn port_of(slots: &[usize], slot: usize) -> u32
+    requires { length slots.now ≤ 8 }
+    ensures { result ≡ position_or_len (λ s. s == slot) slots.now }
+{
+    let mut port = 0;
+    for other in slots {
+        if *other == slot {
+            return port;
+        }
+        port += 1;
+    }
+    port
+}
+
+// A list with these slots.
+fn copy_of(alloc: Global, slots: &[usize]) -> Result<Slots, OutOfMemory>
+    ensures { IfOk result (λ list. list ≡ slots.now) }
+{
+    let mut list = Slots::new(alloc);
+    for slot in slots {
+        list.push(*slot)?;
+    }
+    Ok(list)
+}
+
+// The note at a slot.
+fn note(notes: &[Option<usize>], slot: usize) -> Option<usize>
+    ensures { result ≡ note_at notes.now slot }
+{
+    if slot < notes.len() {
+        notes[slot]
+    } else {
+        None
+    }
+}
+
+// Puts a name and its job last. Memory is taken first.
+fn enter(
+    alloc: Global,
+    names: &mut IndexSet<Vec<u8>>,
+    jobs: &mut Vec<Job>,
+    name: &[u8],
+    user: &[u8],
+    request: Request,
+    text_len: u64,
+) -> Result<(), OutOfMemory>
+    requires { list_any (λ key. bytes_eq name.now key.items) names.old.keys ≡ false }
+    ensures names { OnOk result (map (λ key. key.items) names.new.keys ≡ map (λ key. key.items) names.old.keys ++ name.now ∷ []) }
+    ensures jobs { OnOk result (jobs.new.items ≡ jobs.old.items ++ (record { name = name.now; user = user.now; text_len = text_len; request = request; standing = Standing.Idle }) ∷ []) }
+    ensures err { OnErr result ((names.new.keys ≡ names.old.keys) × (jobs.new.items ≡ jobs.old.items)) }
+{
+    let job = Job {
+        name: Text::from_bytes(alloc, name)?,
+        user: Text::from_bytes(alloc, user)?,
+        text_len,
+        request,
+        standing: Standing::Idle,
+    };
+    let key = Vec::from_slice(alloc, name)?;
+    jobs.reserve(1)?;
+    names.insert(key)?;
+    jobs.push_reserved(job);
+    Ok(())
+}

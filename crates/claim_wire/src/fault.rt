@@ -1,0 +1,39 @@
+// Why an event or a line is refused.
+ghost use Rattle.std.specs.Prelude.{◌≡◌};
+ghost use Rattle.claim_wire.specs.declared.fault.WireFault.TheVariants as faults;
+
+use pool_text::OutOfMemory;
+
+/// Why an event doesn't happen.
+#[derive(Clone, Copy, Debug, PartialEq, Eq)]
+pub enum WireFault {
+    /// A customer asks that isn't idle.
+    NotIdle,
+    /// A customer leaves that is idle or leaves already.
+    NothingToLeave,
+    /// A customer sends again that is idle or holds its claim.
+    NothingToSend,
+    /// No message has the number.
+    NoMessage,
+    /// More than 999,998 messages were sent.
+    TooMany,
+    /// The system gave no memory.
+    OutOfMemory,
+}
+
+impl From<OutOfMemory> for WireFault {
+    ghost from_gives = { λ _ fault. fault ≡ faults.OutOfMemory };
+
+    fn from(_: OutOfMemory) -> Self {
+        WireFault::OutOfMemory
+    }
+}
+
+/// Why a line names no event.
+#[derive(Clone, Copy, Debug, PartialEq, Eq)]
+pub enum LineFault {
+    /// The first word is none that a line may begin with.
+    Unknown,
+    /// The other words are wrong.
+    Words,
+}

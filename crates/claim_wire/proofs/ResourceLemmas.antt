@@ -10,7 +10,7 @@ use Rattle.claim_wire.specs.declared.message.MessageKind.{MessageKind}
 use Rattle.claim_wire.specs.declared.message.MessageKind.TheVariants as kinds
 use Rattle.claim_wire.specs.Customers.{CustomerState}
 use Rattle.claim_wire.specs.Facts.{Facts, IsHeldOrFreed, IsRequest, leave_message}
-use Rattle.claim_wire.specs.Resources.{ResourceState, Change, freed_in, freed_of, raised, claim_of, answer, grant, silent, one, is_claim, ask, ask_by, put_waiting, is_freed, holds_freed, first_of, next_holder, next_grant, freeing, without, leave, leave_by, restart}
+use Rattle.claim_wire.specs.Resources.{ResourceState, Change, freed_in, freed_of, raised, claim_of, answer, grant, silent, one, is_claim, ask, ask_by, put_waiting, is_freed, holds_freed, first_of, next_holder, next_grant, freeing, without, leave, leave_by, take, take_by, restart}
 use Rattle.claim_wire.specs.Wires.{WireState, at, put, answers_of}
 use Rattle.claim_wire.proofs.ListLemmas.{put-cases, at-some, answers-cases, raised-cases, raised-most, length-raised}
 
@@ -233,3 +233,35 @@ module _ (sent : List Message) (r : ResourceState) (m : Message) (kind : m.kind 
 
 pub restart-keeps : (sent : List Message) (r : ResourceState) → Keeps sent r (restart r) silent
 restart-keeps sent r = record { same = refl; granted = λ m held. held; freed = λ c. inl refl; sized = refl; fair = λ m sends. none-fair r (restart r) m sends }
+
+-- ---- a resource has a number for each of its customers
+
+either-freed : (b : Bool) (x y : Change) (n : ℕ) → length x.0.freed ≡ n → length y.0.freed ≡ n → length (cond b x y).0.freed ≡ n
+either-freed true x y n a b = a
+either-freed false x y n a b = b
+
+length-asked : (holder : Option Holder) (m : Message) (r : ResourceState) → length (ask_by holder m r).0.freed ≡ length r.freed
+length-asked None m r = refl
+length-asked (Some h) m r = refl
+
+length-ask : (m : Message) (r : ResourceState) → length (ask m r).0.freed ≡ length r.freed
+length-ask m r =
+    let granted : Change = (r, one (grant r.id (claim_of m))) in
+    let asked : Change = ask_by r.holder m r in
+    either-freed (leb m.number (freed_of r m.customer)) (r, one (answer kinds.Gone m)) (cond (is_claim r.holder (claim_of m)) granted asked) (length r.freed) refl
+    (either-freed (is_claim r.holder (claim_of m)) granted asked (length r.freed) refl (length-asked r.holder m r))
+
+length-leave : (m : Message) (r : ResourceState) → length (leave m r).0.freed ≡ length r.freed
+length-leave m r =
+    let left : ResourceState = freeing m r in
+    let size = length-raised r.freed m.customer m.number in
+    either-freed (holds_freed left.freed m.customer left.holder) (next_holder left, record { first = Some (answer kinds.Gone m); second = next_grant left }) (left, one (answer kinds.Gone m)) (length r.freed) size size
+
+length-taken : (kind : MessageKind) (m : Message) (r : ResourceState) → length (take_by kind m r).0.freed ≡ length r.freed
+length-taken kinds.Ask m r = length-ask m r
+length-taken kinds.Leave m r = length-leave m r
+length-taken kinds.Grant m r = refl
+length-taken kinds.Gone m r = refl
+
+pub length-take : (m : Message) (r : ResourceState) → length (take m r).0.freed ≡ length r.freed
+length-take m r = length-taken m.kind m r

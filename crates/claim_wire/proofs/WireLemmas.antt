@@ -11,7 +11,7 @@ use Rattle.claim_wire.specs.declared.message.MessageKind.{MessageKind}
 use Rattle.claim_wire.specs.declared.message.MessageKind.TheVariants as kinds
 use Rattle.claim_wire.specs.Customers as customer
 use Rattle.claim_wire.specs.Customers.{CustomerState, Move, new_customer}
-use Rattle.claim_wire.specs.Facts.{Facts, IsAway, IsPast, IsTargeted, IsHeldOrFreed, IsSafe, HasOneHolder, leave_message, grant_message}
+use Rattle.claim_wire.specs.Facts.{Facts, IsAway, IsPast, IsTargeted, IsHeldOrFreed, IsRequest, IsSafe, HasOneHolder, leave_message, grant_message}
 use Rattle.claim_wire.specs.Resources as resource
 use Rattle.claim_wire.specs.Resources.{ResourceState, Change, freed_in, freed_of, new_resource, silent, zeros}
 use Rattle.claim_wire.specs.Wires.{WireState, at, with_customer, moved, with_resource, changed, comes, comes_by, happens, fault_of, step, run, new_wire, new_customers, new_resources}
@@ -56,9 +56,21 @@ contains-at [] i x is = absurd (cc)
 contains-at (y ∷ ys) zero x is = let same : y ≡ x = cc in (0, omega arith, same)
 contains-at (y ∷ ys) (suc i) x is = let there = contains-at ys i x is in (suc there.0, omega (arith, there.1), there.2)
 
-at-contains : {A : Type 0} (xs : List A) (n : ℕ) (x : A) → at xs n ≡ Some x → Contains xs x
+pub at-contains : {A : Type 0} (xs : List A) (n : ℕ) (x : A) → at xs n ≡ Some x → Contains xs x
 at-contains xs zero x is = absurd (cc)
 at-contains xs (suc i) x is = contains-at xs i x is
+
+pub given-facts : (w : WireState) (m : Message) → Facts w → Contains w.sent m → Facts (with_customer m.customer (λ s. (customer.take m s, None)) w)
+given-facts w m facts has = with_customer-facts w m.customer (λ s. (customer.take m s, None)) facts (λ s to. moves.take-keeps w.sent s m (sym to) has)
+
+pub requested-facts : (w : WireState) (m : Message) → Facts w → Contains w.sent m → IsRequest m.kind → Facts (with_resource m.resource (resource.take m) w)
+requested-facts w m facts has request = by m.kind refl
+  where
+    by : (kind : MessageKind) → m.kind ≡ kind → Facts (with_resource m.resource (resource.take m) w)
+    by kinds.Ask is = comes-by w m kinds.Ask facts has is
+    by kinds.Leave is = comes-by w m kinds.Leave facts has is
+    by kinds.Grant is = absurd (subst IsRequest is request)
+    by kinds.Gone is = absurd (subst IsRequest is request)
 
 comes-facts : (w : WireState) (n : ℕ) → Facts w → (o : Option Message) → at w.sent n ≡ o → Facts (comes o w)
 comes-facts w n facts None is = facts
@@ -92,11 +104,11 @@ last-at [] x y (suc j) is = absurd (cc)
 last-at (z ∷ zs) x y zero is = inr is
 last-at (z ∷ zs) x y (suc j) is = elim (last-at zs x y j is) [ inl here ↦ inl (omega (arith, here.0), here.1) | inr other ↦ inr other ]
 
-new_customers-length : (n : ℕ) → length (new_customers n) ≡ n
+pub new_customers-length : (n : ℕ) → length (new_customers n) ≡ n
 new_customers-length zero = refl
 new_customers-length (suc n) = omega (arith, new_customers-length n, length-append (new_customers n) (new_customer (suc n) ∷ []))
 
-new_resources-length : (customers n : ℕ) → length (new_resources customers n) ≡ n
+pub new_resources-length : (customers n : ℕ) → length (new_resources customers n) ≡ n
 new_resources-length customers zero = refl
 new_resources-length customers (suc n) = omega (arith, new_resources-length customers n, length-append (new_resources customers n) (new_resource customers (suc n) ∷ []))
 

@@ -1,8 +1,4 @@
 // Why an event or a line is refused.
-ghost use Rattle.std.specs.Prelude.{◌≡◌};
-ghost use Rattle.claim_wire.specs.declared.fault.WireFault.TheVariants as faults;
-
-use pool_text::OutOfMemory;
 
 /// Why an event doesn't happen.
 #[derive(Clone, Copy, Debug, PartialEq, Eq)]
@@ -19,14 +15,6 @@ pub enum WireFault {
     TooMany,
     /// The system gave no memory.
     OutOfMemory,
-}
-
-impl From<OutOfMemory> for WireFault {
-    ghost from_gives = { λ _ fault. fault ≡ faults.OutOfMemory };
-
-    fn from(_: OutOfMemory) -> Self {
-        WireFault::OutOfMemory
-    }
 }
 
 /// Why a line names no event.

@@ -1,17 +1,28 @@
 // The event that a line of a schedule names.
-ghost use Rattle.std.specs.Prelude.{◌≡◌, IfOk, IfSome};
+ghost use Rattle.std.specs.Prelude.{◌≡◌, Some, IfOk, IfSome};
 ghost use Rattle.claim_wire.specs.Lines as lines;
-ghost use Rattle.claim_wire.specs.Wires.{IsNamed};
-ghost use Rattle.pool_text.specs.Number.{number_of};
+ghost use Rattle.claim_wire.specs.Wires.{IsNamed, IsNumber};
 
 use crate::event::Event;
 use crate::fault::LineFault;
 use pool_text::{past_blanks, read_number, word_of, words_behind};
 
-/// The event that a line names, its line feed and the carriage return before it left out: none exactly where it has no
-/// words or its first word begins with `#`. Words are divided by spaces and tabs. `Unknown` comes exactly where the first
-/// word isn't one of `ask C R`, `again C`, `leave C`, `deliver M`, `restart customer C`, `restart resource R` and `show`,
-/// and `Words` exactly where the others are not those of that line, or an id is none from 1 to the number of its ends.
+/// The words that a line may begin with.
+#[derive(Clone, Copy, Debug)]
+pub(crate) enum Verb {
+    Ask,
+    Again,
+    Leave,
+    Deliver,
+    Restart,
+    Show,
+}
+
+/// The event that a line names, without its line feed and the carriage return before it: none exactly where it has no
+/// words or its first word begins with `#`. Words are divided by spaces and tabs. The lines are `ask C R`, `again C`,
+/// `leave C`, `deliver M`, `restart customer C`, `restart resource R` and `show`. `Unknown` comes exactly where the first
+/// word begins none of them, else `Words` exactly where the other words aren't those of the line, a number isn't decimal
+/// or exceeds 64 bits, or an id isn't one of the customers or resources, which count from 1.
 pub fn read_event(
     line: &[u8],
     resources: u32,
@@ -21,35 +32,64 @@ pub fn read_event(
     ensures named { IfOk result (λ event. IfSome event (λ named. IsNamed resources customers named)) }
 {
     let text = past_blanks(line);
-    if text.is_empty() || text[0] == b'#' {
+    if text.len() == 0 || text[0] == b'#' {
         return Ok(None);
     }
-    event_by(resources, customers, word_of(text), words_behind(text))
+    match verb_of(word_of(text)) {
+        None => Err(LineFault::Unknown),
+        Some(verb) => match event_by(resources, customers, verb, words_behind(text)) {
+            None => Err(LineFault::Words),
+            Some(event) => Ok(Some(event)),
+        },
+    }
 }
 
-fn event_by(
-    resources: u32,
-    customers: u32,
-    word: &[u8],
-    words: &[u8],
-) -> Result<Option<Event>, LineFault>
-    ensures { result ≡ lines.event_by resources customers word.now words.now }
+/// The verb that a word spells exactly.
+fn verb_of(word: &[u8]) -> Option<Verb>
+    ensures { result ≡ lines.verb_of word.now }
 {
-    let event = match word {
-        b"ask" => ask(resources, customers, words),
-        b"again" => sole_id(customers, words).map(Event::Again),
-        b"leave" => sole_id(customers, words).map(Event::Leave),
-        b"deliver" => sole_number(words).map(Event::Deliver),
-        b"restart" => restart(resources, customers, words),
-        b"show" => show(words),
-        _ => return Err(LineFault::Unknown),
-    };
-    event.map(Some).ok_or(LineFault::Words)
+    if word == b"ask".as_slice() {
+        Some(Verb::Ask)
+    } else if word == b"again".as_slice() {
+        Some(Verb::Again)
+    } else if word == b"leave".as_slice() {
+        Some(Verb::Leave)
+    } else if word == b"deliver".as_slice() {
+        Some(Verb::Deliver)
+    } else if word == b"restart".as_slice() {
+        Some(Verb::Restart)
+    } else if word == b"show".as_slice() {
+        Some(Verb::Show)
+    } else {
+        None
+    }
+}
+
+/// The event of a verb and the words behind it.
+fn event_by(resources: u32, customers: u32, verb: Verb, words: &[u8]) -> Option<Event>
+    ensures event { result ≡ lines.event_by resources customers verb words.now }
+    ensures named { IfSome result (λ named. IsNamed resources customers named) }
+{
+    match verb {
+        Verb::Ask => ask(resources, customers, words),
+        Verb::Again => Some(Event::Again(sole_id(customers, words)?)),
+        Verb::Leave => Some(Event::Leave(sole_id(customers, words)?)),
+        Verb::Deliver => Some(Event::Deliver(sole_number(words)?)),
+        Verb::Restart => restart(resources, customers, words),
+        Verb::Show => {
+            if words.is_empty() {
+                Some(Event::Show)
+            } else {
+                None
+            }
+        }
+    }
 }
 
 /// The id that a word writes, from 1 to the most.
 fn id_of(most: u32, word: &[u8]) -> Option<u32>
-    ensures { result ≡ lines.id_of most word.now }
+    ensures id { result ≡ lines.id_of most word.now }
+    ensures within { IfSome result (λ id. IsNumber most id) }
 {
     let number = read_number(word)?;
     if 1 <= number && number <= u64::from(most) {
@@ -61,7 +101,8 @@ fn id_of(most: u32, word: &[u8]) -> Option<u32>
 
 /// The id that the only word writes.
 fn sole_id(most: u32, words: &[u8]) -> Option<u32>
-    ensures { result ≡ lines.sole (lines.id_of most) words.now }
+    ensures id { result ≡ lines.sole_id most words.now }
+    ensures within { IfSome result (λ id. IsNumber most id) }
 {
     if !words_behind(words).is_empty() {
         return None;
@@ -71,7 +112,7 @@ fn sole_id(most: u32, words: &[u8]) -> Option<u32>
 
 /// The number that the only word writes.
 fn sole_number(words: &[u8]) -> Option<u64>
-    ensures { result ≡ lines.sole number_of words.now }
+    ensures { result ≡ lines.sole_number words.now }
 {
     if !words_behind(words).is_empty() {
         return None;
@@ -80,7 +121,8 @@ fn sole_number(words: &[u8]) -> Option<u64>
 }
 
 fn ask(resources: u32, customers: u32, words: &[u8]) -> Option<Event>
-    ensures { result ≡ lines.asked resources customers words.now }
+    ensures event { result ≡ lines.asked resources customers words.now }
+    ensures named { IfSome result (λ named. IsNamed resources customers named) }
 {
     let customer = id_of(customers, word_of(words))?;
     let resource = sole_id(resources, words_behind(words))?;
@@ -88,18 +130,16 @@ fn ask(resources: u32, customers: u32, words: &[u8]) -> Option<Event>
 }
 
 fn restart(resources: u32, customers: u32, words: &[u8]) -> Option<Event>
-    ensures { result ≡ lines.restarted resources customers words.now }
+    ensures event { result ≡ lines.restarted resources customers words.now }
+    ensures named { IfSome result (λ named. IsNamed resources customers named) }
 {
+    let end = word_of(words);
     let behind = words_behind(words);
-    match word_of(words) {
-        b"customer" => sole_id(customers, behind).map(Event::RestartCustomer),
-        b"resource" => sole_id(resources, behind).map(Event::RestartResource),
-        _ => None,
+    if end == b"customer".as_slice() {
+        Some(Event::RestartCustomer(sole_id(customers, behind)?))
+    } else if end == b"resource".as_slice() {
+        Some(Event::RestartResource(sole_id(resources, behind)?))
+    } else {
+        None
     }
-}
-
-fn show(words: &[u8]) -> Option<Event>
-    ensures { result ≡ lines.shown words.now }
-{
-    words.is_empty().then_some(Event::Show)
 }

@@ -65,6 +65,7 @@ impl Resource {
         requires customer { (0 < m.now.customer) × (m.now.customer ≤ length self.old.freed) }
         ensures sent { result ≡ (spec.take m.now self.old).1 }
         ensures new { self.new ≡ (spec.take m.now self.old).0 }
+        ensures customers { length self.new.freed ≡ length self.old.freed }
     {
         let answers = self.answers(m);
         self.change(m);
@@ -104,12 +105,20 @@ impl Resource {
         self.waiting.clear();
     }
 
+    /// Whether the claim of a message is freed.
+    fn is_past(&self, m: &Message) -> bool
+        requires customer { (0 < m.now.customer) × (m.now.customer ≤ length self.now.freed) }
+        ensures { result ≡ nat_le m.now.number (spec.freed_of self.now m.now.customer) }
+    {
+        m.number <= self.freed[m.customer as usize - 1]
+    }
+
     fn ask_answers(&self, m: &Message) -> Answers
         requires customer { (0 < m.now.customer) × (m.now.customer ≤ length self.now.freed) }
         ensures { result ≡ (spec.ask m.now self.now).1 }
     {
         let claim = claim_of(m);
-        if m.number <= self.freed[m.customer as usize - 1] {
+        if self.is_past(m) {
             return one(answer(MessageKind::Gone, m));
         }
         match self.holder {
@@ -128,7 +137,7 @@ impl Resource {
         ensures { self.new ≡ (spec.ask m.now self.old).0 }
     {
         let claim = claim_of(m);
-        if m.number <= self.freed[m.customer as usize - 1] {
+        if self.is_past(m) {
             return;
         }
         match self.holder {

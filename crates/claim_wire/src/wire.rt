@@ -47,13 +47,15 @@ impl Wire {
     pub fn new(alloc: Global, resources: u32, customers: u32) -> Result<Wire, OutOfMemory>
         requires resources { IsNumber 100 resources }
         requires customers { IsNumber 100 customers }
-        ensures { IfOk result (λ wire. wire ≡ spec.new_wire resources customers) }
+        ensures new { IfOk result (λ wire. wire ≡ spec.new_wire resources customers) }
+        ensures ends { IfOk result (λ wire. (length wire.resources ≡ resources) × (length wire.customers ≡ customers)) }
     {
-        let sent = Vec::new(alloc);
+        let holders = new_resources(alloc, resources, customers)?;
+        let askers = new_customers(alloc, customers)?;
         Ok(Wire {
-            customers: new_customers(alloc, customers)?,
-            resources: new_resources(alloc, resources, customers)?,
-            sent,
+            customers: askers,
+            resources: holders,
+            sent: Vec::new(alloc),
             alloc,
         })
     }
@@ -74,10 +76,14 @@ impl Wire {
         ensures resources { length self.new.resources ≡ length self.old.resources }
         ensures customers { length self.new.customers ≡ length self.old.customers }
     {
+        self.kept();
         if let Some(fault) = self.fault(event) {
             return Err(fault);
         }
-        Ok(self.happen(event)?)
+        match self.happen(event) {
+            Ok(text) => Ok(text),
+            Err(_) => Err(WireFault::OutOfMemory),
+        }
     }
 
     /// Why an event is refused.
@@ -105,6 +111,25 @@ impl Wire {
         } else {
             fault
         }
+    }
+
+    /// Nothing happens here, and so the wire is as every step leaves it.
+    fn kept(&self)
+        ensures { Facts self.now }
+    {
+        let _sent = &self.sent;
+    }
+
+    fn has_customer(&self, number: u32) -> bool
+        ensures { IsTrue result ↔ IsNumber (length self.now.customers) number }
+    {
+        0 < number && number as usize <= self.customers.len()
+    }
+
+    fn has_resource(&self, number: u32) -> bool
+        ensures { IsTrue result ↔ IsNumber (length self.now.resources) number }
+    {
+        0 < number && number as usize <= self.resources.len()
     }
 
     fn customer(&self, number: u32) -> Customer
@@ -200,7 +225,8 @@ impl Wire {
         ensures reply { IfOk result (λ text. text ≡ texts.told self.old (spec.with_customer m.now.customer (λ s. (moves.take m.now s, None)) self.old)) }
         ensures unchanged { OnErr result (self.new ≡ self.old) }
     {
-        if !is_number(m.customer, self.customers.len()) {
+        let known = self.has_customer(m.customer);
+        if !known {
             return quiet(self.alloc);
         }
         let mut moved = self.customer(m.customer);
@@ -257,8 +283,10 @@ impl Wire {
         ensures unchanged { OnErr result (self.new ≡ self.old) }
     {
         match m.kind {
-            MessageKind::Ask | MessageKind::Leave => self.to_resource(m),
-            MessageKind::Grant | MessageKind::Gone => self.to_customer(m),
+            MessageKind::Ask => self.to_resource(m),
+            MessageKind::Leave => self.to_resource(m),
+            MessageKind::Grant => self.to_customer(m),
+            MessageKind::Gone => self.to_customer(m),
         }
     }
 
@@ -269,7 +297,8 @@ impl Wire {
         ensures reply { IfOk result (λ text. text ≡ texts.told self.old (spec.with_resource m.now.resource (changes.take m.now) self.old)) }
         ensures unchanged { OnErr result (self.new ≡ self.old) }
     {
-        if !is_number(m.resource, self.resources.len()) {
+        let known = self.has_resource(m.resource);
+        if !known {
             return quiet(self.alloc);
         }
         let place = m.resource as usize - 1;
@@ -287,13 +316,6 @@ impl Wire {
         append_customers(&mut text, &self.customers)?;
         Ok(text)
     }
-}
-
-/// Whether one of so many ends has the number.
-fn is_number(number: u32, ends: usize) -> bool
-    ensures { IsTrue result ↔ IsNumber ends number }
-{
-    0 < number && number as usize <= ends
 }
 
 /// The customer's message and no other.

@@ -35,68 +35,68 @@ module _ (w : WireState) (facts : Facts w) (c : ℕ) (s t : CustomerState) (out 
   pub moved-facts : Facts after
   moved-facts = record {
     customers = λ d u is.
-    elim (put-cases w.customers c d t u (at-some w.customers c s here) is) [
-      | inl one ↦ ap (λ (v : CustomerState). v.id) one.1 ∙ keeps.same ∙ known ∙ sym one.0
-      | inr other ↦ facts.customers d u other.1
-    ];
+        elim (put-cases w.customers c d t u (at-some w.customers c s here) is) [
+          | inl one ↦ ap (λ (v : CustomerState). v.id) one.1 ∙ keeps.same ∙ known ∙ sym one.0
+          | inr other ↦ facts.customers d u other.1
+        ];
     resources = facts.resources;
     granted = λ m has kind r is.
-    elim (Contains-append_cases w.sent (listed out) m has) [
-      | inl old ↦ facts.granted m old kind r is
-      | inr new ↦ absurd (keeps.no_grant m (listed-is out m new) kind)
-    ];
+        elim (Contains-append_cases w.sent (listed out) m has) [
+          | inl old ↦ facts.granted m old kind r is
+          | inr new ↦ absurd (keeps.no_grant m (listed-is out m new) kind)
+        ];
     freed = λ i d r is some. Contains-append_left w.sent (listed out) _ (facts.freed i d r is some);
     left = λ m has kind u is.
-    elim (Contains-append_cases w.sent (listed out) m has) [
-      | inl old ↦
-          elim (put-cases w.customers c m.customer t u (at-some w.customers c s here) is) [
-            | inl one ↦
-                let before : at w.customers m.customer ≡ Some s = ap (λ (d : ℕ). at w.customers d) one.0 ∙ here in
-                subst (IsPast m.number) (sym one.1) (keeps.past m.number (facts.left m old kind s before))
-            | inr other ↦ facts.left m old kind u other.1
-          ]
-      | inr new ↦
-          let own = keeps.left m (listed-is out m new) kind in
-          elim (put-cases w.customers c m.customer t u (at-some w.customers c s here) is) [
-            | inl one ↦ subst (IsPast m.number) (sym one.1) own.1
-            | inr other ↦ absurd (other.0 (own.0 ∙ known))
-          ]
-    ];
+        elim (Contains-append_cases w.sent (listed out) m has) [
+          | inl old ↦
+              elim (put-cases w.customers c m.customer t u (at-some w.customers c s here) is) [
+                | inl one ↦
+                    let before : at w.customers m.customer ≡ Some s = ap (λ (d : ℕ). at w.customers d) one.0 ∙ here in
+                    subst (IsPast m.number) (sym one.1) (keeps.past m.number (facts.left m old kind s before))
+                | inr other ↦ facts.left m old kind u other.1
+              ]
+          | inr new ↦
+              let own = keeps.left m (listed-is out m new) kind in
+              elim (put-cases w.customers c m.customer t u (at-some w.customers c s here) is) [
+                | inl one ↦ subst (IsPast m.number) (sym one.1) own.1
+                | inr other ↦ absurd (other.0 (own.0 ∙ known))
+              ]
+        ];
     holding = λ d u is phase.
-    elim (put-cases w.customers c d t u (at-some w.customers c s here) is) [
-      | inl one ↦
-          let mine : t.phase ≡ phases.Holding = ap (λ (v : CustomerState). v.phase) (sym one.1) ∙ phase in
-          let found : (r : ℕ) × (t.target ≡ Some r) × Contains after.sent (grant_message c r t.number) = held mine in
-          subst (λ (v : CustomerState). (r : ℕ) × (v.target ≡ Some r) × Contains after.sent (grant_message d r v.number)) (sym one.1) (subst (λ (e : ℕ). (r : ℕ) × (t.target ≡ Some r) × Contains after.sent (grant_message e r t.number)) (sym one.0) found)
-      | inr other ↦
-          let found = facts.holding d u other.1 phase in
-          (found.0, found.1, Contains-append_left w.sent (listed out) _ found.2)
-    ];
+        elim (put-cases w.customers c d t u (at-some w.customers c s here) is) [
+          | inl one ↦
+              let mine : t.phase ≡ phases.Holding = ap (λ (v : CustomerState). v.phase) (sym one.1) ∙ phase in
+              let found : (r : ℕ) × (t.target ≡ Some r) × Contains after.sent (grant_message c r t.number) = held mine in
+              subst (λ (v : CustomerState). (r : ℕ) × (v.target ≡ Some r) × Contains after.sent (grant_message d r v.number)) (sym one.1) (subst (λ (e : ℕ). (r : ℕ) × (t.target ≡ Some r) × Contains after.sent (grant_message e r t.number)) (sym one.0) found)
+          | inr other ↦
+              let found = facts.holding d u other.1 phase in
+              (found.0, found.1, Contains-append_left w.sent (listed out) _ found.2)
+        ];
     targeted = λ d u is.
-    elim (put-cases w.customers c d t u (at-some w.customers c s here) is) [
-      | inl one ↦ subst (λ (v : CustomerState). IsTargeted v.target v.phase v.number) (sym one.1) (keeps.targeted (facts.targeted c s here))
-      | inr other ↦ facts.targeted d u other.1
-    ];
+        elim (put-cases w.customers c d t u (at-some w.customers c s here) is) [
+          | inl one ↦ subst (λ (v : CustomerState). IsTargeted v.target v.phase v.number) (sym one.1) (keeps.targeted (facts.targeted c s here))
+          | inr other ↦ facts.targeted d u other.1
+        ];
     numbered = λ d u is.
-    let more = length-append w.sent (listed out) in
-    elim (put-cases w.customers c d t u (at-some w.customers c s here) is) [
-      | inl one ↦
-          let before = facts.numbered c s here in
-          let moved = keeps.numbered in
-          let same : u.number ≡ t.number = ap (λ (v : CustomerState). v.number) one.1 in
-          omega arith
-      | inr other ↦ let before = facts.numbered d u other.1 in omega arith
-    ];
+        let more = length-append w.sent (listed out) in
+        elim (put-cases w.customers c d t u (at-some w.customers c s here) is) [
+          | inl one ↦
+              let before = facts.numbered c s here in
+              let moved = keeps.numbered in
+              let same : u.number ≡ t.number = ap (λ (v : CustomerState). v.number) one.1 in
+              omega arith
+          | inr other ↦ let before = facts.numbered d u other.1 in omega arith
+        ];
     named = λ m has request.
-    let size = length-put c t w.customers in
-    elim (Contains-append_cases w.sent (listed out) m has) [
-      | inl old ↦ let number = facts.named m old request in (number.0, omega arith)
-      | inr new ↦
-          let own : m.customer ≡ c = keeps.sender m (listed-is out m new) ∙ known in
-          let least = at-some w.customers c s here in
-          let most = at-within w.customers c s here in
-          (omega arith, omega arith)
-    ];
+        let size = length-put c t w.customers in
+        elim (Contains-append_cases w.sent (listed out) m has) [
+          | inl old ↦ let number = facts.named m old request in (number.0, omega arith)
+          | inr new ↦
+              let own : m.customer ≡ c = keeps.sender m (listed-is out m new) ∙ known in
+              let least = at-some w.customers c s here in
+              let most = at-within w.customers c s here in
+              (omega arith, omega arith)
+        ];
     sized = λ i r is. facts.sized i r is ∙ sym (length-put c t w.customers);
   }
     where

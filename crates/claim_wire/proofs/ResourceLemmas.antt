@@ -36,51 +36,51 @@ module _ (w : WireState) (facts : Facts w) (i : ℕ) (r t : ResourceState) (a : 
   changed-facts = record {
     customers = facts.customers;
     resources = λ j u is.
-    elim (put-cases w.resources i j t u (at-some w.resources i r here) is) [
-      | inl own ↦ ap (λ (v : ResourceState). v.id) own.1 ∙ keeps.same ∙ known ∙ sym own.0
-      | inr other ↦ facts.resources j u other.1
-    ];
+        elim (put-cases w.resources i j t u (at-some w.resources i r here) is) [
+          | inl own ↦ ap (λ (v : ResourceState). v.id) own.1 ∙ keeps.same ∙ known ∙ sym own.0
+          | inr other ↦ facts.resources j u other.1
+        ];
     granted = λ m has kind u is.
-    elim (Contains-append_cases w.sent (answers_of a) m has) [
-      | inl old ↦
-          elim (put-cases w.resources i m.resource t u (at-some w.resources i r here) is) [
-            | inl own ↦
-                let before : at w.resources m.resource ≡ Some r = ap (λ (j : ℕ). at w.resources j) own.0 ∙ here in
-                subst (λ (v : ResourceState). IsHeldOrFreed v m) (sym own.1) (keeps.granted m (facts.granted m old kind r before))
-            | inr other ↦ facts.granted m old kind u other.1
-          ]
-      | inr new ↦
-          let fair = (keeps.fair m (answers-cases a m new)).1 kind in
-          elim (put-cases w.resources i m.resource t u (at-some w.resources i r here) is) [
-            | inl own ↦ subst (λ (v : ResourceState). IsHeldOrFreed v m) (sym own.1) fair.1
-            | inr other ↦ absurd (other.0 (fair.0 ∙ known))
-          ]
-    ];
+        elim (Contains-append_cases w.sent (answers_of a) m has) [
+          | inl old ↦
+              elim (put-cases w.resources i m.resource t u (at-some w.resources i r here) is) [
+                | inl own ↦
+                    let before : at w.resources m.resource ≡ Some r = ap (λ (j : ℕ). at w.resources j) own.0 ∙ here in
+                    subst (λ (v : ResourceState). IsHeldOrFreed v m) (sym own.1) (keeps.granted m (facts.granted m old kind r before))
+                | inr other ↦ facts.granted m old kind u other.1
+              ]
+          | inr new ↦
+              let fair = (keeps.fair m (answers-cases a m new)).1 kind in
+              elim (put-cases w.resources i m.resource t u (at-some w.resources i r here) is) [
+                | inl own ↦ subst (λ (v : ResourceState). IsHeldOrFreed v m) (sym own.1) fair.1
+                | inr other ↦ absurd (other.0 (fair.0 ∙ known))
+              ]
+        ];
     freed = λ j c u is some.
-    elim (put-cases w.resources i j t u (at-some w.resources i r here) is) [
-      | inl own ↦
-          let found : Contains after.sent (leave_message c i (freed_of t c)) = left c (subst (λ (v : ResourceState). 0 < freed_of v c) own.1 some) in
-          subst (λ (v : ResourceState). Contains after.sent (leave_message c j (freed_of v c))) (sym own.1) (subst (λ (k : ℕ). Contains after.sent (leave_message c k (freed_of t c))) (sym own.0) found)
-      | inr other ↦ Contains-append_left w.sent (answers_of a) _ (facts.freed j c u other.1 some)
-    ];
+        elim (put-cases w.resources i j t u (at-some w.resources i r here) is) [
+          | inl own ↦
+              let found : Contains after.sent (leave_message c i (freed_of t c)) = left c (subst (λ (v : ResourceState). 0 < freed_of v c) own.1 some) in
+              subst (λ (v : ResourceState). Contains after.sent (leave_message c j (freed_of v c))) (sym own.1) (subst (λ (k : ℕ). Contains after.sent (leave_message c k (freed_of t c))) (sym own.0) found)
+          | inr other ↦ Contains-append_left w.sent (answers_of a) _ (facts.freed j c u other.1 some)
+        ];
     left = λ m has kind s is.
-    elim (Contains-append_cases w.sent (answers_of a) m has) [
-      | inl old ↦ facts.left m old kind s is
-      | inr new ↦ absurd ((keeps.fair m (answers-cases a m new)).0 (subst IsRequest (sym kind) tt))
-    ];
+        elim (Contains-append_cases w.sent (answers_of a) m has) [
+          | inl old ↦ facts.left m old kind s is
+          | inr new ↦ absurd ((keeps.fair m (answers-cases a m new)).0 (subst IsRequest (sym kind) tt))
+        ];
     holding = λ c s is phase. let found = facts.holding c s is phase in (found.0, found.1, Contains-append_left w.sent (answers_of a) _ found.2);
     targeted = facts.targeted;
     numbered = λ c s is. let before = facts.numbered c s is in let more = length-append w.sent (answers_of a) in omega arith;
     named = λ m has request.
-    elim (Contains-append_cases w.sent (answers_of a) m has) [
-      | inl old ↦ facts.named m old request
-      | inr new ↦ absurd ((keeps.fair m (answers-cases a m new)).0 request)
-    ];
+        elim (Contains-append_cases w.sent (answers_of a) m has) [
+          | inl old ↦ facts.named m old request
+          | inr new ↦ absurd ((keeps.fair m (answers-cases a m new)).0 request)
+        ];
     sized = λ j u is.
-    elim (put-cases w.resources i j t u (at-some w.resources i r here) is) [
-      | inl own ↦ ap (λ (v : ResourceState). length v.freed) own.1 ∙ keeps.sized ∙ facts.sized i r here
-      | inr other ↦ facts.sized j u other.1
-    ];
+        elim (put-cases w.resources i j t u (at-some w.resources i r here) is) [
+          | inl own ↦ ap (λ (v : ResourceState). length v.freed) own.1 ∙ keeps.sized ∙ facts.sized i r here
+          | inr other ↦ facts.sized j u other.1
+        ];
   }
     where
       left : (c : ℕ) → 0 < freed_of t c → Contains after.sent (leave_message c i (freed_of t c))

@@ -151,8 +151,8 @@ new-facts resources customers = record {
   resources = λ i r is. ap (λ (v : ResourceState). v.id) (resources-at customers resources i r is);
   granted = λ m has. absurd (contains-none m has);
   freed = λ i c r is some.
-  let none : freed_of r c ≡ 0 = ap (λ (v : ResourceState). freed_of v c) (resources-at customers resources i r is) ∙ zeros-freed customers c in
-  absurd (omega arith);
+      let none : freed_of r c ≡ 0 = ap (λ (v : ResourceState). freed_of v c) (resources-at customers resources i r is) ∙ zeros-freed customers c in
+      absurd (omega arith);
   left = λ m has. absurd (contains-none m has);
   holding = λ c s is phase. let idle : s.phase ≡ phases.Idle = ap (λ (v : CustomerState). v.phase) (customers-at customers c s is) in absurd (cc);
   targeted = λ c s is. subst (λ (v : CustomerState). IsTargeted v.target v.phase v.number) (sym (customers-at customers c s is)) refl;

@@ -23,11 +23,7 @@ pub(crate) enum Verb {
 /// `leave C`, `deliver M`, `restart customer C`, `restart resource R` and `show`. `Unknown` comes exactly where the first
 /// word begins none of them, else `Words` exactly where the other words aren't those of the line, a number isn't decimal
 /// or exceeds 64 bits, or an id isn't one of the customers or resources, which count from 1.
-pub fn read_event(
-    line: &[u8],
-    resources: u32,
-    customers: u32,
-) -> Result<Option<Event>, LineFault>
+pub fn read_event(line: &[u8], resources: u32, customers: u32) -> Result<Option<Event>, LineFault>
     ensures event { result ≡ lines.event_of resources customers line.now }
     ensures named { IfOk result (λ event. IfSome event (λ named. IsNamed resources customers named)) }
 {

@@ -129,12 +129,7 @@ pub(crate) fn append_resources(out: &mut Text, resources: &[Resource]) -> Result
     Ok(())
 }
 
-fn append_phase(
-    out: &mut Text,
-    phase: Phase,
-    resource: u64,
-    number: u64,
-) -> Result<(), OutOfMemory>
+fn append_phase(out: &mut Text, phase: Phase, resource: u64, number: u64) -> Result<(), OutOfMemory>
     ensures { OnOk result (out.new ≡ out.old ++ texts.phase_text phase resource number) }
 {
     match phase {

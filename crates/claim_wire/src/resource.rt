@@ -174,8 +174,9 @@ impl Resource {
         match self.holder {
             Some(holder) if holder.customer == m.customer && holder.number <= freed => Answers {
                 first: Some(gone),
-                second: next_waiting(&self.waiting, m.customer, freed)
-                    .map(|claim| grant(self.id, claim)),
+                second: next_waiting(&self.waiting, m.customer, freed).map(|claim| grant(
+                    self.id, claim,
+                )),
             },
             _ => one(gone),
         }

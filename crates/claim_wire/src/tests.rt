@@ -63,7 +63,10 @@ fn a_claim_and_its_successor(rt: HostRuntime) -> Result<(), Fail> {
         (b"deliver 1", b"sent 7 gone 1 1 1\n"),
         (b"deliver 2", b"quiet\n"),
         (b"deliver 6", b"quiet\n"),
-        (b"show", b"resource 1 held 2 1\ncustomer 1 leaving 1 1\ncustomer 2 holding 1 1\n"),
+        (
+            b"show",
+            b"resource 1 held 2 1\ncustomer 1 leaving 1 1\ncustomer 2 holding 1 1\n",
+        ),
     ];
     replies_as(&rt, alloc, &schedule)
 }
@@ -76,7 +79,10 @@ fn a_restart_and_the_refusals(rt: HostRuntime) -> Result<(), Fail> {
         (b"deliver 1", b"sent 2 grant 1 1 1\n"),
         (b"deliver 2", b"quiet\n"),
         (b"restart customer 1", b"quiet\n"),
-        (b"show", b"resource 1 held 1 1\ncustomer 1 leaving 1 1\ncustomer 2 idle\n"),
+        (
+            b"show",
+            b"resource 1 held 1 1\ncustomer 1 leaving 1 1\ncustomer 2 idle\n",
+        ),
         (b"again 1", b"sent 3 leave 1 1 1\n"),
         (b"ask 1 1", b"not idle"),
         (b"leave 1", b"nothing to leave"),
@@ -106,7 +112,10 @@ fn losses(rt: HostRuntime) -> Result<(), Fail> {
         (b"again 1", b"sent 9 leave 1 1 1\n"),
         (b"deliver 9", b"sent 10 gone 1 1 1\n"),
         (b"deliver 10", b"quiet\n"),
-        (b"show", b"resource 1 free\ncustomer 1 idle\ncustomer 2 idle\n"),
+        (
+            b"show",
+            b"resource 1 free\ncustomer 1 idle\ncustomer 2 idle\n",
+        ),
     ];
     replies_as(&rt, alloc, &schedule)
 }
@@ -121,14 +130,20 @@ fn repeats(rt: HostRuntime) -> Result<(), Fail> {
         (b"deliver 1", b"sent 3 grant 1 1 1\n"),
         (b"deliver 2", b"quiet\n"),
         (b"deliver 3", b"quiet\n"),
-        (b"show", b"resource 1 held 1 1\ncustomer 1 holding 1 1\ncustomer 2 idle\n"),
+        (
+            b"show",
+            b"resource 1 held 1 1\ncustomer 1 holding 1 1\ncustomer 2 idle\n",
+        ),
         (b"leave 1", b"sent 4 leave 1 1 1\n"),
         (b"deliver 4", b"sent 5 gone 1 1 1\n"),
         (b"deliver 4", b"sent 6 gone 1 1 1\n"),
         (b"deliver 5", b"quiet\n"),
         (b"deliver 6", b"quiet\n"),
         (b"deliver 1", b"sent 7 gone 1 1 1\n"),
-        (b"show", b"resource 1 free\ncustomer 1 idle\ncustomer 2 idle\n"),
+        (
+            b"show",
+            b"resource 1 free\ncustomer 1 idle\ncustomer 2 idle\n",
+        ),
     ];
     replies_as(&rt, alloc, &schedule)
 }
@@ -151,7 +166,10 @@ fn reorderings(rt: HostRuntime) -> Result<(), Fail> {
         (b"deliver 2", b"sent 8 gone 1 1 1\n"),
         (b"deliver 8", b"quiet\n"),
         (b"deliver 7", b"sent 9 gone 1 1 2\n"),
-        (b"show", b"resource 1 free\ncustomer 1 leaving 1 2\ncustomer 2 idle\n"),
+        (
+            b"show",
+            b"resource 1 free\ncustomer 1 leaving 1 2\ncustomer 2 idle\n",
+        ),
     ];
     replies_as(&rt, alloc, &schedule)
 }
@@ -172,7 +190,10 @@ fn restarts(rt: HostRuntime) -> Result<(), Fail> {
         (b"ask 2 1", b"sent 4 ask 2 1 1\n"),
         (b"deliver 4", b"quiet\n"),
         (b"restart resource 1", b"quiet\n"),
-        (b"show", b"resource 1 held 1 1\ncustomer 1 leaving 1 1\ncustomer 2 asked 1 1\n"),
+        (
+            b"show",
+            b"resource 1 held 1 1\ncustomer 1 leaving 1 1\ncustomer 2 asked 1 1\n",
+        ),
         (b"deliver 3", b"sent 5 gone 1 1 1\n"),
         (b"restart resource 1", b"quiet\n"),
         (b"deliver 1", b"sent 6 gone 1 1 1\n"),
@@ -180,7 +201,10 @@ fn restarts(rt: HostRuntime) -> Result<(), Fail> {
         (b"deliver 7", b"quiet\n"),
         (b"restart customer 2", b"quiet\n"),
         (b"deliver 5", b"quiet\n"),
-        (b"show", b"resource 1 held 2 1\ncustomer 1 idle\ncustomer 2 leaving 1 1\n"),
+        (
+            b"show",
+            b"resource 1 held 2 1\ncustomer 1 idle\ncustomer 2 leaving 1 1\n",
+        ),
     ];
     replies_as(&rt, alloc, &schedule)
 }
@@ -235,6 +259,12 @@ fn a_customer_waits_with_its_greatest_number(rt: HostRuntime) -> Result<(), Fail
     assert_eq!(rt; left.second, Some(message(MessageKind::Grant, 2, 3)));
     let late = resource.take(&message(MessageKind::Leave, 2, 2));
     assert_eq!(rt; late.second, None);
-    assert_eq!(rt; resource.holder(), Some(Holder { customer: 2, number: 3 }));
+    assert_eq!(rt;
+        resource.holder(),
+        Some(Holder {
+            customer: 2,
+            number: 3
+        })
+    );
     Ok(())
 }

@@ -11,8 +11,7 @@ invariant_of-self c =
     let n = length c.self.inside.freed.items in
     let freed = c.self.inside.freed.items in
     let first = position-first (λ w. eqb w.customer c.args.customer && leb w.number c.args.freed) ws c.in-Some.i (c.in-Some.ensures ∙ ap (position (λ (w : Holder). eqb w.customer c.args.customer && leb w.number c.args.freed)) c.deref.ensures.value) in
-    let same = without-first freed c.args.customer c.args.freed ws c.in-Some.i (c.requires.1 ∙ ap (λ (v : ResourceState). freed_of v c.args.customer) (sym c.self.view_is)) first in
-    (
+    let same = without-first freed c.args.customer c.args.freed ws c.in-Some.i (c.requires.1 ∙ ap (λ (v : ResourceState). freed_of v c.args.customer) (sym c.self.view_is)) first in (
       subst (λ l. are_waiting n l ≡ true) (sym (c.remove-claim.ensures.by_index.2 ∙ same)) (without-waiting n freed c.args.customer ws c.self.invariant.0),
       omega (arith, c.remove-claim.ensures.capacity, c.self.invariant.1),
     )

@@ -23,9 +23,9 @@ invariant_of-self-2 c =
     let w = c.args.self.now in
     let sends = c.in_ok-text.ensures.noted ∙ ap (λ (a : Answers). v.sent ++ answers_of a) c.only-answers.ensures in
     let whole =
-        ap (λ (ms : List Message). record { customers = set v.customers (n - 1) moved; resources = v.resources; sent = ms }) sends
-        ∙ put-at v n moved out c.requires.number.0
-        ∙ ap (λ (u : WireState). spec.moved n (Some (moved, out)) u) c.self.view_is in
+    ap (λ (ms : List Message). record { customers = set v.customers (n - 1) moved; resources = v.resources; sent = ms }) sends
+    ∙ put-at v n moved out c.requires.number.0
+    ∙ ap (λ (u : WireState). spec.moved n (Some (moved, out)) u) c.self.view_is in
     subst Facts (sym whole) c.requires.kept
 
 pub returns-clause-new : goal.returns-clause-new
@@ -38,9 +38,9 @@ returns-clause-new c =
     let w = c.args.self.now in
     let sends = c.in_ok-text.ensures.noted ∙ ap (λ (a : Answers). v.sent ++ answers_of a) c.only-answers.ensures in
     let whole =
-        ap (λ (ms : List Message). record { customers = set v.customers (n - 1) moved; resources = v.resources; sent = ms }) sends
-        ∙ put-at v n moved out c.requires.number.0
-        ∙ ap (λ (u : WireState). spec.moved n (Some (moved, out)) u) c.self.view_is in
+    ap (λ (ms : List Message). record { customers = set v.customers (n - 1) moved; resources = v.resources; sent = ms }) sends
+    ∙ put-at v n moved out c.requires.number.0
+    ∙ ap (λ (u : WireState). spec.moved n (Some (moved, out)) u) c.self.view_is in
     whole
 
 pub returns-clause-reply : goal.returns-clause-reply
@@ -53,9 +53,9 @@ returns-clause-reply c =
     let w = c.args.self.now in
     let sends = c.in_ok-text.ensures.noted ∙ ap (λ (a : Answers). v.sent ++ answers_of a) c.only-answers.ensures in
     let whole =
-        ap (λ (ms : List Message). record { customers = set v.customers (n - 1) moved; resources = v.resources; sent = ms }) sends
-        ∙ put-at v n moved out c.requires.number.0
-        ∙ ap (λ (u : WireState). spec.moved n (Some (moved, out)) u) c.self.view_is in
+    ap (λ (ms : List Message). record { customers = set v.customers (n - 1) moved; resources = v.resources; sent = ms }) sends
+    ∙ put-at v n moved out c.requires.number.0
+    ∙ ap (λ (u : WireState). spec.moved n (Some (moved, out)) u) c.self.view_is in
     c.in_ok-text.ensures.told
     ∙ ap (λ (a : Answers). sent_text (length v.sent) (answers_of a)) c.only-answers.ensures
     ∙ ap (sent_text (length v.sent)) (only-answers out)

@@ -86,8 +86,8 @@ returns-clause-reply c =
     let there = read-at v.resources (m.resource - 1) c.index_mut.result.now less c.index_mut.ensures.value in
     let whole = brought v w m c.index.result.now c.index_mut.result.now c.change.new.self c.answers-answers.result c.note.new.sent.items c.self.view_is number.0 here there c.answers-answers.ensures c.change.ensures c.in_ok-text.ensures.noted in
     let sends =
-        ap (λ (u : WireState). u.sent) (sym whole) ∙ c.in_ok-text.ensures.noted
-        ∙ ap (λ (u : WireState). u.sent ++ answers_of c.answers-answers.result) c.self.view_is in
+    ap (λ (u : WireState). u.sent) (sym whole) ∙ c.in_ok-text.ensures.noted
+    ∙ ap (λ (u : WireState). u.sent ++ answers_of c.answers-answers.result) c.self.view_is in
     c.in_ok-text.ensures.told
     ∙ ap (λ (u : WireState). sent_text (length u.sent) (answers_of c.answers-answers.result)) c.self.view_is
     ∙ sym (told-more w (spec.with_resource m.resource (take m) w) (answers_of c.answers-answers.result) sends)

@@ -1,6 +1,6 @@
 -- A customer's moves keep the facts.
-use Rattle.std.proofs.Common.{◌≡◌, ◌≢◌, ◌⊎◌, ℕ, zero, suc, ◌+◌, ◌<◌, ◌≤◌, Bool, true, false, cond, eqb, ◌&&◌, List, [], ◌∷◌, ◌++◌, length, Option, None, Some, unwrap_or, refl, sym, ◌∙◌, ap, subst, inl, inr, arith, length-append}
-use Rattle.std.proofs.lemmas.Bool.{cases_Bool, and_parts, eqb-true}
+use Rattle.std.proofs.Common.{◌≡◌, ◌≢◌, ◌⊎◌, ℕ, ◌+◌, ◌<◌, ◌≤◌, Bool, true, false, cond, eqb, List, ◌++◌, length, Option, None, Some, refl, sym, ◌∙◌, ap, subst, inl, inr, arith, length-append}
+use Rattle.std.proofs.lemmas.Bool.{and_parts, eqb-true}
 use Rattle.std.specs.List.{Contains}
 use Rattle.std.proofs.lemmas.List.Elements.{Contains-append_left, Contains-append_cases}
 use Rattle.claim_wire.specs.declared.customer.Phase.{Phase}
@@ -8,10 +8,9 @@ use Rattle.claim_wire.specs.declared.customer.Phase.TheVariants as phases
 use Rattle.claim_wire.specs.declared.message.Message.{Message}
 use Rattle.claim_wire.specs.declared.message.MessageKind.{MessageKind}
 use Rattle.claim_wire.specs.declared.message.MessageKind.TheVariants as kinds
-use Rattle.claim_wire.specs.Customers.{CustomerState, message_of, ask, ask_by, again, again_by, leave, leave_by, in_phase, is_target, is_for, take, take_by, phase_again, restart}
-use Rattle.claim_wire.specs.Facts.{IsAway, IsPast, IsTargeted, Facts, grant_message, IsHeldOrFreed}
-use Rattle.claim_wire.specs.Resources.{ResourceState}
-use Rattle.claim_wire.specs.Wires.{WireState, at, put, listed, moved}
+use Rattle.claim_wire.specs.Customers.{CustomerState, message_of, ask_by, again_by, leave_by, in_phase, is_target, is_for, take, take_by, phase_again}
+use Rattle.claim_wire.specs.Facts.{IsAway, IsPast, IsTargeted, Facts, grant_message}
+use Rattle.claim_wire.specs.Wires.{WireState, at, put, listed}
 use Rattle.claim_wire.proofs.ListLemmas.{put-cases, at-some, at-within, length-put, listed-is}
 
 -- what a move of a customer keeps

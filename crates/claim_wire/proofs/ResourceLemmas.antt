@@ -1,6 +1,6 @@
 -- A resource's changes keep the facts.
-use Rattle.std.proofs.Common.{◌≡◌, ◌≢◌, ◌⊎◌, ℕ, ◌+◌, ◌<◌, ◌≤◌, Bool, true, false, cond, not, eqb, leb, ◌&&◌, List, [], ◌∷◌, ◌++◌, length, drop, Option, None, Some, option_map, refl, sym, ◌∙◌, ap, subst, inl, inr, arith, length-append}
-use Rattle.std.proofs.lemmas.Bool.{cases_Bool, and_parts, eqb-true, leb-true}
+use Rattle.std.proofs.Common.{◌≡◌, ◌⊎◌, ℕ, ◌<◌, ◌≤◌, Bool, true, false, cond, eqb, leb, List, [], ◌∷◌, ◌++◌, length, drop, Option, None, Some, option_map, refl, sym, ◌∙◌, ap, subst, inl, inr, arith, length-append}
+use Rattle.std.proofs.lemmas.Bool.{and_parts, eqb-true, leb-true}
 use Rattle.std.specs.List.{Contains}
 use Rattle.std.proofs.lemmas.List.Elements.{Contains-append_left, Contains-append_cases}
 use Rattle.claim_wire.specs.declared.message.Answers.{Answers}
@@ -8,9 +8,8 @@ use Rattle.claim_wire.specs.declared.message.Holder.{Holder}
 use Rattle.claim_wire.specs.declared.message.Message.{Message}
 use Rattle.claim_wire.specs.declared.message.MessageKind.{MessageKind}
 use Rattle.claim_wire.specs.declared.message.MessageKind.TheVariants as kinds
-use Rattle.claim_wire.specs.Customers.{CustomerState}
 use Rattle.claim_wire.specs.Facts.{Facts, IsHeldOrFreed, IsRequest, leave_message}
-use Rattle.claim_wire.specs.Resources.{ResourceState, Change, freed_in, freed_of, raised, claim_of, answer, grant, silent, one, is_claim, ask, ask_by, put_waiting, is_freed, holds_freed, first_of, next_holder, next_grant, freeing, without, leave, leave_by, take, take_by, restart}
+use Rattle.claim_wire.specs.Resources.{ResourceState, Change, freed_in, freed_of, raised, claim_of, answer, grant, silent, one, is_claim, ask, ask_by, is_freed, holds_freed, first_of, next_holder, next_grant, freeing, leave, take, take_by, restart}
 use Rattle.claim_wire.specs.Wires.{WireState, at, put, answers_of}
 use Rattle.claim_wire.proofs.ListLemmas.{put-cases, at-some, answers-cases, raised-cases, raised-most, length-raised}
 

@@ -1,5 +1,5 @@
 -- Every run of the wire keeps the facts, and they make it safe.
-use Rattle.std.proofs.Common.{◌≡◌, ◌≢◌, ◌⊎◌, ℕ, zero, suc, ◌+◌, ◌<◌, ◌≤◌, List, [], ◌∷◌, ◌++◌, length, get_or, slice_get, Option, None, Some, option_map, is_some, cond, refl, sym, ◌∙◌, ap, subst, inl, inr, arith, length-append}
+use Rattle.std.proofs.Common.{◌≡◌, ◌⊎◌, ℕ, zero, suc, ◌<◌, ◌≤◌, List, [], ◌∷◌, ◌++◌, length, get_or, slice_get, Option, None, Some, option_map, is_some, cond, refl, sym, ◌∙◌, ap, subst, inl, inr, arith, length-append}
 use Rattle.std.specs.List.{Contains}
 use Rattle.claim_wire.specs.declared.customer.Phase.TheVariants as phases
 use Rattle.claim_wire.specs.declared.event.Event.{Event}
@@ -11,13 +11,13 @@ use Rattle.claim_wire.specs.declared.message.MessageKind.{MessageKind}
 use Rattle.claim_wire.specs.declared.message.MessageKind.TheVariants as kinds
 use Rattle.claim_wire.specs.Customers as customer
 use Rattle.claim_wire.specs.Customers.{CustomerState, Move, new_customer}
-use Rattle.claim_wire.specs.Facts.{Facts, IsAway, IsPast, IsTargeted, IsHeldOrFreed, IsRequest, IsSafe, HasOneHolder, leave_message, grant_message}
+use Rattle.claim_wire.specs.Facts.{Facts, IsAway, IsPast, IsTargeted, IsRequest, IsSafe, HasOneHolder, leave_message, grant_message}
 use Rattle.claim_wire.specs.Resources as resource
 use Rattle.claim_wire.specs.Resources.{ResourceState, Change, freed_in, freed_of, new_resource, silent, zeros}
 use Rattle.claim_wire.specs.Wires.{WireState, at, with_customer, moved, with_resource, changed, comes, comes_by, happens, fault_of, step, run, new_wire, new_customers, new_resources}
 use Rattle.claim_wire.proofs.CustomerLemmas as moves
 use Rattle.claim_wire.proofs.CustomerLemmas.{moved-facts}
-use Rattle.claim_wire.proofs.ListLemmas.{contains-none, at-some}
+use Rattle.claim_wire.proofs.ListLemmas.{contains-none}
 use Rattle.claim_wire.proofs.WaitingLemmas.{zeros-length}
 use Rattle.claim_wire.proofs.ResourceLemmas as changes
 use Rattle.claim_wire.proofs.ResourceLemmas.{changed-facts}

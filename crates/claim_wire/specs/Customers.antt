@@ -1,5 +1,5 @@
 -- The customer's end of a claim. What it sends carries its own id, its target and its number.
-use Rattle.std.specs.Prelude.{ℕ, ◌+◌, Bool, false, ◌&&◌, ◌==◌, Option, None, Some, option_map, unwrap_or, if◌then◌else◌}
+use Rattle.std.specs.Prelude.{ℕ, ◌+◌, Bool, false, ◌&&◌, ◌==◌, Option, None, Some, unwrap_or, if◌then◌else◌}
 use Rattle.claim_wire.specs.declared.customer.Phase.{Phase}
 use Rattle.claim_wire.specs.declared.customer.Phase.TheVariants as phases
 use Rattle.claim_wire.specs.declared.message.Message.{Message}

@@ -1,5 +1,5 @@
 -- What every run of the wire keeps.
-use Rattle.std.specs.Prelude.{◌≡◌, ◌≢◌, ◌⊎◌, ℕ, ◌<◌, ◌≤◌, length, Option, None, Some, Contains}
+use Rattle.std.specs.Prelude.{◌≡◌, ◌⊎◌, ℕ, ◌<◌, ◌≤◌, length, Option, None, Some, Contains}
 use Rattle.claim_wire.specs.declared.customer.Phase.{Phase}
 use Rattle.claim_wire.specs.declared.customer.Phase.TheVariants as phases
 use Rattle.claim_wire.specs.declared.message.Message.{Message}

@@ -1,5 +1,5 @@
 -- The event that a line of a schedule names.
-use Rattle.std.specs.Prelude.{ℕ, Bool, ◌||◌, ◌&&◌, ◌==◌, nat_le, List, slice_index, Option, None, Some, option_map, option_and_then, Result, Ok, Err, codes, if◌then◌else◌}
+use Rattle.std.specs.Prelude.{ℕ, ◌||◌, ◌&&◌, ◌==◌, nat_le, List, slice_index, Option, None, Some, option_map, option_and_then, Result, Ok, Err, codes, if◌then◌else◌}
 use Rattle.std.specs.Str.{bytes_eq}
 use Rattle.pool_text.specs.Number.{number_of}
 use Rattle.pool_text.specs.Words.{is_empty, past_blanks, word_of, words_behind}

@@ -32,7 +32,8 @@ impl Model for Resource {
 impl Resource {
     /// A resource that nobody held, with room for so many customers.
     pub fn new(alloc: Global, id: u32, customers: u32) -> Result<Resource, OutOfMemory>
-        ensures { IfOk result (λ r. r ≡ spec.new_resource customers id) }
+        ensures new { IfOk result (λ r. r ≡ spec.new_resource customers id) }
+        ensures customers { IfOk result (λ r. length r.freed ≡ customers) }
     {
         let mut freed = Vec::with_capacity(alloc, customers as usize)?;
         for _customer in 0..customers {

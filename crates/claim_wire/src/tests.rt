@@ -209,7 +209,9 @@ fn restarts(rt: HostRuntime) -> Result<(), Fail> {
     replies_as(&rt, alloc, &schedule)
 }
 
-fn message(kind: MessageKind, customer: u32, number: u64) -> Message {
+fn message(kind: MessageKind, customer: u32, number: u64) -> Message
+    ensures { result.customer ≡ customer }
+{
     Message {
         kind,
         customer,

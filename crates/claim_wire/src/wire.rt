@@ -17,7 +17,7 @@ use pool_text::{OutOfMemory, Text};
 use std::alloc::Global;
 use std::marker::Model;
 
-/// More messages than these aren't followed by others.
+/// After more messages than these no other is sent.
 const MOST_SENT: usize = 999_998;
 
 /// Resources and customers, numbered from 1, and all messages that were ever sent, numbered from 1 too. A message may be
@@ -113,7 +113,7 @@ impl Wire {
         }
     }
 
-    /// Nothing happens here, and so the wire is as every step leaves it.
+    /// What each step keeps. Nothing is done here: the proof of `step` learns it.
     fn kept(&self)
         ensures { Facts self.now }
     {

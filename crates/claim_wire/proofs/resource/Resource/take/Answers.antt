@@ -1,4 +1,4 @@
-use Rattle.std.proofs.Common.{◌≡◌, ◌∙◌, ap, length}
+use Rattle.std.proofs.Common.{◌∙◌, ap, length}
 use Rattle.claim_wire.specs.Resources.{ResourceState}
 use Rattle.claim_wire.proofs.ResourceLemmas.{length-take}
 use Rattle.claim_wire.proofs.resource.Resource.take.Goals as goal

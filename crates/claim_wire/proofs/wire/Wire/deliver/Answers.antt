@@ -1,4 +1,4 @@
-use Rattle.std.proofs.Common.{◌≡◌, None, Some, Option, refl, sym, ◌∙◌, ap, subst}
+use Rattle.std.proofs.Common.{Option, sym, ◌∙◌, ap}
 use Rattle.claim_wire.specs.declared.message.Message.{Message}
 use Rattle.claim_wire.specs.Replies.{told}
 use Rattle.claim_wire.specs.Wires as spec

@@ -1,4 +1,4 @@
-use Rattle.std.proofs.Common.{◌≡◌, List, length, sym, subst, ap, ◌∙◌}
+use Rattle.std.proofs.Common.{List, length, sym, subst, ap, ◌∙◌}
 use Rattle.claim_wire.specs.declared.message.Message.{Message}
 use Rattle.claim_wire.specs.Customers.{CustomerState}
 use Rattle.claim_wire.specs.Resources.{ResourceState}

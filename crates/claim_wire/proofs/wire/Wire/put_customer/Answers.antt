@@ -1,8 +1,8 @@
-use Rattle.std.proofs.Common.{◌≡◌, ℕ, ◌-◌, List, ◌++◌, length, set, Some, refl, sym, ◌∙◌, ap, subst}
+use Rattle.std.proofs.Common.{◌-◌, List, ◌++◌, length, set, Some, refl, sym, ◌∙◌, ap, subst}
 use Rattle.claim_wire.specs.declared.message.Answers.{Answers}
 use Rattle.claim_wire.specs.declared.message.Message.{Message}
 use Rattle.claim_wire.specs.Facts.{Facts}
-use Rattle.claim_wire.specs.Replies.{told, sent_text}
+use Rattle.claim_wire.specs.Replies.{sent_text}
 use Rattle.claim_wire.specs.Wires as spec
 use Rattle.claim_wire.specs.Wires.{WireState, answers_of, listed}
 use Rattle.claim_wire.proofs.StepLemmas.{put-at, only-answers, told-more}

@@ -1,9 +1,8 @@
-use Rattle.std.proofs.Common.{◌≡◌, ℕ, ◌+◌, ◌<◌, ◌≤◌, List, ◌++◌, length, Option, None, Some, refl, sym, ◌∙◌, ap, subst, arith}
+use Rattle.std.proofs.Common.{None, refl, sym, ap, subst}
 use Rattle.claim_wire.specs.declared.event.Event.TheVariants as events
 use Rattle.claim_wire.specs.Customers as moves
 use Rattle.claim_wire.specs.Facts.{Facts}
 use Rattle.claim_wire.specs.Replies.{told}
-use Rattle.claim_wire.specs.Wires as spec
 use Rattle.claim_wire.proofs.StepLemmas.{moved-is, made-as, text-as}
 use Rattle.claim_wire.proofs.WireLemmas.{happens-facts}
 use Rattle.claim_wire.proofs.wire.Wire.restart_customer.Goals as goal

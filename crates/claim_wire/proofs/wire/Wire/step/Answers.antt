@@ -1,5 +1,4 @@
-use Rattle.std.proofs.Common.{◌≡◌, length, Option, refl, sym, ◌∙◌, ap, subst}
-use Rattle.claim_wire.specs.declared.fault.WireFault.{WireFault}
+use Rattle.std.proofs.Common.{length, sym, ◌∙◌, ap, subst}
 use Rattle.claim_wire.specs.Facts.{IsSafe, HasOneHolder}
 use Rattle.claim_wire.specs.Wires as spec
 use Rattle.claim_wire.specs.Wires.{WireState}

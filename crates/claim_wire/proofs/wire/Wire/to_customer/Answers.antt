@@ -1,9 +1,7 @@
-use Rattle.std.proofs.Common.{◌≡◌, ℕ, ◌+◌, ◌<◌, ◌≤◌, List, ◌++◌, length, Option, None, Some, refl, sym, ◌∙◌, ap, subst, arith}
-use Rattle.claim_wire.specs.declared.event.Event.TheVariants as events
+use Rattle.std.proofs.Common.{None, refl, sym, ◌∙◌, ap, subst}
 use Rattle.claim_wire.specs.Customers as moves
 use Rattle.claim_wire.specs.Facts.{Facts}
 use Rattle.claim_wire.specs.Replies.{told}
-use Rattle.claim_wire.specs.Wires as spec
 use Rattle.claim_wire.proofs.StepLemmas.{moved-is, at-none, no-customer, told-nothing, untrue, made-as, text-as}
 use Rattle.claim_wire.proofs.WireLemmas.{given-facts}
 use Rattle.claim_wire.proofs.wire.Wire.to_customer.Goals as goal

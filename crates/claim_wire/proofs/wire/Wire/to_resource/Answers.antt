@@ -1,6 +1,4 @@
-use Rattle.std.proofs.Common.{◌≡◌, ℕ, ◌-◌, ◌<◌, List, ◌++◌, length, refl, sym, ◌∙◌, ap, subst, arith}
-use Rattle.claim_wire.specs.declared.message.Answers.{Answers}
-use Rattle.claim_wire.specs.declared.message.Message.{Message}
+use Rattle.std.proofs.Common.{◌-◌, ◌<◌, ◌++◌, length, refl, sym, ◌∙◌, ap, subst, arith}
 use Rattle.claim_wire.specs.Facts.{Facts}
 use Rattle.claim_wire.specs.Replies.{told, sent_text}
 use Rattle.claim_wire.specs.Resources.{take}

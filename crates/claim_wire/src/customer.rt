@@ -52,6 +52,7 @@ impl Customer {
         self.id
     }
 
+    /// Where the customer is with its claim.
     pub fn phase(&self) -> Phase
         ensures { result ≡ self.now.phase }
     {

@@ -1,4 +1,7 @@
 //! The claiming protocol: the two ends of a claim as machines, and a run of them on a schedule.
+//!
+//! That the two parties of a match claim each other directly is in Raman, Livny and Solomon (1998). The messages, their
+//! numbers and what each end stores are this program's own.
 #![tactic(auto)]
 
 mod customer;

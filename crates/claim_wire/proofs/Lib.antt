@@ -1,0 +1,6 @@
+mod CustomerLemmas
+mod ListLemmas
+mod ResourceLemmas
+mod StepLemmas
+mod WaitingLemmas
+mod WireLemmas

@@ -1,0 +1,29 @@
+use Rattle.std.proofs.Common.{refl, sym, ap, subst}
+use Rattle.claim_wire.specs.declared.event.Event.TheVariants as events
+use Rattle.claim_wire.specs.Customers as moves
+use Rattle.claim_wire.specs.Facts.{Facts}
+use Rattle.claim_wire.specs.Replies.{told}
+use Rattle.claim_wire.proofs.StepLemmas.{moved-is, made-as, text-as}
+use Rattle.claim_wire.proofs.WireLemmas.{happens-facts}
+use Rattle.claim_wire.proofs.wire.Wire.again.Goals as goal
+
+pub put_customer-requires-clause-kept : goal.put_customer-requires-clause-kept
+put_customer-requires-clause-kept c =
+    let w = c.args.self.now in
+    let s = c.customer-same.result in
+    let e = moved-is w c.args.customer (λ s. (s, moves.again s)) s s c.again.result c.customer-same.ensures.customer refl c.again.ensures in
+    subst Facts (sym e) (happens-facts (events.Again c.args.customer) w c.customer-same.ensures.facts)
+
+pub returns-clause-new : goal.returns-clause-new
+returns-clause-new c =
+    let w = c.args.self.now in
+    let s = c.customer-same.result in
+    let e = moved-is w c.args.customer (λ s. (s, moves.again s)) s s c.again.result c.customer-same.ensures.customer refl c.again.ensures in
+    made-as c.put_customer.result c.put_customer.new.self e c.put_customer.ensures.new
+
+pub returns-clause-reply : goal.returns-clause-reply
+returns-clause-reply c =
+    let w = c.args.self.now in
+    let s = c.customer-same.result in
+    let e = moved-is w c.args.customer (λ s. (s, moves.again s)) s s c.again.result c.customer-same.ensures.customer refl c.again.ensures in
+    text-as c.put_customer.result (ap (told w) e) c.put_customer.ensures.reply

@@ -1,0 +1,29 @@
+use Rattle.std.proofs.Common.{None, refl, sym, ap, subst}
+use Rattle.claim_wire.specs.declared.event.Event.TheVariants as events
+use Rattle.claim_wire.specs.Customers as moves
+use Rattle.claim_wire.specs.Facts.{Facts}
+use Rattle.claim_wire.specs.Replies.{told}
+use Rattle.claim_wire.proofs.StepLemmas.{moved-is, made-as, text-as}
+use Rattle.claim_wire.proofs.WireLemmas.{happens-facts}
+use Rattle.claim_wire.proofs.wire.Wire.restart_customer.Goals as goal
+
+pub put_customer-requires-clause-kept : goal.put_customer-requires-clause-kept
+put_customer-requires-clause-kept c =
+    let w = c.args.self.now in
+    let s = c.customer-moved.result in
+    let e = moved-is w c.args.customer (λ s. (moves.restart s, None)) s c.restart.new.self None c.customer-moved.ensures.customer c.restart.ensures refl in
+    subst Facts (sym e) (happens-facts (events.RestartCustomer c.args.customer) w c.customer-moved.ensures.facts)
+
+pub returns-clause-new : goal.returns-clause-new
+returns-clause-new c =
+    let w = c.args.self.now in
+    let s = c.customer-moved.result in
+    let e = moved-is w c.args.customer (λ s. (moves.restart s, None)) s c.restart.new.self None c.customer-moved.ensures.customer c.restart.ensures refl in
+    made-as c.put_customer.result c.put_customer.new.self e c.put_customer.ensures.new
+
+pub returns-clause-reply : goal.returns-clause-reply
+returns-clause-reply c =
+    let w = c.args.self.now in
+    let s = c.customer-moved.result in
+    let e = moved-is w c.args.customer (λ s. (moves.restart s, None)) s c.restart.new.self None c.customer-moved.ensures.customer c.restart.ensures refl in
+    text-as c.put_customer.result (ap (told w) e) c.put_customer.ensures.reply

@@ -5,7 +5,7 @@ ghost use Rattle.ad_value.specs.Plain.{boolean};
 ghost use Rattle.ad_tree.specs.Tree.{pack, three, tree, trees};
 ghost use Rattle.ad_eval.specs.Kept.{Answers, AnswersAll, Counts, Ready};
 ghost use Rattle.ad_eval.specs.Node.{called, conditional};
-ghost use Rattle.ad_eval.specs.Scene.{results_in, world_in};
+ghost use Rattle.ad_eval.specs.Scene.{listed_in, results_in, world_in};
 
 use crate::branch::{Branch, branch_of};
 use crate::calls::{apply_function, is_named};
@@ -13,7 +13,7 @@ use crate::evaluation::evaluate;
 use crate::outcome::{Outcome, Several, greater};
 use crate::scene::Scene;
 use ad_tree::{Expr, Exprs};
-use ad_value::{Value, Values, and_ends, and_step, or_ends, or_step};
+use ad_value::{Value, Values, and_ends, and_step, bounded, or_ends, or_step};
 use builtin_funcs::known;
 use cycle_guard::Guard;
 use pool_steps::Steps;
@@ -99,6 +99,28 @@ pub fn all_of<E: Ledger>(
         all = all.with(next)?;
     }
     Ok(Some(all))
+}
+
+/// A list of the values of all expressions, Error where it weighs too much.
+#[cycle(evaluation)]
+pub fn list_literal<E: Ledger>(
+    scene: &Scene<'_>,
+    guard: &mut Guard,
+    entry: &mut Steps<E>,
+    items: &Exprs,
+) -> Result<Option<Outcome>, OutOfMemory>
+    requires { Ready (world_in scene.now) guard.old (listed_in scene.now (pack (trees items.now))) }
+    ensures answer { IfOk result (λ o. Answers (world_in scene.now) (listed_in scene.now (pack (trees items.now))) scene.now.left guard.old guard.new o) }
+    ensures counted { Counts (world_in scene.now) entry.old entry.new guard.old guard.new }
+{
+    let Some(all) = all_of(scene, guard, entry, items)? else {
+        return Ok(None);
+    };
+    let Several { values, height } = all;
+    Ok(Some(Outcome {
+        value: bounded(Value::List(values)),
+        height,
+    }))
 }
 
 /// `condition ? first : second`, of which one branch at most is demanded.

@@ -9,12 +9,13 @@ ghost use Rattle.ad_eval.specs.Reference.{IsInWorld, value_of};
 ghost use Rattle.ad_eval.specs.Scene.{values_in, world_in};
 ghost use Rattle.ad_eval.specs.Value.{value_at};
 
-use crate::chains::{all_of, call_function, conditional, conjunction, disjunction};
-use crate::outcome::{Outcome, Several, greater};
-use crate::reference::{Reference, look_up, select, subscript};
+use crate::chains::{call_function, conditional, conjunction, disjunction, list_literal};
+use crate::operands::{binary_operation, selection, subscription, unary_operation};
+use crate::outcome::Outcome;
+use crate::reference::{Reference, look_up};
 use crate::scene::{Scene, inside};
 use ad_tree::Expr;
-use ad_value::{Value, binary, bounded, copy, from_lit, unary};
+use ad_value::{Value, copy, from_lit};
 use cycle_guard::{Guard, Seen};
 use pool_steps::Steps;
 use pool_text::{AdPlace, OutOfMemory, Pos};
@@ -38,66 +39,17 @@ pub fn evaluate<E: Ledger>(
             let named = look_up(scene, *scope, name.bytes());
             follow(scene, guard, entry, named)
         }
-        Expr::Unary(op, a) => {
-            let Some(operand) = evaluate(scene, guard, entry, a)? else {
-                return Ok(None);
-            };
-            Ok(Some(Outcome {
-                value: unary(*op, &operand.value),
-                height: operand.height,
-            }))
-        }
-        Expr::Binary(op, a, b) => {
-            let Some(left) = evaluate(scene, guard, entry, a)? else {
-                return Ok(None);
-            };
-            let Some(right) = evaluate(scene, guard, entry, b)? else {
-                return Ok(None);
-            };
-            Ok(Some(Outcome {
-                value: binary(*op, &left.value, &right.value),
-                height: greater(left.height, right.height),
-            }))
-        }
+        Expr::Unary(op, a) => unary_operation(scene, guard, entry, *op, a),
+        Expr::Binary(op, a, b) => binary_operation(scene, guard, entry, *op, a, b),
         Expr::And(items) => conjunction(scene, guard, entry, items),
         Expr::Or(items) => disjunction(scene, guard, entry, items),
         Expr::Cond(condition, first, second) => {
             conditional(scene, guard, entry, condition, first, second)
         }
-        Expr::Select(base, name) => {
-            let Some(base) = evaluate(scene, guard, entry, base)? else {
-                return Ok(None);
-            };
-            let selected = select(scene, &base.value, name.bytes());
-            let Some(found) = follow(scene, guard, entry, selected)? else {
-                return Ok(None);
-            };
-            Ok(Some(found.at_least(base.height)))
-        }
-        Expr::Subscript(base, index) => {
-            let Some(base) = evaluate(scene, guard, entry, base)? else {
-                return Ok(None);
-            };
-            let Some(index) = evaluate(scene, guard, entry, index)? else {
-                return Ok(None);
-            };
-            let element = subscript(scene, &base.value, &index.value)?;
-            let Some(found) = follow(scene, guard, entry, element)? else {
-                return Ok(None);
-            };
-            Ok(Some(found.at_least(greater(base.height, index.height))))
-        }
+        Expr::Select(base, name) => selection(scene, guard, entry, base, name.bytes()),
+        Expr::Subscript(base, index) => subscription(scene, guard, entry, base, index),
         Expr::Call(name, items) => call_function(scene, guard, entry, name.bytes(), items),
-        Expr::List(items) => {
-            let Some(all) = all_of(scene, guard, entry, items)? else {
-                return Ok(None);
-            };
-            let Several { values, height } = all;
-            Ok(Some(Outcome {
-                value: bounded(Value::List(values)),
-                height,
-            }))
-        }
+        Expr::List(items) => list_literal(scene, guard, entry, items),
         Expr::Frame(frame) => Ok(Some(Outcome::leaf(Value::Ad(AdPlace {
             ad: scene.at.ad,
             frame: *frame,
@@ -105,10 +57,9 @@ pub fn evaluate<E: Ledger>(
     }
 }
 
-// The value of a reference. An attribute that is met while it is pending needs itself, so it has no value with any number of
-// references; a kept value serves where the references that are left are at least as many as it needs.
+/// The value of a reference: its own, or that of the attribute which it comes to.
 #[cycle(evaluation)]
-fn follow<E: Ledger>(
+pub fn follow<E: Ledger>(
     scene: &Scene<'_>,
     guard: &mut Guard,
     entry: &mut Steps<E>,

@@ -6,6 +6,7 @@ mod calls;
 mod chains;
 mod evaluation;
 mod laws;
+mod operands;
 mod outcome;
 mod reference;
 mod scene;

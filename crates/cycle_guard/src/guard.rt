@@ -1,10 +1,11 @@
 // A finite map from attributes to what is known of them.
 ghost use Rattle.std.specs.Prelude.{◌≡◌, ℕ, OnOk, OnErr, IfSome, Some, cond, length, position, slice_get, slice_set, ◌<◌};
+ghost use Rattle.std.specs.HashMap.{get};
 ghost use Rattle.std.specs.Option.{option_copied};
 ghost use Rattle.pool_text.specs.declared.language.Pos.{Pos};
 ghost use Rattle.ad_value.specs.Plain.{plain};
 ghost use Rattle.cycle_guard.specs.Sights.{same_pos, sight};
-ghost use Rattle.cycle_guard.specs.Shown.{entry_of, key_of, sight_of_kept};
+ghost use Rattle.cycle_guard.specs.Shown.{entry_of, key_of, same_key, sight_of_kept};
 
 use ad_value::Value;
 use pool_text::{OutOfMemory, Pos};
@@ -13,7 +14,10 @@ use std::alloc::Global;
 use std::collections::HashMap;
 
 /// Most evaluations enter no more attributes than these, and then the guard takes no memory.
-const FIRST: usize = 8;
+const INLINE: usize = 8;
+
+/// So many attributes are looked through in turn, in fewer steps than a hash takes. Few evaluations enter more.
+const FIRST: usize = 64;
 
 /// What is known of an attribute: nothing yet, that it was entered, or its value with the least number of references that it
 /// needs, the one to itself included.
@@ -54,7 +58,7 @@ impl Default for Entry {
 /// The attributes that an evaluation has entered, with what is known of them. Contracts see a sight for each attribute.
 #[derive(Debug, Drop)]
 pub struct Guard {
-    first: SmallVec<Entry, FIRST>,
+    first: SmallVec<Entry, INLINE>,
     others: HashMap<(u32, u32, u32), Option<Kept>>,
 }
 
@@ -78,7 +82,7 @@ impl Guard {
     {
         match entry_at(self.first.as_slice(), pos) {
             Some(kept) => seen_of(kept),
-            None => match self.others.get(&key_of(pos)) {
+            None => match other_at(&self.others, pos) {
                 Some(kept) => seen_of(kept),
                 None => Seen::Unseen,
             },
@@ -138,6 +142,16 @@ fn entry_at(entries: &[Entry], pos: Pos) -> Option<&Option<Kept>>
         Some(place) => Some(&entries[place].kept),
         None => None,
     }
+}
+
+// What the map has of an attribute. While it is empty no hash is taken.
+fn other_at(others: &HashMap<(u32, u32, u32), Option<Kept>>, pos: Pos) -> Option<&Option<Kept>>
+    ensures { option_copied result ≡ get same_key others.now (key_of pos) }
+{
+    if others.is_empty() {
+        return None;
+    }
+    others.get(&key_of(pos))
 }
 
 // What is known of an attribute that was entered.

@@ -23,23 +23,23 @@ fn advance(guard: &mut Guard, n: u32) -> Result<(), OutOfMemory> {
     Ok(())
 }
 
-// The first eight and the others, entered in turn and finished from the last on.
+// Those that are looked through and the others, entered in turn and finished from the last on.
 #[test]
 fn states(rt: HostRuntime) -> Result<(), Fail> {
     let mut guard = Guard::new(rt.alloc());
-    for n in 0..12 {
+    for n in 0..70 {
         assert!(rt; matches!(guard.state(pos(n)), Seen::Unseen), "{n}");
         advance(&mut guard, n)?;
         assert!(rt; matches!(guard.state(pos(n)), Seen::Pending), "{n}");
     }
-    for n in (0..12).rev() {
+    for n in (0..70).rev() {
         advance(&mut guard, n)?;
         assert!(rt;
             matches!(guard.state(pos(n / 2)), Seen::Pending) || n < 2,
             "{n}"
         );
     }
-    for n in 0..12 {
+    for n in 0..70 {
         let Seen::Done(Value::Integer(value), height) = guard.state(pos(n)) else {
             panic!(rt; "{n} isn't done");
         };

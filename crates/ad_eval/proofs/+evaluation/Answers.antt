@@ -20,7 +20,7 @@ use Rattle.ad_eval.specs.declared.reference.Reference.{Reference}
 use Rattle.ad_eval.specs.Kept.{Answers, AnswersAll, Counts, IsReached, Ready}
 use Rattle.ad_eval.specs.Node.{attribute_value, called, conditional, function_value}
 use Rattle.ad_eval.specs.Reference.{IsInWorld, value_of}
-use Rattle.ad_eval.specs.Scene.{results_in, values_in, world_in}
+use Rattle.ad_eval.specs.Scene.{binary_in, listed_in, results_in, selected_in, subscripted_in, unary_in, values_in, world_in}
 use Rattle.ad_eval.specs.Value.{value_at, value_with}
 use Rattle.ad_eval.proofs.KeptLemmas.{IsPartly, answer_some, answers_none, answers_some, counts_same, counts_then, is_ready, reached_as, ready_is, rewritten}
 use Rattle.ad_eval.proofs.CountLemmas.{unseen-after, unseen-fewer, unseen-same}
@@ -197,513 +197,620 @@ evaluation::evaluate-returns-in-Call g t c =
     let same = λ (n : ℕ). in_call s e n x ts is in
     record { answer = IfOk-map c.call_function.result (λ o. Answers w (λ n. called w x (results_in s ts n)) s.left g0 c.call_function.new.guard o) (λ o. Answers w (values_in s e) s.left g0 c.call_function.new.guard o) (λ o h. answers_of w s.left (values_in s e) (λ n. called w x (results_in s ts n)) g0 c.call_function.new.guard o same h) c.call_function.ensures.answer; counted = c.call_function.ensures.counted }
 
-pub evaluation::evaluate-evaluate-requires : goal.evaluation::evaluate-evaluate-requires
-evaluation::evaluate-evaluate-requires g t c κs within =
+pub evaluation::evaluate-unary_operation-requires : goal.evaluation::evaluate-unary_operation-requires
+evaluation::evaluate-unary_operation-requires g t c κs within =
     let s = c.args.scene.now in
     let w = world_in s in
     let g0 = c.args.guard.now in
-    let n0 = c.args.entry.now in
     let e = tree c.args.expr.now in
     let op = c.in-Unary.op in
     let a = tree c.deref.result.now in
+    let f = λ (n : ℕ). unary_in s op a n in
     let is = ap tree c.in-Unary.is ∙ tree-Unary op c.in-Unary.a ∙ ap (λ (x : Expr). node (unary op) (one (tree x))) (sym c.deref.ensures) in
-    let p0 = begins w s.left (values_in s e) (λ n. option_map (unary_value op) (values_in s a n)) g0 c.requires (λ n. in_unary s e n op a is) in
-    (omega (arith, c.decreases, ap size is), (within, mapped_part_ready w s.left (values_in s e) g0 g0 (unary_value op) (values_in s a) 0 p0))
+    let p0 = begins w s.left (values_in s e) f g0 c.requires (λ n. in_unary s e n op a is) in
+    (omega (arith, c.decreases, ap size is), (within, rest_ready w s.left (values_in s e) g0 g0 f 0 p0))
 
-pub evaluation::evaluate-returns-in_default : goal.evaluation::evaluate-returns-in_default
-evaluation::evaluate-returns-in_default g t c =
+pub evaluation::evaluate-returns-in-Unary : goal.evaluation::evaluate-returns-in-Unary
+evaluation::evaluate-returns-in-Unary g t c =
+    let s = c.args.scene.now in
+    let w = world_in s in
+    let g0 = c.args.guard.now in
+    let e = tree c.args.expr.now in
+    let op = c.in-Unary.op in
+    let a = tree c.deref.result.now in
+    let f = λ (n : ℕ). unary_in s op a n in
+    let is = ap tree c.in-Unary.is ∙ tree-Unary op c.in-Unary.a ∙ ap (λ (x : Expr). node (unary op) (one (tree x))) (sym c.deref.ensures) in
+    let g1 = c.unary_operation.new.guard in
+    record { answer = IfOk-map c.unary_operation.result (λ o. Answers w f s.left g0 g1 o) (λ o. Answers w (values_in s e) s.left g0 g1 o) (λ o h. answers_of w s.left (values_in s e) f g0 g1 o (λ n. in_unary s e n op a is) h) c.unary_operation.ensures.answer; counted = c.unary_operation.ensures.counted }
+
+pub evaluation::evaluate-binary_operation-requires : goal.evaluation::evaluate-binary_operation-requires
+evaluation::evaluate-binary_operation-requires g t c κs within =
+    let s = c.args.scene.now in
+    let w = world_in s in
+    let g0 = c.args.guard.now in
+    let e = tree c.args.expr.now in
+    let op = c.in-Binary.op in
+    let a = tree c.deref-in-Binary.result.now in
+    let b = tree c.deref-in-Binary-2.result.now in
+    let is = ap tree c.in-Binary.is ∙ tree-Binary op c.in-Binary.a c.in-Binary.b ∙ ap (λ (x : Expr). node (binary op) (two (tree x) (tree c.in-Binary.b.value))) (sym c.deref-in-Binary.ensures) ∙ ap (λ (x : Expr). node (binary op) (two a (tree x))) (sym c.deref-in-Binary-2.ensures) in
+    let f = λ (n : ℕ). binary_in s op a b n in
+    let p0 = begins w s.left (values_in s e) f g0 c.requires (λ n. in_binary s e n op a b is) in
+    (omega (arith, c.decreases, ap size is), (within, rest_ready w s.left (values_in s e) g0 g0 f 0 p0))
+
+pub evaluation::evaluate-returns-in-Binary : goal.evaluation::evaluate-returns-in-Binary
+evaluation::evaluate-returns-in-Binary g t c =
+    let s = c.args.scene.now in
+    let w = world_in s in
+    let g0 = c.args.guard.now in
+    let e = tree c.args.expr.now in
+    let op = c.in-Binary.op in
+    let a = tree c.deref-in-Binary.result.now in
+    let b = tree c.deref-in-Binary-2.result.now in
+    let is = ap tree c.in-Binary.is ∙ tree-Binary op c.in-Binary.a c.in-Binary.b ∙ ap (λ (x : Expr). node (binary op) (two (tree x) (tree c.in-Binary.b.value))) (sym c.deref-in-Binary.ensures) ∙ ap (λ (x : Expr). node (binary op) (two a (tree x))) (sym c.deref-in-Binary-2.ensures) in
+    let f = λ (n : ℕ). binary_in s op a b n in
+    let g1 = c.binary_operation.new.guard in
+    record { answer = IfOk-map c.binary_operation.result (λ o. Answers w f s.left g0 g1 o) (λ o. Answers w (values_in s e) s.left g0 g1 o) (λ o h. answers_of w s.left (values_in s e) f g0 g1 o (λ n. in_binary s e n op a b is) h) c.binary_operation.ensures.answer; counted = c.binary_operation.ensures.counted }
+
+pub evaluation::evaluate-selection-requires : goal.evaluation::evaluate-selection-requires
+evaluation::evaluate-selection-requires g t c κs within =
+    let s = c.args.scene.now in
+    let w = world_in s in
+    let g0 = c.args.guard.now in
+    let e = tree c.args.expr.now in
+    let x = c.bytes-in-Select.result.now in
+    let a = tree c.deref-in-Select.result.now in
+    let is = ap tree c.in-Select.is ∙ tree-Select c.in-Select.base c.in-Select.name ∙ ap (λ (y : Expr). node (select c.in-Select.name) (one (tree y))) (sym c.deref-in-Select.ensures) ∙ ap (λ (y : List ℕ). node (select y) (one a)) (sym c.bytes-in-Select.ensures) in
+    let f = λ (n : ℕ). selected_in s x a n in
+    let p0 = begins w s.left (values_in s e) f g0 c.requires (λ n. in_select s e n x a is) in
+    (omega (arith, c.decreases, ap size is), (within, rest_ready w s.left (values_in s e) g0 g0 f 0 p0))
+
+pub evaluation::evaluate-returns-in-Select : goal.evaluation::evaluate-returns-in-Select
+evaluation::evaluate-returns-in-Select g t c =
+    let s = c.args.scene.now in
+    let w = world_in s in
+    let g0 = c.args.guard.now in
+    let e = tree c.args.expr.now in
+    let x = c.bytes-in-Select.result.now in
+    let a = tree c.deref-in-Select.result.now in
+    let is = ap tree c.in-Select.is ∙ tree-Select c.in-Select.base c.in-Select.name ∙ ap (λ (y : Expr). node (select c.in-Select.name) (one (tree y))) (sym c.deref-in-Select.ensures) ∙ ap (λ (y : List ℕ). node (select y) (one a)) (sym c.bytes-in-Select.ensures) in
+    let f = λ (n : ℕ). selected_in s x a n in
+    let g1 = c.selection.new.guard in
+    record { answer = IfOk-map c.selection.result (λ o. Answers w f s.left g0 g1 o) (λ o. Answers w (values_in s e) s.left g0 g1 o) (λ o h. answers_of w s.left (values_in s e) f g0 g1 o (λ n. in_select s e n x a is) h) c.selection.ensures.answer; counted = c.selection.ensures.counted }
+
+pub evaluation::evaluate-subscription-requires : goal.evaluation::evaluate-subscription-requires
+evaluation::evaluate-subscription-requires g t c κs within =
+    let s = c.args.scene.now in
+    let w = world_in s in
+    let g0 = c.args.guard.now in
+    let e = tree c.args.expr.now in
+    let a = tree c.deref-in-Subscript.result.now in
+    let b = tree c.deref-in-Subscript-2.result.now in
+    let is = ap tree c.in-Subscript.is ∙ tree-Subscript c.in-Subscript.base c.in-Subscript.index ∙ ap (λ (y : Expr). node subscript (two (tree y) (tree c.in-Subscript.index.value))) (sym c.deref-in-Subscript.ensures) ∙ ap (λ (y : Expr). node subscript (two a (tree y))) (sym c.deref-in-Subscript-2.ensures) in
+    let f = λ (n : ℕ). subscripted_in s a b n in
+    let p0 = begins w s.left (values_in s e) f g0 c.requires (λ n. in_subscript s e n a b is) in
+    (omega (arith, c.decreases, ap size is), (within, rest_ready w s.left (values_in s e) g0 g0 f 0 p0))
+
+pub evaluation::evaluate-returns-in-Subscript : goal.evaluation::evaluate-returns-in-Subscript
+evaluation::evaluate-returns-in-Subscript g t c =
+    let s = c.args.scene.now in
+    let w = world_in s in
+    let g0 = c.args.guard.now in
+    let e = tree c.args.expr.now in
+    let a = tree c.deref-in-Subscript.result.now in
+    let b = tree c.deref-in-Subscript-2.result.now in
+    let is = ap tree c.in-Subscript.is ∙ tree-Subscript c.in-Subscript.base c.in-Subscript.index ∙ ap (λ (y : Expr). node subscript (two (tree y) (tree c.in-Subscript.index.value))) (sym c.deref-in-Subscript.ensures) ∙ ap (λ (y : Expr). node subscript (two a (tree y))) (sym c.deref-in-Subscript-2.ensures) in
+    let f = λ (n : ℕ). subscripted_in s a b n in
+    let g1 = c.subscription.new.guard in
+    record { answer = IfOk-map c.subscription.result (λ o. Answers w f s.left g0 g1 o) (λ o. Answers w (values_in s e) s.left g0 g1 o) (λ o h. answers_of w s.left (values_in s e) f g0 g1 o (λ n. in_subscript s e n a b is) h) c.subscription.ensures.answer; counted = c.subscription.ensures.counted }
+
+pub evaluation::evaluate-list_literal-requires : goal.evaluation::evaluate-list_literal-requires
+evaluation::evaluate-list_literal-requires g t c κs within =
+    let s = c.args.scene.now in
+    let w = world_in s in
+    let g0 = c.args.guard.now in
+    let e = tree c.args.expr.now in
+    let ts = pack (trees c.in-List.items) in
+    let is = ap tree c.in-List.is ∙ tree-List c.in-List.items in
+    let f = λ (n : ℕ). listed_in s ts n in
+    let p0 = begins w s.left (values_in s e) f g0 c.requires (λ n. in_list s e n ts is) in
+    (omega (arith, c.decreases, ap size is), (within, rest_ready w s.left (values_in s e) g0 g0 f 0 p0))
+
+pub evaluation::evaluate-returns-in-List : goal.evaluation::evaluate-returns-in-List
+evaluation::evaluate-returns-in-List g t c =
+    let s = c.args.scene.now in
+    let w = world_in s in
+    let g0 = c.args.guard.now in
+    let e = tree c.args.expr.now in
+    let ts = pack (trees c.in-List.items) in
+    let is = ap tree c.in-List.is ∙ tree-List c.in-List.items in
+    let f = λ (n : ℕ). listed_in s ts n in
+    let g1 = c.list_literal.new.guard in
+    record { answer = IfOk-map c.list_literal.result (λ o. Answers w f s.left g0 g1 o) (λ o. Answers w (values_in s e) s.left g0 g1 o) (λ o h. answers_of w s.left (values_in s e) f g0 g1 o (λ n. in_list s e n ts is) h) c.list_literal.ensures.answer; counted = c.list_literal.ensures.counted }
+
+pub operands::unary_operation-evaluate-requires : goal.operands::unary_operation-evaluate-requires
+operands::unary_operation-evaluate-requires g t c κs within =
     let s = c.args.scene.now in
     let w = world_in s in
     let g0 = c.args.guard.now in
     let n0 = c.args.entry.now in
-    let e = tree c.args.expr.now in
-    let op = c.in-Unary.op in
-    let a = tree c.deref.result.now in
-    let is = ap tree c.in-Unary.is ∙ tree-Unary op c.in-Unary.a ∙ ap (λ (x : Expr). node (unary op) (one (tree x))) (sym c.deref.ensures) in
-    let p0 = begins w s.left (values_in s e) (λ n. option_map (unary_value op) (values_in s a n)) g0 c.requires (λ n. in_unary s e n op a is) in
+    let op = c.args.op in
+    let a = tree c.args.a.now in
+    let f = λ (n : ℕ). unary_in s op a n in
+    let p0 = begins w s.left f (λ n. option_map (unary_value op) (values_in s a n)) g0 c.requires (λ n. refl) in
+    (omega (arith, c.decreases), (within, mapped_part_ready w s.left f g0 g0 (unary_value op) (values_in s a) 0 p0))
+
+pub operands::unary_operation-returns-in_default : goal.operands::unary_operation-returns-in_default
+operands::unary_operation-returns-in_default g t c =
+    let s = c.args.scene.now in
+    let w = world_in s in
+    let g0 = c.args.guard.now in
+    let n0 = c.args.entry.now in
+    let op = c.args.op in
+    let a = tree c.args.a.now in
+    let f = λ (n : ℕ). unary_in s op a n in
+    let p0 = begins w s.left f (λ n. option_map (unary_value op) (values_in s a n)) g0 c.requires (λ n. refl) in
     let g1 = c.evaluate.new.guard in
-    let none_left = known_as w (values_in s a) s.left g0 g1 c.in_ok-operand-in-Unary.field-0 None c.in_default.is c.in_ok-operand-in-Unary.ensures.answer in
-    record { answer = mapped_part_fails w s.left (values_in s e) g0 g0 g1 g1 (unary_value op) (values_in s a) 0 p0 none_left; counted = c.evaluate.ensures.counted }
+    let none_left = known_as w (values_in s a) s.left g0 g1 c.in_ok-operand.field-0 None c.in_default.is c.in_ok-operand.ensures.answer in
+    record { answer = mapped_part_fails w s.left f g0 g0 g1 g1 (unary_value op) (values_in s a) 0 p0 none_left; counted = c.evaluate.ensures.counted }
 
-pub evaluation::evaluate-returns-in-Some : goal.evaluation::evaluate-returns-in-Some
-evaluation::evaluate-returns-in-Some g t c =
+pub operands::unary_operation-returns : goal.operands::unary_operation-returns
+operands::unary_operation-returns g t c =
     let s = c.args.scene.now in
     let w = world_in s in
     let g0 = c.args.guard.now in
     let n0 = c.args.entry.now in
-    let e = tree c.args.expr.now in
-    let op = c.in-Unary.op in
-    let a = tree c.deref.result.now in
-    let is = ap tree c.in-Unary.is ∙ tree-Unary op c.in-Unary.a ∙ ap (λ (x : Expr). node (unary op) (one (tree x))) (sym c.deref.ensures) in
-    let p0 = begins w s.left (values_in s e) (λ n. option_map (unary_value op) (values_in s a n)) g0 c.requires (λ n. in_unary s e n op a is) in
+    let op = c.args.op in
+    let a = tree c.args.a.now in
+    let f = λ (n : ℕ). unary_in s op a n in
+    let p0 = begins w s.left f (λ n. option_map (unary_value op) (values_in s a n)) g0 c.requires (λ n. refl) in
     let g1 = c.evaluate.new.guard in
     let o = c.in-Some.operand in
     let u : Outcome = record { value = c.unary.result; height = o.height } in
-    let some = known_as w (values_in s a) s.left g0 g1 c.in_ok-operand-in-Unary.field-0 (Some o) c.in-Some.is c.in_ok-operand-in-Unary.ensures.answer in
-    record { answer = finishes_mapped w s.left (values_in s e) g0 g0 g1 (unary_value op) (values_in s a) 0 o u p0 some c.unary.ensures (omega arith); counted = c.evaluate.ensures.counted }
+    let some = known_as w (values_in s a) s.left g0 g1 c.in_ok-operand.field-0 (Some o) c.in-Some.is c.in_ok-operand.ensures.answer in
+    record { answer = finishes_mapped w s.left f g0 g0 g1 (unary_value op) (values_in s a) 0 o u p0 some c.unary.ensures (omega arith); counted = c.evaluate.ensures.counted }
 
-pub evaluation::evaluate-returns-in_err-operand-in-Unary : goal.evaluation::evaluate-returns-in_err-operand-in-Unary
-evaluation::evaluate-returns-in_err-operand-in-Unary g t c =
+pub operands::unary_operation-returns-in_err-operand : goal.operands::unary_operation-returns-in_err-operand
+operands::unary_operation-returns-in_err-operand g t c =
     let s = c.args.scene.now in
     let w = world_in s in
     let g0 = c.args.guard.now in
     let n0 = c.args.entry.now in
     record { answer = search rules; counted = c.evaluate.ensures.counted }
 
-pub evaluation::evaluate-evaluate-requires-in-Binary : goal.evaluation::evaluate-evaluate-requires-in-Binary
-evaluation::evaluate-evaluate-requires-in-Binary g t c κs within =
+pub operands::binary_operation-evaluate-requires : goal.operands::binary_operation-evaluate-requires
+operands::binary_operation-evaluate-requires g t c κs within =
     let s = c.args.scene.now in
     let w = world_in s in
     let g0 = c.args.guard.now in
     let n0 = c.args.entry.now in
-    let e = tree c.args.expr.now in
-    let op = c.in-Binary.op in
-    let a = tree c.deref-in-Binary.result.now in
-    let b = tree c.in-Binary.b.value in
-    let is = ap tree c.in-Binary.is ∙ tree-Binary op c.in-Binary.a c.in-Binary.b ∙ ap (λ (x : Expr). node (binary op) (two (tree x) b)) (sym c.deref-in-Binary.ensures) in
-    let p0 = begins w s.left (values_in s e) (λ n. option_and_then (λ x. option_map (binary_value op x) (values_in s b n)) (values_in s a n)) g0 c.requires (λ n. in_binary s e n op a b is) in
-    (omega (arith, c.decreases, ap size is), (within, part_ready w s.left (values_in s e) g0 g0 (λ n x. option_map (binary_value op x) (values_in s b n)) (values_in s a) 0 p0))
+    let op = c.args.op in
+    let a = tree c.args.a.now in
+    let b = tree c.args.b.now in
+    let f = λ (n : ℕ). binary_in s op a b n in
+    let p0 = begins w s.left f (λ n. option_and_then (λ x. option_map (binary_value op x) (values_in s b n)) (values_in s a n)) g0 c.requires (λ n. refl) in
+    (omega (arith, c.decreases), (within, part_ready w s.left f g0 g0 (λ n x. option_map (binary_value op x) (values_in s b n)) (values_in s a) 0 p0))
 
-pub evaluation::evaluate-returns-in_default-2 : goal.evaluation::evaluate-returns-in_default-2
-evaluation::evaluate-returns-in_default-2 g t c =
+pub operands::binary_operation-returns-in_default : goal.operands::binary_operation-returns-in_default
+operands::binary_operation-returns-in_default g t c =
     let s = c.args.scene.now in
     let w = world_in s in
     let g0 = c.args.guard.now in
     let n0 = c.args.entry.now in
-    let e = tree c.args.expr.now in
-    let op = c.in-Binary.op in
-    let a = tree c.deref-in-Binary.result.now in
-    let b = tree c.in-Binary.b.value in
-    let is = ap tree c.in-Binary.is ∙ tree-Binary op c.in-Binary.a c.in-Binary.b ∙ ap (λ (x : Expr). node (binary op) (two (tree x) b)) (sym c.deref-in-Binary.ensures) in
-    let p0 = begins w s.left (values_in s e) (λ n. option_and_then (λ x. option_map (binary_value op x) (values_in s b n)) (values_in s a n)) g0 c.requires (λ n. in_binary s e n op a b is) in
-    let g1 = c.evaluate-in-Binary.new.guard in
-    let none_left = known_as w (values_in s a) s.left g0 g1 c.in_ok-left-in-Binary.field-0 (None) c.in_default-2.is c.in_ok-left-in-Binary.ensures.answer in
-    record { answer = part_fails w s.left (values_in s e) g0 g0 g1 g1 (λ n x. option_map (binary_value op x) (values_in s b n)) (values_in s a) 0 p0 none_left; counted = c.evaluate-in-Binary.ensures.counted }
+    let op = c.args.op in
+    let a = tree c.args.a.now in
+    let b = tree c.args.b.now in
+    let f = λ (n : ℕ). binary_in s op a b n in
+    let p0 = begins w s.left f (λ n. option_and_then (λ x. option_map (binary_value op x) (values_in s b n)) (values_in s a n)) g0 c.requires (λ n. refl) in
+    let g1 = c.evaluate.new.guard in
+    let none_left = known_as w (values_in s a) s.left g0 g1 c.in_ok-left.field-0 (None) c.in_default.is c.in_ok-left.ensures.answer in
+    record { answer = part_fails w s.left f g0 g0 g1 g1 (λ n x. option_map (binary_value op x) (values_in s b n)) (values_in s a) 0 p0 none_left; counted = c.evaluate.ensures.counted }
 
-pub evaluation::evaluate-evaluate-requires-in-Binary-2 : goal.evaluation::evaluate-evaluate-requires-in-Binary-2
-evaluation::evaluate-evaluate-requires-in-Binary-2 g t c κs within =
+pub operands::binary_operation-evaluate-requires-2 : goal.operands::binary_operation-evaluate-requires-2
+operands::binary_operation-evaluate-requires-2 g t c κs within =
     let s = c.args.scene.now in
     let w = world_in s in
     let g0 = c.args.guard.now in
     let n0 = c.args.entry.now in
-    let e = tree c.args.expr.now in
-    let op = c.in-Binary.op in
-    let a = tree c.deref-in-Binary.result.now in
-    let b = tree c.deref-in-Binary-2.result.now in
-    let is = ap tree c.in-Binary.is ∙ tree-Binary op c.in-Binary.a c.in-Binary.b ∙ ap (λ (x : Expr). node (binary op) (two (tree x) (tree c.in-Binary.b.value))) (sym c.deref-in-Binary.ensures) ∙ ap (λ (x : Expr). node (binary op) (two a (tree x))) (sym c.deref-in-Binary-2.ensures) in
-    let p0 = begins w s.left (values_in s e) (λ n. option_and_then (λ x. option_map (binary_value op x) (values_in s b n)) (values_in s a n)) g0 c.requires (λ n. in_binary s e n op a b is) in
-    let g1 = c.evaluate-in-Binary.new.guard in
-    let o1 = c.in-Some-2.left in
-    let some1 = known_as w (values_in s a) s.left g0 g1 c.in_ok-left-in-Binary.field-0 (Some o1) c.in-Some-2.is c.in_ok-left-in-Binary.ensures.answer in
-    let p1 = part_done w s.left (values_in s e) g0 g0 g1 (λ n x. option_map (binary_value op x) (values_in s b n)) (values_in s a) 0 o1 p0 some1 in
+    let op = c.args.op in
+    let a = tree c.args.a.now in
+    let b = tree c.args.b.now in
+    let f = λ (n : ℕ). binary_in s op a b n in
+    let p0 = begins w s.left f (λ n. option_and_then (λ x. option_map (binary_value op x) (values_in s b n)) (values_in s a n)) g0 c.requires (λ n. refl) in
+    let g1 = c.evaluate.new.guard in
+    let o1 = c.in-Some.left in
+    let some1 = known_as w (values_in s a) s.left g0 g1 c.in_ok-left.field-0 (Some o1) c.in-Some.is c.in_ok-left.ensures.answer in
+    let p1 = part_done w s.left f g0 g0 g1 (λ n x. option_map (binary_value op x) (values_in s b n)) (values_in s a) 0 o1 p0 some1 in
     let h1 = max 0 o1.height in
-    (omega (arith, c.decreases, ap size is), (within, mapped_part_ready w s.left (values_in s e) g0 g1 (binary_value op (plain o1.value)) (values_in s b) h1 p1))
+    (omega (arith, c.decreases), (within, mapped_part_ready w s.left f g0 g1 (binary_value op (plain o1.value)) (values_in s b) h1 p1))
 
-pub evaluation::evaluate-returns-in_default-3 : goal.evaluation::evaluate-returns-in_default-3
-evaluation::evaluate-returns-in_default-3 g t c =
+pub operands::binary_operation-returns-in_default-2 : goal.operands::binary_operation-returns-in_default-2
+operands::binary_operation-returns-in_default-2 g t c =
     let s = c.args.scene.now in
     let w = world_in s in
     let g0 = c.args.guard.now in
     let n0 = c.args.entry.now in
-    let e = tree c.args.expr.now in
-    let op = c.in-Binary.op in
-    let a = tree c.deref-in-Binary.result.now in
-    let b = tree c.deref-in-Binary-2.result.now in
-    let is = ap tree c.in-Binary.is ∙ tree-Binary op c.in-Binary.a c.in-Binary.b ∙ ap (λ (x : Expr). node (binary op) (two (tree x) (tree c.in-Binary.b.value))) (sym c.deref-in-Binary.ensures) ∙ ap (λ (x : Expr). node (binary op) (two a (tree x))) (sym c.deref-in-Binary-2.ensures) in
-    let p0 = begins w s.left (values_in s e) (λ n. option_and_then (λ x. option_map (binary_value op x) (values_in s b n)) (values_in s a n)) g0 c.requires (λ n. in_binary s e n op a b is) in
-    let g1 = c.evaluate-in-Binary.new.guard in
-    let o1 = c.in-Some-2.left in
-    let some1 = known_as w (values_in s a) s.left g0 g1 c.in_ok-left-in-Binary.field-0 (Some o1) c.in-Some-2.is c.in_ok-left-in-Binary.ensures.answer in
-    let p1 = part_done w s.left (values_in s e) g0 g0 g1 (λ n x. option_map (binary_value op x) (values_in s b n)) (values_in s a) 0 o1 p0 some1 in
+    let op = c.args.op in
+    let a = tree c.args.a.now in
+    let b = tree c.args.b.now in
+    let f = λ (n : ℕ). binary_in s op a b n in
+    let p0 = begins w s.left f (λ n. option_and_then (λ x. option_map (binary_value op x) (values_in s b n)) (values_in s a n)) g0 c.requires (λ n. refl) in
+    let g1 = c.evaluate.new.guard in
+    let o1 = c.in-Some.left in
+    let some1 = known_as w (values_in s a) s.left g0 g1 c.in_ok-left.field-0 (Some o1) c.in-Some.is c.in_ok-left.ensures.answer in
+    let p1 = part_done w s.left f g0 g0 g1 (λ n x. option_map (binary_value op x) (values_in s b n)) (values_in s a) 0 o1 p0 some1 in
     let h1 = max 0 o1.height in
-    let g2 = c.evaluate-in-Binary-2.new.guard in
-    let none_left = known_as w (values_in s b) s.left g1 g2 c.in_ok-right-in-Binary.field-0 (None) c.in_default-3.is c.in_ok-right-in-Binary.ensures.answer in
-    record { answer = mapped_part_fails w s.left (values_in s e) g0 g1 g2 g2 (binary_value op (plain o1.value)) (values_in s b) h1 p1 none_left; counted = counts_then w n0 c.evaluate-in-Binary.new.entry c.evaluate-in-Binary-2.new.entry g0 g1 g2 c.evaluate-in-Binary.ensures.counted c.evaluate-in-Binary-2.ensures.counted }
+    let g2 = c.evaluate-2.new.guard in
+    let none_left = known_as w (values_in s b) s.left g1 g2 c.in_ok-right.field-0 (None) c.in_default-2.is c.in_ok-right.ensures.answer in
+    record { answer = mapped_part_fails w s.left f g0 g1 g2 g2 (binary_value op (plain o1.value)) (values_in s b) h1 p1 none_left; counted = counts_then w n0 c.evaluate.new.entry c.evaluate-2.new.entry g0 g1 g2 c.evaluate.ensures.counted c.evaluate-2.ensures.counted }
 
-pub evaluation::evaluate-returns-in-Some-3 : goal.evaluation::evaluate-returns-in-Some-3
-evaluation::evaluate-returns-in-Some-3 g t c =
+pub operands::binary_operation-returns : goal.operands::binary_operation-returns
+operands::binary_operation-returns g t c =
     let s = c.args.scene.now in
     let w = world_in s in
     let g0 = c.args.guard.now in
     let n0 = c.args.entry.now in
-    let e = tree c.args.expr.now in
-    let op = c.in-Binary.op in
-    let a = tree c.deref-in-Binary.result.now in
-    let b = tree c.deref-in-Binary-2.result.now in
-    let is = ap tree c.in-Binary.is ∙ tree-Binary op c.in-Binary.a c.in-Binary.b ∙ ap (λ (x : Expr). node (binary op) (two (tree x) (tree c.in-Binary.b.value))) (sym c.deref-in-Binary.ensures) ∙ ap (λ (x : Expr). node (binary op) (two a (tree x))) (sym c.deref-in-Binary-2.ensures) in
-    let p0 = begins w s.left (values_in s e) (λ n. option_and_then (λ x. option_map (binary_value op x) (values_in s b n)) (values_in s a n)) g0 c.requires (λ n. in_binary s e n op a b is) in
-    let g1 = c.evaluate-in-Binary.new.guard in
-    let o1 = c.in-Some-2.left in
-    let some1 = known_as w (values_in s a) s.left g0 g1 c.in_ok-left-in-Binary.field-0 (Some o1) c.in-Some-2.is c.in_ok-left-in-Binary.ensures.answer in
-    let p1 = part_done w s.left (values_in s e) g0 g0 g1 (λ n x. option_map (binary_value op x) (values_in s b n)) (values_in s a) 0 o1 p0 some1 in
+    let op = c.args.op in
+    let a = tree c.args.a.now in
+    let b = tree c.args.b.now in
+    let f = λ (n : ℕ). binary_in s op a b n in
+    let p0 = begins w s.left f (λ n. option_and_then (λ x. option_map (binary_value op x) (values_in s b n)) (values_in s a n)) g0 c.requires (λ n. refl) in
+    let g1 = c.evaluate.new.guard in
+    let o1 = c.in-Some.left in
+    let some1 = known_as w (values_in s a) s.left g0 g1 c.in_ok-left.field-0 (Some o1) c.in-Some.is c.in_ok-left.ensures.answer in
+    let p1 = part_done w s.left f g0 g0 g1 (λ n x. option_map (binary_value op x) (values_in s b n)) (values_in s a) 0 o1 p0 some1 in
     let h1 = max 0 o1.height in
-    let g2 = c.evaluate-in-Binary-2.new.guard in
-    let o2 = c.in-Some-3.right in
+    let g2 = c.evaluate-2.new.guard in
+    let o2 = c.in-Some-2.right in
     let u : Outcome = record { value = c.binary.result; height = c.greater.result } in
-    let some2 = known_as w (values_in s b) s.left g1 g2 c.in_ok-right-in-Binary.field-0 (Some o2) c.in-Some-3.is c.in_ok-right-in-Binary.ensures.answer in
-    record { answer = finishes_mapped w s.left (values_in s e) g0 g1 g2 (binary_value op (plain o1.value)) (values_in s b) h1 o2 u p1 some2 c.binary.ensures (omega (arith, c.greater.ensures)); counted = counts_then w n0 c.evaluate-in-Binary.new.entry c.evaluate-in-Binary-2.new.entry g0 g1 g2 c.evaluate-in-Binary.ensures.counted c.evaluate-in-Binary-2.ensures.counted }
+    let some2 = known_as w (values_in s b) s.left g1 g2 c.in_ok-right.field-0 (Some o2) c.in-Some-2.is c.in_ok-right.ensures.answer in
+    record { answer = finishes_mapped w s.left f g0 g1 g2 (binary_value op (plain o1.value)) (values_in s b) h1 o2 u p1 some2 c.binary.ensures (omega (arith, c.greater.ensures)); counted = counts_then w n0 c.evaluate.new.entry c.evaluate-2.new.entry g0 g1 g2 c.evaluate.ensures.counted c.evaluate-2.ensures.counted }
 
-pub evaluation::evaluate-returns-in_err-left-in-Binary : goal.evaluation::evaluate-returns-in_err-left-in-Binary
-evaluation::evaluate-returns-in_err-left-in-Binary g t c =
+pub operands::binary_operation-returns-in_err-left : goal.operands::binary_operation-returns-in_err-left
+operands::binary_operation-returns-in_err-left g t c =
     let s = c.args.scene.now in
     let w = world_in s in
     let g0 = c.args.guard.now in
     let n0 = c.args.entry.now in
-    record { answer = search rules; counted = c.evaluate-in-Binary.ensures.counted }
+    record { answer = search rules; counted = c.evaluate.ensures.counted }
 
-pub evaluation::evaluate-returns-in_err-right-in-Binary : goal.evaluation::evaluate-returns-in_err-right-in-Binary
-evaluation::evaluate-returns-in_err-right-in-Binary g t c =
+pub operands::binary_operation-returns-in_err-right : goal.operands::binary_operation-returns-in_err-right
+operands::binary_operation-returns-in_err-right g t c =
     let s = c.args.scene.now in
     let w = world_in s in
     let g0 = c.args.guard.now in
     let n0 = c.args.entry.now in
-    let g1 = c.evaluate-in-Binary.new.guard in
-    let g2 = c.evaluate-in-Binary-2.new.guard in
-    record { answer = search rules; counted = counts_then w n0 c.evaluate-in-Binary.new.entry c.evaluate-in-Binary-2.new.entry g0 g1 g2 c.evaluate-in-Binary.ensures.counted c.evaluate-in-Binary-2.ensures.counted }
+    let g1 = c.evaluate.new.guard in
+    let g2 = c.evaluate-2.new.guard in
+    record { answer = search rules; counted = counts_then w n0 c.evaluate.new.entry c.evaluate-2.new.entry g0 g1 g2 c.evaluate.ensures.counted c.evaluate-2.ensures.counted }
 
-pub evaluation::evaluate-evaluate-requires-in-Select : goal.evaluation::evaluate-evaluate-requires-in-Select
-evaluation::evaluate-evaluate-requires-in-Select g t c κs within =
+pub operands::selection-evaluate-requires : goal.operands::selection-evaluate-requires
+operands::selection-evaluate-requires g t c κs within =
     let s = c.args.scene.now in
     let w = world_in s in
     let g0 = c.args.guard.now in
     let n0 = c.args.entry.now in
-    let e = tree c.args.expr.now in
-    let x = c.in-Select.name in
-    let a = tree c.deref-in-Select.result.now in
-    let is = ap tree c.in-Select.is ∙ tree-Select c.in-Select.base c.in-Select.name ∙ ap (λ (y : Expr). node (select c.in-Select.name) (one (tree y))) (sym c.deref-in-Select.ensures) in
-    let p0 = begins w s.left (values_in s e) (λ n. option_and_then (selected (attribute_value (value_at n w) w) x) (values_in s a n)) g0 c.requires (λ n. in_select s e n x a is) in
-    (omega (arith, c.decreases, ap size is), (within, part_ready w s.left (values_in s e) g0 g0 (λ n. selected (attribute_value (value_at n w) w) x) (values_in s a) 0 p0))
+    let x = c.args.name.now in
+    let a = tree c.args.base.now in
+    let f = λ (n : ℕ). selected_in s x a n in
+    let p0 = begins w s.left f (λ n. option_and_then (selected (attribute_value (value_at n w) w) x) (values_in s a n)) g0 c.requires (λ n. refl) in
+    (omega (arith, c.decreases), (within, part_ready w s.left f g0 g0 (λ n. selected (attribute_value (value_at n w) w) x) (values_in s a) 0 p0))
 
-pub evaluation::evaluate-returns-in_default-4 : goal.evaluation::evaluate-returns-in_default-4
-evaluation::evaluate-returns-in_default-4 g t c =
+pub operands::selection-returns-in_default : goal.operands::selection-returns-in_default
+operands::selection-returns-in_default g t c =
     let s = c.args.scene.now in
     let w = world_in s in
     let g0 = c.args.guard.now in
     let n0 = c.args.entry.now in
-    let e = tree c.args.expr.now in
-    let x = c.in-Select.name in
-    let a = tree c.deref-in-Select.result.now in
-    let is = ap tree c.in-Select.is ∙ tree-Select c.in-Select.base c.in-Select.name ∙ ap (λ (y : Expr). node (select c.in-Select.name) (one (tree y))) (sym c.deref-in-Select.ensures) in
-    let p0 = begins w s.left (values_in s e) (λ n. option_and_then (selected (attribute_value (value_at n w) w) x) (values_in s a n)) g0 c.requires (λ n. in_select s e n x a is) in
-    let g1 = c.evaluate-in-Select.new.guard in
-    let none_left = known_as w (values_in s a) s.left g0 g1 c.in_ok-base-in-Select.field-0 (None) c.in_default-4.is c.in_ok-base-in-Select.ensures.answer in
-    record { answer = part_fails w s.left (values_in s e) g0 g0 g1 g1 (λ n. selected (attribute_value (value_at n w) w) x) (values_in s a) 0 p0 none_left; counted = c.evaluate-in-Select.ensures.counted }
+    let x = c.args.name.now in
+    let a = tree c.args.base.now in
+    let f = λ (n : ℕ). selected_in s x a n in
+    let p0 = begins w s.left f (λ n. option_and_then (selected (attribute_value (value_at n w) w) x) (values_in s a n)) g0 c.requires (λ n. refl) in
+    let g1 = c.evaluate.new.guard in
+    let none_left = known_as w (values_in s a) s.left g0 g1 c.in_ok-base.field-0 (None) c.in_default.is c.in_ok-base.ensures.answer in
+    record { answer = part_fails w s.left f g0 g0 g1 g1 (λ n. selected (attribute_value (value_at n w) w) x) (values_in s a) 0 p0 none_left; counted = c.evaluate.ensures.counted }
 
-pub evaluation::evaluate-follow-requires-in-Select : goal.evaluation::evaluate-follow-requires-in-Select
-evaluation::evaluate-follow-requires-in-Select g t c κs within =
+pub operands::selection-follow-requires : goal.operands::selection-follow-requires
+operands::selection-follow-requires g t c κs within =
     let s = c.args.scene.now in
     let w = world_in s in
     let g0 = c.args.guard.now in
     let n0 = c.args.entry.now in
-    let e = tree c.args.expr.now in
-    let x = c.bytes-in-Select.result.now in
-    let a = tree c.deref-in-Select.result.now in
-    let is = ap tree c.in-Select.is ∙ tree-Select c.in-Select.base c.in-Select.name ∙ ap (λ (y : Expr). node (select c.in-Select.name) (one (tree y))) (sym c.deref-in-Select.ensures) ∙ ap (λ (y : List ℕ). node (select y) (one a)) (sym c.bytes-in-Select.ensures) in
-    let p0 = begins w s.left (values_in s e) (λ n. option_and_then (selected (attribute_value (value_at n w) w) x) (values_in s a n)) g0 c.requires (λ n. in_select s e n x a is) in
-    let g1 = c.evaluate-in-Select.new.guard in
-    let o1 = c.in-Some-4.base in
-    let some1 = known_as w (values_in s a) s.left g0 g1 c.in_ok-base-in-Select.field-0 (Some o1) c.in-Some-4.is c.in_ok-base-in-Select.ensures.answer in
-    let p1 = part_done w s.left (values_in s e) g0 g0 g1 (λ n. selected (attribute_value (value_at n w) w) x) (values_in s a) 0 o1 p0 some1 in
+    let x = c.args.name.now in
+    let a = tree c.args.base.now in
+    let f = λ (n : ℕ). selected_in s x a n in
+    let p0 = begins w s.left f (λ n. option_and_then (selected (attribute_value (value_at n w) w) x) (values_in s a n)) g0 c.requires (λ n. refl) in
+    let g1 = c.evaluate.new.guard in
+    let o1 = c.in-Some.base in
+    let some1 = known_as w (values_in s a) s.left g0 g1 c.in_ok-base.field-0 (Some o1) c.in-Some.is c.in_ok-base.ensures.answer in
+    let p1 = part_done w s.left f g0 g0 g1 (λ n. selected (attribute_value (value_at n w) w) x) (values_in s a) 0 o1 p0 some1 in
     let h1 = max 0 o1.height in
     let r = c.select-selected.result in
-    let p2 = rewritten w (values_in s e) s.left g0 g1 (λ n. selected (attribute_value (value_at n w) w) x (plain o1.value)) (λ n. value_of (value_at n w) r) h1 (λ n. sym (c.select-selected.ensures.value (value_at n w))) p1 in
-    (omega (arith, c.decreases, size-positive e), (within, (c.select-selected.ensures.there, rest_ready w s.left (values_in s e) g0 g1 (λ n. value_of (value_at n w) r) h1 p2)))
+    let p2 = rewritten w f s.left g0 g1 (λ n. selected (attribute_value (value_at n w) w) x (plain o1.value)) (λ n. value_of (value_at n w) r) h1 (λ n. sym (c.select-selected.ensures.value (value_at n w))) p1 in
+    (omega (arith, c.decreases), (within, (c.select-selected.ensures.there, rest_ready w s.left f g0 g1 (λ n. value_of (value_at n w) r) h1 p2)))
 
-pub evaluation::evaluate-returns-in_default-5 : goal.evaluation::evaluate-returns-in_default-5
-evaluation::evaluate-returns-in_default-5 g t c =
+pub operands::selection-returns-in_default-2 : goal.operands::selection-returns-in_default-2
+operands::selection-returns-in_default-2 g t c =
     let s = c.args.scene.now in
     let w = world_in s in
     let g0 = c.args.guard.now in
     let n0 = c.args.entry.now in
-    let e = tree c.args.expr.now in
-    let x = c.bytes-in-Select.result.now in
-    let a = tree c.deref-in-Select.result.now in
-    let is = ap tree c.in-Select.is ∙ tree-Select c.in-Select.base c.in-Select.name ∙ ap (λ (y : Expr). node (select c.in-Select.name) (one (tree y))) (sym c.deref-in-Select.ensures) ∙ ap (λ (y : List ℕ). node (select y) (one a)) (sym c.bytes-in-Select.ensures) in
-    let p0 = begins w s.left (values_in s e) (λ n. option_and_then (selected (attribute_value (value_at n w) w) x) (values_in s a n)) g0 c.requires (λ n. in_select s e n x a is) in
-    let g1 = c.evaluate-in-Select.new.guard in
-    let o1 = c.in-Some-4.base in
-    let some1 = known_as w (values_in s a) s.left g0 g1 c.in_ok-base-in-Select.field-0 (Some o1) c.in-Some-4.is c.in_ok-base-in-Select.ensures.answer in
-    let p1 = part_done w s.left (values_in s e) g0 g0 g1 (λ n. selected (attribute_value (value_at n w) w) x) (values_in s a) 0 o1 p0 some1 in
+    let x = c.args.name.now in
+    let a = tree c.args.base.now in
+    let f = λ (n : ℕ). selected_in s x a n in
+    let p0 = begins w s.left f (λ n. option_and_then (selected (attribute_value (value_at n w) w) x) (values_in s a n)) g0 c.requires (λ n. refl) in
+    let g1 = c.evaluate.new.guard in
+    let o1 = c.in-Some.base in
+    let some1 = known_as w (values_in s a) s.left g0 g1 c.in_ok-base.field-0 (Some o1) c.in-Some.is c.in_ok-base.ensures.answer in
+    let p1 = part_done w s.left f g0 g0 g1 (λ n. selected (attribute_value (value_at n w) w) x) (values_in s a) 0 o1 p0 some1 in
     let h1 = max 0 o1.height in
     let r = c.select-selected.result in
-    let p2 = rewritten w (values_in s e) s.left g0 g1 (λ n. selected (attribute_value (value_at n w) w) x (plain o1.value)) (λ n. value_of (value_at n w) r) h1 (λ n. sym (c.select-selected.ensures.value (value_at n w))) p1 in
-    let g2 = c.follow-in-Select.new.guard in
-    let none_left = known_as w (λ n. value_of (value_at n w) r) s.left g1 g2 c.in_ok-found-in-Select.field-0 (None) c.in_default-5.is c.in_ok-found-in-Select.ensures.answer in
-    record { answer = rest_fails w s.left (values_in s e) g0 g1 g2 g2 (λ n. value_of (value_at n w) r) h1 p2 none_left; counted = counts_then w n0 c.evaluate-in-Select.new.entry c.follow-in-Select.new.entry g0 g1 g2 c.evaluate-in-Select.ensures.counted c.follow-in-Select.ensures.counted }
+    let p2 = rewritten w f s.left g0 g1 (λ n. selected (attribute_value (value_at n w) w) x (plain o1.value)) (λ n. value_of (value_at n w) r) h1 (λ n. sym (c.select-selected.ensures.value (value_at n w))) p1 in
+    let g2 = c.follow.new.guard in
+    let none_left = known_as w (λ n. value_of (value_at n w) r) s.left g1 g2 c.in_ok-found.field-0 (None) c.in_default-2.is c.in_ok-found.ensures.answer in
+    record { answer = rest_fails w s.left f g0 g1 g2 g2 (λ n. value_of (value_at n w) r) h1 p2 none_left; counted = counts_then w n0 c.evaluate.new.entry c.follow.new.entry g0 g1 g2 c.evaluate.ensures.counted c.follow.ensures.counted }
 
-pub evaluation::evaluate-returns-in-Some-5 : goal.evaluation::evaluate-returns-in-Some-5
-evaluation::evaluate-returns-in-Some-5 g t c =
+pub operands::selection-returns : goal.operands::selection-returns
+operands::selection-returns g t c =
     let s = c.args.scene.now in
     let w = world_in s in
     let g0 = c.args.guard.now in
     let n0 = c.args.entry.now in
-    let e = tree c.args.expr.now in
-    let x = c.bytes-in-Select.result.now in
-    let a = tree c.deref-in-Select.result.now in
-    let is = ap tree c.in-Select.is ∙ tree-Select c.in-Select.base c.in-Select.name ∙ ap (λ (y : Expr). node (select c.in-Select.name) (one (tree y))) (sym c.deref-in-Select.ensures) ∙ ap (λ (y : List ℕ). node (select y) (one a)) (sym c.bytes-in-Select.ensures) in
-    let p0 = begins w s.left (values_in s e) (λ n. option_and_then (selected (attribute_value (value_at n w) w) x) (values_in s a n)) g0 c.requires (λ n. in_select s e n x a is) in
-    let g1 = c.evaluate-in-Select.new.guard in
-    let o1 = c.in-Some-4.base in
-    let some1 = known_as w (values_in s a) s.left g0 g1 c.in_ok-base-in-Select.field-0 (Some o1) c.in-Some-4.is c.in_ok-base-in-Select.ensures.answer in
-    let p1 = part_done w s.left (values_in s e) g0 g0 g1 (λ n. selected (attribute_value (value_at n w) w) x) (values_in s a) 0 o1 p0 some1 in
+    let x = c.args.name.now in
+    let a = tree c.args.base.now in
+    let f = λ (n : ℕ). selected_in s x a n in
+    let p0 = begins w s.left f (λ n. option_and_then (selected (attribute_value (value_at n w) w) x) (values_in s a n)) g0 c.requires (λ n. refl) in
+    let g1 = c.evaluate.new.guard in
+    let o1 = c.in-Some.base in
+    let some1 = known_as w (values_in s a) s.left g0 g1 c.in_ok-base.field-0 (Some o1) c.in-Some.is c.in_ok-base.ensures.answer in
+    let p1 = part_done w s.left f g0 g0 g1 (λ n. selected (attribute_value (value_at n w) w) x) (values_in s a) 0 o1 p0 some1 in
     let h1 = max 0 o1.height in
     let r = c.select-selected.result in
-    let p2 = rewritten w (values_in s e) s.left g0 g1 (λ n. selected (attribute_value (value_at n w) w) x (plain o1.value)) (λ n. value_of (value_at n w) r) h1 (λ n. sym (c.select-selected.ensures.value (value_at n w))) p1 in
-    let g2 = c.follow-in-Select.new.guard in
-    let o2 = c.in-Some-5.found in
-    let some2 = known_as w (λ n. value_of (value_at n w) r) s.left g1 g2 c.in_ok-found-in-Select.field-0 (Some o2) c.in-Some-5.is c.in_ok-found-in-Select.ensures.answer in
-    record { answer = finishes_rest w s.left (values_in s e) g0 g1 g2 (λ n. value_of (value_at n w) r) h1 o2 c.at_least.result p2 some2 c.at_least.ensures.value (omega (arith, c.at_least.ensures.height)); counted = counts_then w n0 c.evaluate-in-Select.new.entry c.follow-in-Select.new.entry g0 g1 g2 c.evaluate-in-Select.ensures.counted c.follow-in-Select.ensures.counted }
+    let p2 = rewritten w f s.left g0 g1 (λ n. selected (attribute_value (value_at n w) w) x (plain o1.value)) (λ n. value_of (value_at n w) r) h1 (λ n. sym (c.select-selected.ensures.value (value_at n w))) p1 in
+    let g2 = c.follow.new.guard in
+    let o2 = c.in-Some-2.found in
+    let some2 = known_as w (λ n. value_of (value_at n w) r) s.left g1 g2 c.in_ok-found.field-0 (Some o2) c.in-Some-2.is c.in_ok-found.ensures.answer in
+    record { answer = finishes_rest w s.left f g0 g1 g2 (λ n. value_of (value_at n w) r) h1 o2 c.at_least.result p2 some2 c.at_least.ensures.value (omega (arith, c.at_least.ensures.height)); counted = counts_then w n0 c.evaluate.new.entry c.follow.new.entry g0 g1 g2 c.evaluate.ensures.counted c.follow.ensures.counted }
 
-pub evaluation::evaluate-returns-in_err-base-in-Select : goal.evaluation::evaluate-returns-in_err-base-in-Select
-evaluation::evaluate-returns-in_err-base-in-Select g t c =
+pub operands::selection-returns-in_err-base : goal.operands::selection-returns-in_err-base
+operands::selection-returns-in_err-base g t c =
     let s = c.args.scene.now in
     let w = world_in s in
     let g0 = c.args.guard.now in
     let n0 = c.args.entry.now in
-    record { answer = search rules; counted = c.evaluate-in-Select.ensures.counted }
+    record { answer = search rules; counted = c.evaluate.ensures.counted }
 
-pub evaluation::evaluate-returns-in_err-found-in-Select : goal.evaluation::evaluate-returns-in_err-found-in-Select
-evaluation::evaluate-returns-in_err-found-in-Select g t c =
+pub operands::selection-returns-in_err-found : goal.operands::selection-returns-in_err-found
+operands::selection-returns-in_err-found g t c =
     let s = c.args.scene.now in
     let w = world_in s in
     let g0 = c.args.guard.now in
     let n0 = c.args.entry.now in
-    let g1 = c.evaluate-in-Select.new.guard in
-    let g2 = c.follow-in-Select.new.guard in
-    record { answer = search rules; counted = counts_then w n0 c.evaluate-in-Select.new.entry c.follow-in-Select.new.entry g0 g1 g2 c.evaluate-in-Select.ensures.counted c.follow-in-Select.ensures.counted }
+    let g1 = c.evaluate.new.guard in
+    let g2 = c.follow.new.guard in
+    record { answer = search rules; counted = counts_then w n0 c.evaluate.new.entry c.follow.new.entry g0 g1 g2 c.evaluate.ensures.counted c.follow.ensures.counted }
 
-pub evaluation::evaluate-evaluate-requires-in-Subscript : goal.evaluation::evaluate-evaluate-requires-in-Subscript
-evaluation::evaluate-evaluate-requires-in-Subscript g t c κs within =
+pub operands::subscription-evaluate-requires : goal.operands::subscription-evaluate-requires
+operands::subscription-evaluate-requires g t c κs within =
     let s = c.args.scene.now in
     let w = world_in s in
     let g0 = c.args.guard.now in
     let n0 = c.args.entry.now in
-    let e = tree c.args.expr.now in
-    let a = tree c.deref-in-Subscript.result.now in
-    let b = tree c.in-Subscript.index.value in
-    let is = ap tree c.in-Subscript.is ∙ tree-Subscript c.in-Subscript.base c.in-Subscript.index ∙ ap (λ (y : Expr). node subscript (two (tree y) (tree c.in-Subscript.index.value))) (sym c.deref-in-Subscript.ensures) in
-    let p0 = begins w s.left (values_in s e) (λ n. option_and_then (λ y. option_and_then (subscripted (attribute_value (value_at n w) w) y) (values_in s b n)) (values_in s a n)) g0 c.requires (λ n. in_subscript s e n a b is) in
-    (omega (arith, c.decreases, ap size is), (within, part_ready w s.left (values_in s e) g0 g0 (λ n y. option_and_then (subscripted (attribute_value (value_at n w) w) y) (values_in s b n)) (values_in s a) 0 p0))
+    let a = tree c.args.base.now in
+    let b = tree c.args.index.now in
+    let f = λ (n : ℕ). subscripted_in s a b n in
+    let p0 = begins w s.left f (λ n. option_and_then (λ y. option_and_then (subscripted (attribute_value (value_at n w) w) y) (values_in s b n)) (values_in s a n)) g0 c.requires (λ n. refl) in
+    (omega (arith, c.decreases), (within, part_ready w s.left f g0 g0 (λ n y. option_and_then (subscripted (attribute_value (value_at n w) w) y) (values_in s b n)) (values_in s a) 0 p0))
 
-pub evaluation::evaluate-returns-in_default-6 : goal.evaluation::evaluate-returns-in_default-6
-evaluation::evaluate-returns-in_default-6 g t c =
+pub operands::subscription-returns-in_default : goal.operands::subscription-returns-in_default
+operands::subscription-returns-in_default g t c =
     let s = c.args.scene.now in
     let w = world_in s in
     let g0 = c.args.guard.now in
     let n0 = c.args.entry.now in
-    let e = tree c.args.expr.now in
-    let a = tree c.deref-in-Subscript.result.now in
-    let b = tree c.in-Subscript.index.value in
-    let is = ap tree c.in-Subscript.is ∙ tree-Subscript c.in-Subscript.base c.in-Subscript.index ∙ ap (λ (y : Expr). node subscript (two (tree y) (tree c.in-Subscript.index.value))) (sym c.deref-in-Subscript.ensures) in
-    let p0 = begins w s.left (values_in s e) (λ n. option_and_then (λ y. option_and_then (subscripted (attribute_value (value_at n w) w) y) (values_in s b n)) (values_in s a n)) g0 c.requires (λ n. in_subscript s e n a b is) in
-    let g1 = c.evaluate-in-Subscript.new.guard in
-    let none_left = known_as w (values_in s a) s.left g0 g1 c.in_ok-base-in-Subscript.field-0 (None) c.in_default-6.is c.in_ok-base-in-Subscript.ensures.answer in
-    record { answer = part_fails w s.left (values_in s e) g0 g0 g1 g1 (λ n y. option_and_then (subscripted (attribute_value (value_at n w) w) y) (values_in s b n)) (values_in s a) 0 p0 none_left; counted = c.evaluate-in-Subscript.ensures.counted }
+    let a = tree c.args.base.now in
+    let b = tree c.args.index.now in
+    let f = λ (n : ℕ). subscripted_in s a b n in
+    let p0 = begins w s.left f (λ n. option_and_then (λ y. option_and_then (subscripted (attribute_value (value_at n w) w) y) (values_in s b n)) (values_in s a n)) g0 c.requires (λ n. refl) in
+    let g1 = c.evaluate.new.guard in
+    let none_left = known_as w (values_in s a) s.left g0 g1 c.in_ok-base.field-0 (None) c.in_default.is c.in_ok-base.ensures.answer in
+    record { answer = part_fails w s.left f g0 g0 g1 g1 (λ n y. option_and_then (subscripted (attribute_value (value_at n w) w) y) (values_in s b n)) (values_in s a) 0 p0 none_left; counted = c.evaluate.ensures.counted }
 
-pub evaluation::evaluate-evaluate-requires-in-Subscript-2 : goal.evaluation::evaluate-evaluate-requires-in-Subscript-2
-evaluation::evaluate-evaluate-requires-in-Subscript-2 g t c κs within =
+pub operands::subscription-evaluate-requires-2 : goal.operands::subscription-evaluate-requires-2
+operands::subscription-evaluate-requires-2 g t c κs within =
     let s = c.args.scene.now in
     let w = world_in s in
     let g0 = c.args.guard.now in
     let n0 = c.args.entry.now in
-    let e = tree c.args.expr.now in
-    let a = tree c.deref-in-Subscript.result.now in
-    let b = tree c.deref-in-Subscript-2.result.now in
-    let is = ap tree c.in-Subscript.is ∙ tree-Subscript c.in-Subscript.base c.in-Subscript.index ∙ ap (λ (y : Expr). node subscript (two (tree y) (tree c.in-Subscript.index.value))) (sym c.deref-in-Subscript.ensures) ∙ ap (λ (y : Expr). node subscript (two a (tree y))) (sym c.deref-in-Subscript-2.ensures) in
-    let p0 = begins w s.left (values_in s e) (λ n. option_and_then (λ y. option_and_then (subscripted (attribute_value (value_at n w) w) y) (values_in s b n)) (values_in s a n)) g0 c.requires (λ n. in_subscript s e n a b is) in
-    let g1 = c.evaluate-in-Subscript.new.guard in
-    let o1 = c.in-Some-6.base in
-    let some1 = known_as w (values_in s a) s.left g0 g1 c.in_ok-base-in-Subscript.field-0 (Some o1) c.in-Some-6.is c.in_ok-base-in-Subscript.ensures.answer in
-    let p1 = part_done w s.left (values_in s e) g0 g0 g1 (λ n y. option_and_then (subscripted (attribute_value (value_at n w) w) y) (values_in s b n)) (values_in s a) 0 o1 p0 some1 in
+    let a = tree c.args.base.now in
+    let b = tree c.args.index.now in
+    let f = λ (n : ℕ). subscripted_in s a b n in
+    let p0 = begins w s.left f (λ n. option_and_then (λ y. option_and_then (subscripted (attribute_value (value_at n w) w) y) (values_in s b n)) (values_in s a n)) g0 c.requires (λ n. refl) in
+    let g1 = c.evaluate.new.guard in
+    let o1 = c.in-Some.base in
+    let some1 = known_as w (values_in s a) s.left g0 g1 c.in_ok-base.field-0 (Some o1) c.in-Some.is c.in_ok-base.ensures.answer in
+    let p1 = part_done w s.left f g0 g0 g1 (λ n y. option_and_then (subscripted (attribute_value (value_at n w) w) y) (values_in s b n)) (values_in s a) 0 o1 p0 some1 in
     let h1 = max 0 o1.height in
-    (omega (arith, c.decreases, ap size is), (within, part_ready w s.left (values_in s e) g0 g1 (λ n. subscripted (attribute_value (value_at n w) w) (plain o1.value)) (values_in s b) h1 p1))
+    (omega (arith, c.decreases), (within, part_ready w s.left f g0 g1 (λ n. subscripted (attribute_value (value_at n w) w) (plain o1.value)) (values_in s b) h1 p1))
 
-pub evaluation::evaluate-returns-in_default-7 : goal.evaluation::evaluate-returns-in_default-7
-evaluation::evaluate-returns-in_default-7 g t c =
+pub operands::subscription-returns-in_default-2 : goal.operands::subscription-returns-in_default-2
+operands::subscription-returns-in_default-2 g t c =
     let s = c.args.scene.now in
     let w = world_in s in
     let g0 = c.args.guard.now in
     let n0 = c.args.entry.now in
-    let e = tree c.args.expr.now in
-    let a = tree c.deref-in-Subscript.result.now in
-    let b = tree c.deref-in-Subscript-2.result.now in
-    let is = ap tree c.in-Subscript.is ∙ tree-Subscript c.in-Subscript.base c.in-Subscript.index ∙ ap (λ (y : Expr). node subscript (two (tree y) (tree c.in-Subscript.index.value))) (sym c.deref-in-Subscript.ensures) ∙ ap (λ (y : Expr). node subscript (two a (tree y))) (sym c.deref-in-Subscript-2.ensures) in
-    let p0 = begins w s.left (values_in s e) (λ n. option_and_then (λ y. option_and_then (subscripted (attribute_value (value_at n w) w) y) (values_in s b n)) (values_in s a n)) g0 c.requires (λ n. in_subscript s e n a b is) in
-    let g1 = c.evaluate-in-Subscript.new.guard in
-    let o1 = c.in-Some-6.base in
-    let some1 = known_as w (values_in s a) s.left g0 g1 c.in_ok-base-in-Subscript.field-0 (Some o1) c.in-Some-6.is c.in_ok-base-in-Subscript.ensures.answer in
-    let p1 = part_done w s.left (values_in s e) g0 g0 g1 (λ n y. option_and_then (subscripted (attribute_value (value_at n w) w) y) (values_in s b n)) (values_in s a) 0 o1 p0 some1 in
+    let a = tree c.args.base.now in
+    let b = tree c.args.index.now in
+    let f = λ (n : ℕ). subscripted_in s a b n in
+    let p0 = begins w s.left f (λ n. option_and_then (λ y. option_and_then (subscripted (attribute_value (value_at n w) w) y) (values_in s b n)) (values_in s a n)) g0 c.requires (λ n. refl) in
+    let g1 = c.evaluate.new.guard in
+    let o1 = c.in-Some.base in
+    let some1 = known_as w (values_in s a) s.left g0 g1 c.in_ok-base.field-0 (Some o1) c.in-Some.is c.in_ok-base.ensures.answer in
+    let p1 = part_done w s.left f g0 g0 g1 (λ n y. option_and_then (subscripted (attribute_value (value_at n w) w) y) (values_in s b n)) (values_in s a) 0 o1 p0 some1 in
     let h1 = max 0 o1.height in
-    let g2 = c.evaluate-in-Subscript-2.new.guard in
-    let none_left = known_as w (values_in s b) s.left g1 g2 c.in_ok-index-in-Subscript.field-0 (None) c.in_default-7.is c.in_ok-index-in-Subscript.ensures.answer in
-    record { answer = part_fails w s.left (values_in s e) g0 g1 g2 g2 (λ n. subscripted (attribute_value (value_at n w) w) (plain o1.value)) (values_in s b) h1 p1 none_left; counted = counts_then w n0 c.evaluate-in-Subscript.new.entry c.evaluate-in-Subscript-2.new.entry g0 g1 g2 c.evaluate-in-Subscript.ensures.counted c.evaluate-in-Subscript-2.ensures.counted }
+    let g2 = c.evaluate-2.new.guard in
+    let none_left = known_as w (values_in s b) s.left g1 g2 c.in_ok-index.field-0 (None) c.in_default-2.is c.in_ok-index.ensures.answer in
+    record { answer = part_fails w s.left f g0 g1 g2 g2 (λ n. subscripted (attribute_value (value_at n w) w) (plain o1.value)) (values_in s b) h1 p1 none_left; counted = counts_then w n0 c.evaluate.new.entry c.evaluate-2.new.entry g0 g1 g2 c.evaluate.ensures.counted c.evaluate-2.ensures.counted }
 
-pub evaluation::evaluate-follow-requires-in-Subscript : goal.evaluation::evaluate-follow-requires-in-Subscript
-evaluation::evaluate-follow-requires-in-Subscript g t c κs within =
+pub operands::subscription-follow-requires : goal.operands::subscription-follow-requires
+operands::subscription-follow-requires g t c κs within =
     let s = c.args.scene.now in
     let w = world_in s in
     let g0 = c.args.guard.now in
     let n0 = c.args.entry.now in
-    let e = tree c.args.expr.now in
-    let a = tree c.deref-in-Subscript.result.now in
-    let b = tree c.deref-in-Subscript-2.result.now in
-    let is = ap tree c.in-Subscript.is ∙ tree-Subscript c.in-Subscript.base c.in-Subscript.index ∙ ap (λ (y : Expr). node subscript (two (tree y) (tree c.in-Subscript.index.value))) (sym c.deref-in-Subscript.ensures) ∙ ap (λ (y : Expr). node subscript (two a (tree y))) (sym c.deref-in-Subscript-2.ensures) in
-    let p0 = begins w s.left (values_in s e) (λ n. option_and_then (λ y. option_and_then (subscripted (attribute_value (value_at n w) w) y) (values_in s b n)) (values_in s a n)) g0 c.requires (λ n. in_subscript s e n a b is) in
-    let g1 = c.evaluate-in-Subscript.new.guard in
-    let o1 = c.in-Some-6.base in
-    let some1 = known_as w (values_in s a) s.left g0 g1 c.in_ok-base-in-Subscript.field-0 (Some o1) c.in-Some-6.is c.in_ok-base-in-Subscript.ensures.answer in
-    let p1 = part_done w s.left (values_in s e) g0 g0 g1 (λ n y. option_and_then (subscripted (attribute_value (value_at n w) w) y) (values_in s b n)) (values_in s a) 0 o1 p0 some1 in
+    let a = tree c.args.base.now in
+    let b = tree c.args.index.now in
+    let f = λ (n : ℕ). subscripted_in s a b n in
+    let p0 = begins w s.left f (λ n. option_and_then (λ y. option_and_then (subscripted (attribute_value (value_at n w) w) y) (values_in s b n)) (values_in s a n)) g0 c.requires (λ n. refl) in
+    let g1 = c.evaluate.new.guard in
+    let o1 = c.in-Some.base in
+    let some1 = known_as w (values_in s a) s.left g0 g1 c.in_ok-base.field-0 (Some o1) c.in-Some.is c.in_ok-base.ensures.answer in
+    let p1 = part_done w s.left f g0 g0 g1 (λ n y. option_and_then (subscripted (attribute_value (value_at n w) w) y) (values_in s b n)) (values_in s a) 0 o1 p0 some1 in
     let h1 = max 0 o1.height in
-    let g2 = c.evaluate-in-Subscript-2.new.guard in
-    let o2 = c.in-Some-7.index in
-    let some2 = known_as w (values_in s b) s.left g1 g2 c.in_ok-index-in-Subscript.field-0 (Some o2) c.in-Some-7.is c.in_ok-index-in-Subscript.ensures.answer in
-    let p2 = part_done w s.left (values_in s e) g0 g1 g2 (λ n. subscripted (attribute_value (value_at n w) w) (plain o1.value)) (values_in s b) h1 o2 p1 some2 in
+    let g2 = c.evaluate-2.new.guard in
+    let o2 = c.in-Some-2.index in
+    let some2 = known_as w (values_in s b) s.left g1 g2 c.in_ok-index.field-0 (Some o2) c.in-Some-2.is c.in_ok-index.ensures.answer in
+    let p2 = part_done w s.left f g0 g1 g2 (λ n. subscripted (attribute_value (value_at n w) w) (plain o1.value)) (values_in s b) h1 o2 p1 some2 in
     let h2 = max h1 o2.height in
-    let r = c.in_ok-element-in-Subscript.element in
-    let p3 = rewritten w (values_in s e) s.left g0 g2 (λ n. subscripted (attribute_value (value_at n w) w) (plain o1.value) (plain o2.value)) (λ n. value_of (value_at n w) r) h2 (λ n. sym (c.in_ok-element-in-Subscript.ensures.value (value_at n w))) p2 in
-    (omega (arith, c.decreases, size-positive e), (within, (c.in_ok-element-in-Subscript.ensures.there, rest_ready w s.left (values_in s e) g0 g2 (λ n. value_of (value_at n w) r) h2 p3)))
+    let r = c.in_ok-element.element in
+    let p3 = rewritten w f s.left g0 g2 (λ n. subscripted (attribute_value (value_at n w) w) (plain o1.value) (plain o2.value)) (λ n. value_of (value_at n w) r) h2 (λ n. sym (c.in_ok-element.ensures.value (value_at n w))) p2 in
+    (omega (arith, c.decreases), (within, (c.in_ok-element.ensures.there, rest_ready w s.left f g0 g2 (λ n. value_of (value_at n w) r) h2 p3)))
 
-pub evaluation::evaluate-returns-in_default-8 : goal.evaluation::evaluate-returns-in_default-8
-evaluation::evaluate-returns-in_default-8 g t c =
+pub operands::subscription-returns-in_default-3 : goal.operands::subscription-returns-in_default-3
+operands::subscription-returns-in_default-3 g t c =
     let s = c.args.scene.now in
     let w = world_in s in
     let g0 = c.args.guard.now in
     let n0 = c.args.entry.now in
-    let e = tree c.args.expr.now in
-    let a = tree c.deref-in-Subscript.result.now in
-    let b = tree c.deref-in-Subscript-2.result.now in
-    let is = ap tree c.in-Subscript.is ∙ tree-Subscript c.in-Subscript.base c.in-Subscript.index ∙ ap (λ (y : Expr). node subscript (two (tree y) (tree c.in-Subscript.index.value))) (sym c.deref-in-Subscript.ensures) ∙ ap (λ (y : Expr). node subscript (two a (tree y))) (sym c.deref-in-Subscript-2.ensures) in
-    let p0 = begins w s.left (values_in s e) (λ n. option_and_then (λ y. option_and_then (subscripted (attribute_value (value_at n w) w) y) (values_in s b n)) (values_in s a n)) g0 c.requires (λ n. in_subscript s e n a b is) in
-    let g1 = c.evaluate-in-Subscript.new.guard in
-    let o1 = c.in-Some-6.base in
-    let some1 = known_as w (values_in s a) s.left g0 g1 c.in_ok-base-in-Subscript.field-0 (Some o1) c.in-Some-6.is c.in_ok-base-in-Subscript.ensures.answer in
-    let p1 = part_done w s.left (values_in s e) g0 g0 g1 (λ n y. option_and_then (subscripted (attribute_value (value_at n w) w) y) (values_in s b n)) (values_in s a) 0 o1 p0 some1 in
+    let a = tree c.args.base.now in
+    let b = tree c.args.index.now in
+    let f = λ (n : ℕ). subscripted_in s a b n in
+    let p0 = begins w s.left f (λ n. option_and_then (λ y. option_and_then (subscripted (attribute_value (value_at n w) w) y) (values_in s b n)) (values_in s a n)) g0 c.requires (λ n. refl) in
+    let g1 = c.evaluate.new.guard in
+    let o1 = c.in-Some.base in
+    let some1 = known_as w (values_in s a) s.left g0 g1 c.in_ok-base.field-0 (Some o1) c.in-Some.is c.in_ok-base.ensures.answer in
+    let p1 = part_done w s.left f g0 g0 g1 (λ n y. option_and_then (subscripted (attribute_value (value_at n w) w) y) (values_in s b n)) (values_in s a) 0 o1 p0 some1 in
     let h1 = max 0 o1.height in
-    let g2 = c.evaluate-in-Subscript-2.new.guard in
-    let o2 = c.in-Some-7.index in
-    let some2 = known_as w (values_in s b) s.left g1 g2 c.in_ok-index-in-Subscript.field-0 (Some o2) c.in-Some-7.is c.in_ok-index-in-Subscript.ensures.answer in
-    let p2 = part_done w s.left (values_in s e) g0 g1 g2 (λ n. subscripted (attribute_value (value_at n w) w) (plain o1.value)) (values_in s b) h1 o2 p1 some2 in
+    let g2 = c.evaluate-2.new.guard in
+    let o2 = c.in-Some-2.index in
+    let some2 = known_as w (values_in s b) s.left g1 g2 c.in_ok-index.field-0 (Some o2) c.in-Some-2.is c.in_ok-index.ensures.answer in
+    let p2 = part_done w s.left f g0 g1 g2 (λ n. subscripted (attribute_value (value_at n w) w) (plain o1.value)) (values_in s b) h1 o2 p1 some2 in
     let h2 = max h1 o2.height in
-    let r = c.in_ok-element-in-Subscript.element in
-    let p3 = rewritten w (values_in s e) s.left g0 g2 (λ n. subscripted (attribute_value (value_at n w) w) (plain o1.value) (plain o2.value)) (λ n. value_of (value_at n w) r) h2 (λ n. sym (c.in_ok-element-in-Subscript.ensures.value (value_at n w))) p2 in
-    let g3 = c.follow-in-Subscript.new.guard in
-    let none_left = known_as w (λ n. value_of (value_at n w) r) s.left g2 g3 c.in_ok-found-in-Subscript.field-0 (None) c.in_default-8.is c.in_ok-found-in-Subscript.ensures.answer in
-    record { answer = rest_fails w s.left (values_in s e) g0 g2 g3 g3 (λ n. value_of (value_at n w) r) h2 p3 none_left; counted = counts_then w n0 c.evaluate-in-Subscript-2.new.entry c.follow-in-Subscript.new.entry g0 g2 g3 (counts_then w n0 c.evaluate-in-Subscript.new.entry c.evaluate-in-Subscript-2.new.entry g0 g1 g2 c.evaluate-in-Subscript.ensures.counted c.evaluate-in-Subscript-2.ensures.counted) c.follow-in-Subscript.ensures.counted }
+    let r = c.in_ok-element.element in
+    let p3 = rewritten w f s.left g0 g2 (λ n. subscripted (attribute_value (value_at n w) w) (plain o1.value) (plain o2.value)) (λ n. value_of (value_at n w) r) h2 (λ n. sym (c.in_ok-element.ensures.value (value_at n w))) p2 in
+    let g3 = c.follow.new.guard in
+    let none_left = known_as w (λ n. value_of (value_at n w) r) s.left g2 g3 c.in_ok-found.field-0 (None) c.in_default-3.is c.in_ok-found.ensures.answer in
+    record { answer = rest_fails w s.left f g0 g2 g3 g3 (λ n. value_of (value_at n w) r) h2 p3 none_left; counted = counts_then w n0 c.evaluate-2.new.entry c.follow.new.entry g0 g2 g3 (counts_then w n0 c.evaluate.new.entry c.evaluate-2.new.entry g0 g1 g2 c.evaluate.ensures.counted c.evaluate-2.ensures.counted) c.follow.ensures.counted }
 
-pub evaluation::evaluate-returns-in-Some-8 : goal.evaluation::evaluate-returns-in-Some-8
-evaluation::evaluate-returns-in-Some-8 g t c =
+pub operands::subscription-returns : goal.operands::subscription-returns
+operands::subscription-returns g t c =
     let s = c.args.scene.now in
     let w = world_in s in
     let g0 = c.args.guard.now in
     let n0 = c.args.entry.now in
-    let e = tree c.args.expr.now in
-    let a = tree c.deref-in-Subscript.result.now in
-    let b = tree c.deref-in-Subscript-2.result.now in
-    let is = ap tree c.in-Subscript.is ∙ tree-Subscript c.in-Subscript.base c.in-Subscript.index ∙ ap (λ (y : Expr). node subscript (two (tree y) (tree c.in-Subscript.index.value))) (sym c.deref-in-Subscript.ensures) ∙ ap (λ (y : Expr). node subscript (two a (tree y))) (sym c.deref-in-Subscript-2.ensures) in
-    let p0 = begins w s.left (values_in s e) (λ n. option_and_then (λ y. option_and_then (subscripted (attribute_value (value_at n w) w) y) (values_in s b n)) (values_in s a n)) g0 c.requires (λ n. in_subscript s e n a b is) in
-    let g1 = c.evaluate-in-Subscript.new.guard in
-    let o1 = c.in-Some-6.base in
-    let some1 = known_as w (values_in s a) s.left g0 g1 c.in_ok-base-in-Subscript.field-0 (Some o1) c.in-Some-6.is c.in_ok-base-in-Subscript.ensures.answer in
-    let p1 = part_done w s.left (values_in s e) g0 g0 g1 (λ n y. option_and_then (subscripted (attribute_value (value_at n w) w) y) (values_in s b n)) (values_in s a) 0 o1 p0 some1 in
+    let a = tree c.args.base.now in
+    let b = tree c.args.index.now in
+    let f = λ (n : ℕ). subscripted_in s a b n in
+    let p0 = begins w s.left f (λ n. option_and_then (λ y. option_and_then (subscripted (attribute_value (value_at n w) w) y) (values_in s b n)) (values_in s a n)) g0 c.requires (λ n. refl) in
+    let g1 = c.evaluate.new.guard in
+    let o1 = c.in-Some.base in
+    let some1 = known_as w (values_in s a) s.left g0 g1 c.in_ok-base.field-0 (Some o1) c.in-Some.is c.in_ok-base.ensures.answer in
+    let p1 = part_done w s.left f g0 g0 g1 (λ n y. option_and_then (subscripted (attribute_value (value_at n w) w) y) (values_in s b n)) (values_in s a) 0 o1 p0 some1 in
     let h1 = max 0 o1.height in
-    let g2 = c.evaluate-in-Subscript-2.new.guard in
-    let o2 = c.in-Some-7.index in
-    let some2 = known_as w (values_in s b) s.left g1 g2 c.in_ok-index-in-Subscript.field-0 (Some o2) c.in-Some-7.is c.in_ok-index-in-Subscript.ensures.answer in
-    let p2 = part_done w s.left (values_in s e) g0 g1 g2 (λ n. subscripted (attribute_value (value_at n w) w) (plain o1.value)) (values_in s b) h1 o2 p1 some2 in
+    let g2 = c.evaluate-2.new.guard in
+    let o2 = c.in-Some-2.index in
+    let some2 = known_as w (values_in s b) s.left g1 g2 c.in_ok-index.field-0 (Some o2) c.in-Some-2.is c.in_ok-index.ensures.answer in
+    let p2 = part_done w s.left f g0 g1 g2 (λ n. subscripted (attribute_value (value_at n w) w) (plain o1.value)) (values_in s b) h1 o2 p1 some2 in
     let h2 = max h1 o2.height in
-    let r = c.in_ok-element-in-Subscript.element in
-    let p3 = rewritten w (values_in s e) s.left g0 g2 (λ n. subscripted (attribute_value (value_at n w) w) (plain o1.value) (plain o2.value)) (λ n. value_of (value_at n w) r) h2 (λ n. sym (c.in_ok-element-in-Subscript.ensures.value (value_at n w))) p2 in
-    let g3 = c.follow-in-Subscript.new.guard in
-    let o3 = c.in-Some-8.found in
-    let some3 = known_as w (λ n. value_of (value_at n w) r) s.left g2 g3 c.in_ok-found-in-Subscript.field-0 (Some o3) c.in-Some-8.is c.in_ok-found-in-Subscript.ensures.answer in
-    record { answer = finishes_rest w s.left (values_in s e) g0 g2 g3 (λ n. value_of (value_at n w) r) h2 o3 c.at_least-in-Subscript.result p3 some3 c.at_least-in-Subscript.ensures.value (omega (arith, c.at_least-in-Subscript.ensures.height, c.greater-in-Subscript.ensures)); counted = counts_then w n0 c.evaluate-in-Subscript-2.new.entry c.follow-in-Subscript.new.entry g0 g2 g3 (counts_then w n0 c.evaluate-in-Subscript.new.entry c.evaluate-in-Subscript-2.new.entry g0 g1 g2 c.evaluate-in-Subscript.ensures.counted c.evaluate-in-Subscript-2.ensures.counted) c.follow-in-Subscript.ensures.counted }
+    let r = c.in_ok-element.element in
+    let p3 = rewritten w f s.left g0 g2 (λ n. subscripted (attribute_value (value_at n w) w) (plain o1.value) (plain o2.value)) (λ n. value_of (value_at n w) r) h2 (λ n. sym (c.in_ok-element.ensures.value (value_at n w))) p2 in
+    let g3 = c.follow.new.guard in
+    let o3 = c.in-Some-3.found in
+    let some3 = known_as w (λ n. value_of (value_at n w) r) s.left g2 g3 c.in_ok-found.field-0 (Some o3) c.in-Some-3.is c.in_ok-found.ensures.answer in
+    record { answer = finishes_rest w s.left f g0 g2 g3 (λ n. value_of (value_at n w) r) h2 o3 c.at_least.result p3 some3 c.at_least.ensures.value (omega (arith, c.at_least.ensures.height, c.greater.ensures)); counted = counts_then w n0 c.evaluate-2.new.entry c.follow.new.entry g0 g2 g3 (counts_then w n0 c.evaluate.new.entry c.evaluate-2.new.entry g0 g1 g2 c.evaluate.ensures.counted c.evaluate-2.ensures.counted) c.follow.ensures.counted }
 
-pub evaluation::evaluate-returns-in_err-base-in-Subscript : goal.evaluation::evaluate-returns-in_err-base-in-Subscript
-evaluation::evaluate-returns-in_err-base-in-Subscript g t c =
+pub operands::subscription-returns-in_err-base : goal.operands::subscription-returns-in_err-base
+operands::subscription-returns-in_err-base g t c =
     let s = c.args.scene.now in
     let w = world_in s in
     let g0 = c.args.guard.now in
     let n0 = c.args.entry.now in
-    record { answer = search rules; counted = c.evaluate-in-Subscript.ensures.counted }
+    record { answer = search rules; counted = c.evaluate.ensures.counted }
 
-pub evaluation::evaluate-returns-in_err-index-in-Subscript : goal.evaluation::evaluate-returns-in_err-index-in-Subscript
-evaluation::evaluate-returns-in_err-index-in-Subscript g t c =
+pub operands::subscription-returns-in_err-index : goal.operands::subscription-returns-in_err-index
+operands::subscription-returns-in_err-index g t c =
     let s = c.args.scene.now in
     let w = world_in s in
     let g0 = c.args.guard.now in
     let n0 = c.args.entry.now in
-    let g1 = c.evaluate-in-Subscript.new.guard in
-    let g2 = c.evaluate-in-Subscript-2.new.guard in
-    record { answer = search rules; counted = counts_then w n0 c.evaluate-in-Subscript.new.entry c.evaluate-in-Subscript-2.new.entry g0 g1 g2 c.evaluate-in-Subscript.ensures.counted c.evaluate-in-Subscript-2.ensures.counted }
+    let g1 = c.evaluate.new.guard in
+    let g2 = c.evaluate-2.new.guard in
+    record { answer = search rules; counted = counts_then w n0 c.evaluate.new.entry c.evaluate-2.new.entry g0 g1 g2 c.evaluate.ensures.counted c.evaluate-2.ensures.counted }
 
-pub evaluation::evaluate-returns-in_err-element-in-Subscript : goal.evaluation::evaluate-returns-in_err-element-in-Subscript
-evaluation::evaluate-returns-in_err-element-in-Subscript g t c =
+pub operands::subscription-returns-in_err-element : goal.operands::subscription-returns-in_err-element
+operands::subscription-returns-in_err-element g t c =
     let s = c.args.scene.now in
     let w = world_in s in
     let g0 = c.args.guard.now in
     let n0 = c.args.entry.now in
-    let g1 = c.evaluate-in-Subscript.new.guard in
-    let g2 = c.evaluate-in-Subscript-2.new.guard in
-    record { answer = search rules; counted = counts_then w n0 c.evaluate-in-Subscript.new.entry c.evaluate-in-Subscript-2.new.entry g0 g1 g2 c.evaluate-in-Subscript.ensures.counted c.evaluate-in-Subscript-2.ensures.counted }
+    let g1 = c.evaluate.new.guard in
+    let g2 = c.evaluate-2.new.guard in
+    record { answer = search rules; counted = counts_then w n0 c.evaluate.new.entry c.evaluate-2.new.entry g0 g1 g2 c.evaluate.ensures.counted c.evaluate-2.ensures.counted }
 
-pub evaluation::evaluate-returns-in_err-found-in-Subscript : goal.evaluation::evaluate-returns-in_err-found-in-Subscript
-evaluation::evaluate-returns-in_err-found-in-Subscript g t c =
+pub operands::subscription-returns-in_err-found : goal.operands::subscription-returns-in_err-found
+operands::subscription-returns-in_err-found g t c =
     let s = c.args.scene.now in
     let w = world_in s in
     let g0 = c.args.guard.now in
     let n0 = c.args.entry.now in
-    let g1 = c.evaluate-in-Subscript.new.guard in
-    let g2 = c.evaluate-in-Subscript-2.new.guard in
-    let g3 = c.follow-in-Subscript.new.guard in
-    record { answer = search rules; counted = counts_then w n0 c.evaluate-in-Subscript-2.new.entry c.follow-in-Subscript.new.entry g0 g2 g3 (counts_then w n0 c.evaluate-in-Subscript.new.entry c.evaluate-in-Subscript-2.new.entry g0 g1 g2 c.evaluate-in-Subscript.ensures.counted c.evaluate-in-Subscript-2.ensures.counted) c.follow-in-Subscript.ensures.counted }
+    let g1 = c.evaluate.new.guard in
+    let g2 = c.evaluate-2.new.guard in
+    let g3 = c.follow.new.guard in
+    record { answer = search rules; counted = counts_then w n0 c.evaluate-2.new.entry c.follow.new.entry g0 g2 g3 (counts_then w n0 c.evaluate.new.entry c.evaluate-2.new.entry g0 g1 g2 c.evaluate.ensures.counted c.evaluate-2.ensures.counted) c.follow.ensures.counted }
 
-pub evaluation::evaluate-all_of-requires : goal.evaluation::evaluate-all_of-requires
-evaluation::evaluate-all_of-requires g t c κs within =
+pub chains::list_literal-all_of-requires : goal.chains::list_literal-all_of-requires
+chains::list_literal-all_of-requires g t c κs within =
     let s = c.args.scene.now in
     let w = world_in s in
     let g0 = c.args.guard.now in
     let n0 = c.args.entry.now in
-    let e = tree c.args.expr.now in
-    let ts = pack (trees c.in-List.items) in
-    let is = ap tree c.in-List.is ∙ tree-List c.in-List.items in
+    let ts = pack (trees c.args.items.now) in
     let rest = λ (n : ℕ). all_demanded (results_in s ts n) in
-    let p0 = begins w s.left (values_in s e) (λ n. option_map list_value (all_demanded (results_in s ts n))) g0 c.requires (λ n. in_list s e n ts is) in
-    (omega (arith, c.decreases, ap size is), (within, mapped_part_ready w s.left (values_in s e) g0 g0 list_value rest 0 p0))
+    let f = λ (n : ℕ). listed_in s ts n in
+    let p0 = begins w s.left f (λ n. option_map list_value (all_demanded (results_in s ts n))) g0 c.requires (λ n. refl) in
+    (omega (arith, c.decreases), (within, mapped_part_ready w s.left f g0 g0 list_value rest 0 p0))
 
-pub evaluation::evaluate-returns-in_default-9 : goal.evaluation::evaluate-returns-in_default-9
-evaluation::evaluate-returns-in_default-9 g t c =
+pub chains::list_literal-returns-in_default : goal.chains::list_literal-returns-in_default
+chains::list_literal-returns-in_default g t c =
     let s = c.args.scene.now in
     let w = world_in s in
     let g0 = c.args.guard.now in
     let n0 = c.args.entry.now in
-    let e = tree c.args.expr.now in
-    let ts = pack (trees c.in-List.items) in
-    let is = ap tree c.in-List.is ∙ tree-List c.in-List.items in
+    let ts = pack (trees c.args.items.now) in
     let rest = λ (n : ℕ). all_demanded (results_in s ts n) in
-    let p0 = begins w s.left (values_in s e) (λ n. option_map list_value (all_demanded (results_in s ts n))) g0 c.requires (λ n. in_list s e n ts is) in
+    let f = λ (n : ℕ). listed_in s ts n in
+    let p0 = begins w s.left f (λ n. option_map list_value (all_demanded (results_in s ts n))) g0 c.requires (λ n. refl) in
     let g1 = c.all_of.new.guard in
-    let none_left = known_all_as w rest s.left g0 g1 c.in_ok-all-in-List.field-0 (None) c.in_default-9.is c.in_ok-all-in-List.ensures.answer in
-    record { answer = all_part_fails w s.left (values_in s e) g0 g0 g1 g1 list_value rest 0 p0 none_left; counted = c.all_of.ensures.counted }
+    let none_left = known_all_as w rest s.left g0 g1 c.in_ok-all.field-0 (None) c.in_default.is c.in_ok-all.ensures.answer in
+    record { answer = all_part_fails w s.left f g0 g0 g1 g1 list_value rest 0 p0 none_left; counted = c.all_of.ensures.counted }
 
-pub evaluation::evaluate-returns-in-Some-9 : goal.evaluation::evaluate-returns-in-Some-9
-evaluation::evaluate-returns-in-Some-9 g t c =
+pub chains::list_literal-returns : goal.chains::list_literal-returns
+chains::list_literal-returns g t c =
     let s = c.args.scene.now in
     let w = world_in s in
     let g0 = c.args.guard.now in
     let n0 = c.args.entry.now in
-    let e = tree c.args.expr.now in
-    let ts = pack (trees c.in-List.items) in
-    let is = ap tree c.in-List.is ∙ tree-List c.in-List.items in
+    let ts = pack (trees c.args.items.now) in
     let rest = λ (n : ℕ). all_demanded (results_in s ts n) in
-    let p0 = begins w s.left (values_in s e) (λ n. option_map list_value (all_demanded (results_in s ts n))) g0 c.requires (λ n. in_list s e n ts is) in
+    let f = λ (n : ℕ). listed_in s ts n in
+    let p0 = begins w s.left f (λ n. option_map list_value (all_demanded (results_in s ts n))) g0 c.requires (λ n. refl) in
     let g1 = c.all_of.new.guard in
-    let o = c.in-Some-9.all in
+    let o = c.in-Some.all in
     let u : Outcome = record { value = c.bounded.result; height = o.height } in
-    let some = known_all_as w rest s.left g0 g1 c.in_ok-all-in-List.field-0 (Some o) c.in-Some-9.is c.in_ok-all-in-List.ensures.answer in
-    record { answer = finishes_all w s.left (values_in s e) g0 g0 g1 list_value rest 0 o u p0 some (c.bounded.ensures ∙ ap bounded (plain-List o.values)) (omega arith); counted = c.all_of.ensures.counted }
+    let some = known_all_as w rest s.left g0 g1 c.in_ok-all.field-0 (Some o) c.in-Some.is c.in_ok-all.ensures.answer in
+    record { answer = finishes_all w s.left f g0 g0 g1 list_value rest 0 o u p0 some (c.bounded.ensures ∙ ap bounded (plain-List o.values)) (omega arith); counted = c.all_of.ensures.counted }
 
-pub evaluation::evaluate-returns-in_err-all-in-List : goal.evaluation::evaluate-returns-in_err-all-in-List
-evaluation::evaluate-returns-in_err-all-in-List g t c =
+pub chains::list_literal-returns-in_err-all : goal.chains::list_literal-returns-in_err-all
+chains::list_literal-returns-in_err-all g t c =
     let s = c.args.scene.now in
     let w = world_in s in
     let g0 = c.args.guard.now in

@@ -22,6 +22,21 @@ decreases-evaluation::attribute g l = 8 * (l.scene.now.left * turn (world_in l.s
 abbrev pub decreases-evaluation::enter : goal.decreases-evaluation::enter
 decreases-evaluation::enter g l = 8 * (l.scene.now.left * turn (world_in l.scene.now)) + 1
 
+abbrev pub decreases-operands::unary_operation : goal.decreases-operands::unary_operation
+decreases-operands::unary_operation g l = 8 * (l.scene.now.left * turn (world_in l.scene.now)) + (8 * size (tree l.a.now) + 4)
+
+abbrev pub decreases-operands::binary_operation : goal.decreases-operands::binary_operation
+decreases-operands::binary_operation g l = 8 * (l.scene.now.left * turn (world_in l.scene.now)) + (8 * (size (tree l.a.now) + size (tree l.b.now)) + 4)
+
+abbrev pub decreases-operands::selection : goal.decreases-operands::selection
+decreases-operands::selection g l = 8 * (l.scene.now.left * turn (world_in l.scene.now)) + (8 * size (tree l.base.now) + 4)
+
+abbrev pub decreases-operands::subscription : goal.decreases-operands::subscription
+decreases-operands::subscription g l = 8 * (l.scene.now.left * turn (world_in l.scene.now)) + (8 * (size (tree l.base.now) + size (tree l.index.now)) + 4)
+
+abbrev pub decreases-chains::list_literal : goal.decreases-chains::list_literal
+decreases-chains::list_literal g l = 8 * (l.scene.now.left * turn (world_in l.scene.now)) + (8 * size_all (pack (trees l.items.now)) + 2)
+
 abbrev pub decreases-chains::call_function : goal.decreases-chains::call_function
 decreases-chains::call_function g l = 8 * (l.scene.now.left * turn (world_in l.scene.now)) + (8 * size_all (pack (trees l.items.now)) + 5)
 

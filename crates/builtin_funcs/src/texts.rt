@@ -10,7 +10,7 @@ ghost use Rattle.builtin_funcs.specs.Texts.{end_of, on_text, order_number, part_
 use crate::conversions::append_written;
 use crate::kinds::is_scalar;
 use ad_value::{Value, Values};
-use pool_text::{OutOfMemory, Text, fold, order_folded};
+use pool_text::{OutOfMemory, Text, order_folded};
 use std::alloc::Global;
 use std::cmp::Ordering;
 
@@ -144,14 +144,13 @@ pub(crate) fn to_upper(alloc: Global, s: &Value) -> Result<Value, OutOfMemory>
     ensures { IfOk result
         (λ v. plain v ≡ on_text (λ bytes. text (map to_ascii_uppercase bytes)) (plain s.now)) }
 {
-    let Value::Str(text) = s else {
-        return Ok(Value::Error);
-    };
-    let mut out = Text::new(alloc);
-    for byte in text.bytes() {
-        out.append(&[byte.to_ascii_uppercase()])?;
+    match s {
+        Value::Str(text) => {
+            let capital = text.bytes().to_ascii_uppercase(alloc)?;
+            Ok(Value::Str(Text::from_bytes(alloc, &capital)?))
+        }
+        _ => Ok(Value::Error),
     }
-    Ok(Value::Str(out))
 }
 
 /// A String with its letters `A` to `Z` made small.
@@ -159,7 +158,10 @@ pub(crate) fn to_lower(alloc: Global, s: &Value) -> Result<Value, OutOfMemory>
     ensures { IfOk result (λ v. plain v ≡ on_text (λ bytes. text (folded bytes)) (plain s.now)) }
 {
     match s {
-        Value::Str(text) => Ok(Value::Str(fold(alloc, text.bytes())?)),
+        Value::Str(text) => {
+            let small = text.bytes().to_ascii_lowercase(alloc)?;
+            Ok(Value::Str(Text::from_bytes(alloc, &small)?))
+        }
         _ => Ok(Value::Error),
     }
 }

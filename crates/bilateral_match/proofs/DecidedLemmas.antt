@@ -1,26 +1,24 @@
 -- A decided dock is not true.
-use Rattle.std.proofs.Common.{◌≡◌, ◌<◌, ◌-◌, ℕ, zero, suc, Bool, true, false, not, ◌&&◌, ◌||◌, refl, List, [], ◌∷◌, ◌++◌, length, Option, None, Some, option_map, unwrap_or, slice_get, cond, nat_eq, All, ap, sym, ◌∙◌, subst, arith}
+use Rattle.std.proofs.Common.{◌≡◌, ◌<◌, ℕ, zero, suc, Bool, true, false, not, ◌&&◌, ◌||◌, refl, List, [], ◌∷◌, length, Option, None, Some, unwrap_or, cond, nat_eq, All, ap, sym, ◌∙◌, subst, arith}
 use Rattle.std.specs.List.{filter_map, list_any, cons_option}
 use Rattle.std.specs.Option.{option_and_then, option_map_or}
 use Rattle.std.proofs.lemmas.Bool.{eqb-true}
 use Rattle.std.proofs.lemmas.List.Elements.{All-tail}
 use Rattle.pool_text.specs.declared.language.AdPlace.{AdPlace}
-use Rattle.pool_text.specs.declared.language.Pos.{Pos}
 use Rattle.ad_value.specs.Plain.{Plain, undefined, error, boolean, integer, text, list, ad_at}
 use Rattle.ad_value.specs.Logic.{is_true}
-use Rattle.ad_tree.specs.declared.tree.Scope.{Scope}
 use Rattle.ad_tree.specs.Tree.{Tree}
 use Rattle.ad_tree.specs.Frames.{Frame, expr_at}
 use Rattle.ad_tree.specs.Special.{requirement_of}
-use Rattle.eval_scope.specs.World.{PlainWorld, expr_of, frame_of_attribute, frames_of_ad, port_frame, request_side, resource_side, target}
+use Rattle.eval_scope.specs.World.{PlainWorld, frames_of_ad, port_frame, request_side, resource_side}
 use Rattle.ad_tree.specs.Enclosing.{enclosed_expr}
 use Rattle.eval_scope.specs.declared.found.Found.{Found}
 use Rattle.eval_scope.specs.Look.{enclosing_any, first_found, labels, targets}
 use Rattle.ad_eval.specs.Dock.{attribute_of, is_docked, meets_requirement}
 use Rattle.ad_eval.specs.Value.{evaluation_at, value_at, value_by, value_with}
 use Rattle.conjunct_plan.specs.declared.test.Test.{Test}
-use Rattle.conjunct_plan.specs.Decided.{is_decided, is_dock_decided, rules_out, test_value}
-use Rattle.conjunct_plan.specs.Tests.{conjuncts, labels_of, requirement_expr, test_of, tests_of}
+use Rattle.conjunct_plan.specs.Decided.{is_decided, rules_out, test_value}
+use Rattle.conjunct_plan.specs.Tests.{conjuncts, labels_of, test_of}
 use Rattle.bilateral_match.specs.Docks.{is_last_decided, last_ad}
 use Rattle.bilateral_match.proofs.ConjunctLemmas.{IsTrueAt, conjuncts-true}
 use Rattle.bilateral_match.proofs.FindLemmas.{Finds, finds-alone, finds-enclosed, unlabelled}

@@ -1,12 +1,12 @@
 -- What a name finds in a world, beside the expression that it has in the frames of an ad.
-use Rattle.std.proofs.Common.{◌≡◌, ℕ, zero, suc, Bool, true, false, refl, List, [], ◌∷◌, ◌++◌, length, map, Option, None, Some, IsSome, option_map, cond, ◌||◌, bytes_eq, ap, sym, ◌∙◌}
+use Rattle.std.proofs.Common.{◌≡◌, ℕ, suc, Bool, true, false, refl, List, [], ◌∷◌, map, Option, None, Some, IsSome, option_map, cond, ◌||◌, bytes_eq, ap, sym, ◌∙◌}
 use Rattle.std.specs.Option.{option_and_then, option_or}
 use Rattle.std.proofs.lemmas.Slice.Eq.{bytes_eq-Decides}
 use Rattle.pool_text.specs.declared.language.AdPlace.{AdPlace}
 use Rattle.pool_text.specs.declared.language.Pos.{Pos}
 use Rattle.pool_text.specs.declared.language.Lit.{Lit}
 use Rattle.pool_text.specs.Folding.{folded}
-use Rattle.ad_value.specs.Plain.{Plain, undefined, plain_of_lit}
+use Rattle.ad_value.specs.Plain.{Plain, plain_of_lit}
 use Rattle.ad_tree.specs.declared.request.Port.{Port}
 use Rattle.ad_tree.specs.Tree.{Tree, node, frame, literal, name, unary, binary, all, any, choice, select, subscript, call, list}
 use Rattle.ad_tree.specs.Enclosing.{enclosed_expr, enclosing_frames, expr_named, first_expr}
@@ -15,7 +15,7 @@ use Rattle.ad_tree.specs.Names.{same_name, has_name}
 use Rattle.ad_tree.specs.Special.{attribute_named}
 use Rattle.eval_scope.specs.declared.found.Found.{Found}
 use Rattle.eval_scope.specs.World.{PlainWorld, expr_of, frame_of_attribute, frames_of_ad}
-use Rattle.eval_scope.specs.Look.{Candidate, in_frame, label_of, attribute_in, enclosing, first_found, found_at, found_attribute, labels_from, or_else}
+use Rattle.eval_scope.specs.Look.{in_frame, enclosing, first_found, found_at, found_attribute, labels_from, or_else}
 use Rattle.eval_scope.proofs.LookLemmas.{attribute_in-there}
 use Rattle.ad_eval.specs.Node.{named}
 use Rattle.ad_eval.specs.Value.{value_at, value_by}

@@ -1,5 +1,5 @@
 -- The narrowest of some tests, test by test.
-use Rattle.std.proofs.Common.{◌≡◌, ◌<◌, ◌≤◌, ◌+◌, ℕ, min, List, length, take, get_or, Option, None, Some, Contains, IfNone, IfSome, Bor, refl, ap, sym, ◌∙◌, subst, arith}
+use Rattle.std.proofs.Common.{◌≡◌, ◌<◌, ◌≤◌, ◌+◌, ℕ, min, List, length, take, get_or, Option, Some, Contains, IfNone, IfSome, Bor, refl, ap, sym, ◌∙◌, subst, arith}
 use Rattle.std.proofs.lemmas.List.Sums.{fold_more}
 use Rattle.ad_store.specs.Stock.{Advert}
 use Rattle.conjunct_plan.specs.declared.test.Test.{Test}

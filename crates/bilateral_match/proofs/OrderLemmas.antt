@@ -1,5 +1,5 @@
 -- Matches in order: there is one such list of given matches.
-use Rattle.std.proofs.Common.{◌≡◌, ◌<◌, ◌≤◌, ◌+◌, ℕ, zero, suc, zero-le, Bool, true, false, refl, List, [], ◌∷◌, ◌++◌, length, get_or, sum_by, cond, if◌then◌else◌, All, ap, sym, ◌∙◌, subst, arith, add-one, zero-add, ℤ, Less, Equal, Greater}
+use Rattle.std.proofs.Common.{◌≡◌, ◌<◌, ◌+◌, ℕ, zero, suc, zero-le, Bool, true, false, refl, List, [], ◌∷◌, length, get_or, sum_by, cond, if◌then◌else◌, All, ap, sym, ◌∙◌, arith, add-one, zero-add, ℤ, Less, Equal, Greater}
 use Rattle.std.specs.Cmp.{IsTotalOrder, IsStrictWeakOrder}
 use Rattle.std.specs.Ordering.{int_cmp, is_lt, nat_cmp, ordering_reverse, ordering_then}
 use Rattle.std.specs.declared.cmp.Ordering.{Ordering}

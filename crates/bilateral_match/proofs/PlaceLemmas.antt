@@ -1,5 +1,5 @@
 -- The places of the ads that a test leaves, and those of the slots that an index gives for it.
-use Rattle.std.proofs.Common.{◌≡◌, ◌<◌, ◌≤◌, ◌+◌, ℕ, zero, suc, zero-le, Bool, true, false, not, ◌||◌, refl, List, [], ◌∷◌, ◌++◌, length, map, filter, get_or, Option, None, Some, slice_get, sum_by, count_by, cond, if◌then◌else◌, nat_eq, All, Contains, ap, sym, ◌∙◌, subst, arith, add-zero, zero-add, add-one, eq-eqb}
+use Rattle.std.proofs.Common.{◌≡◌, ◌<◌, ◌≤◌, ◌+◌, ℕ, zero, suc, Bool, true, false, not, ◌||◌, refl, List, [], ◌∷◌, ◌++◌, length, map, filter, get_or, Some, slice_get, count_by, cond, if◌then◌else◌, nat_eq, All, Contains, ap, sym, ◌∙◌, subst, arith, add-zero, zero-add, add-one, eq-eqb}
 use Rattle.std.proofs.lemmas.Bool.{eqb-true}
 use Rattle.std.specs.List.{list_any, range_with_len}
 use Rattle.std.specs.List.Sorted.{IsPermutation}

@@ -1,7 +1,6 @@
 -- How the rows of a store change with it, for those who keep an index of them.
-use Rattle.std.proofs.Common.{◌≡◌, ◌<◌, ℕ, zero, suc, Bool, true, false, ◌||◌, refl, List, [], ◌∷◌, ◌++◌, length, map, Option, None, Some, option_map, slice_get, take, cond, if◌then◌else◌, nat_eq, ap, sym, ◌∙◌, subst, arith}
+use Rattle.std.proofs.Common.{◌≡◌, ◌<◌, ℕ, zero, suc, Bool, true, false, ◌||◌, refl, List, [], ◌∷◌, ◌++◌, length, map, None, Some, option_map, slice_get, take, if◌then◌else◌, nat_eq, ap, sym, ◌∙◌, subst, arith}
 use Rattle.std.proofs.lemmas.Bool.{eqb-true}
-use Rattle.std.specs.List.{list_any}
 use Rattle.ad_tree.specs.Frames.{Frame}
 use Rattle.ad_store.specs.Stock.{Advert, has, is_named, placed, slot_beside, slots_without, without}
 use Rattle.literal_index.specs.Rows.{Row, ad_under, row_of}

@@ -1,5 +1,5 @@
 -- Going through places: what is found, and how often it is evaluated.
-use Rattle.std.proofs.Common.{◌≡◌, ◌<◌, ◌≤◌, ◌+◌, ◌*◌, ℕ, zero, suc, Bool, true, false, not, refl, List, [], ◌∷◌, ◌++◌, length, Option, None, Some, option_map, slice_get, sum_by, count_by, cond, if◌then◌else◌, All, ap, sym, ◌∙◌, subst, arith, add-zero, zero-add, ℤ}
+use Rattle.std.proofs.Common.{◌≡◌, ◌+◌, ◌*◌, ℕ, suc, Bool, true, false, not, refl, List, [], ◌∷◌, Option, None, Some, option_map, slice_get, sum_by, cond, if◌then◌else◌, All, ap, sym, ◌∙◌, subst, arith, add-zero, zero-add, ℤ}
 use Rattle.std.proofs.Math.Nat.{zero-mul}
 use Rattle.std.specs.List.{cons_option, filter_map}
 use Rattle.std.specs.List.Sorted.{IsPermutation, IsSorted}
@@ -11,7 +11,7 @@ use Rattle.ad_tree.specs.Frames.{Frame}
 use Rattle.ad_store.specs.Stock.{Advert}
 use Rattle.eval_scope.specs.World.{attribute_count}
 use Rattle.bilateral_match.specs.declared.hit.Match.{Match}
-use Rattle.bilateral_match.specs.Answers.{answers, arranged, match_order, match_with, matches_from}
+use Rattle.bilateral_match.specs.Answers.{answers, match_order, match_with, matches_from}
 use Rattle.bilateral_match.specs.Candidates.{AreCandidates, places_where}
 use Rattle.bilateral_match.specs.Counts.{attributes_most, entered_most, evaluations_most, undecided_count}
 use Rattle.bilateral_match.specs.Docks.{docks, is_undecided, pair_world, rank_of_dock, ranked}

@@ -1,5 +1,5 @@
 -- A conjunct has the value of its test.
-use Rattle.std.proofs.Common.{◌≡◌, ◌<◌, ℕ, zero, suc, Bool, true, false, refl, List, [], ◌∷◌, ◌++◌, Option, None, Some, option_map, if◌then◌else◌, ap, sym, ◌∙◌}
+use Rattle.std.proofs.Common.{◌≡◌, ℕ, suc, Bool, true, false, refl, List, Option, None, Some, option_map, if◌then◌else◌, ap, sym, ◌∙◌}
 use Rattle.std.specs.Option.{option_and_then}
 use Rattle.pool_text.specs.declared.language.AdPlace.{AdPlace}
 use Rattle.pool_text.specs.declared.language.BinOp.{BinOp}
@@ -7,19 +7,19 @@ use Rattle.pool_text.specs.declared.language.Lit.{Lit}
 use Rattle.ad_value.specs.Plain.{Plain, plain_of_lit}
 use Rattle.ad_value.specs.Operators.{binary_value}
 use Rattle.ad_tree.specs.declared.tree.Scope.{Scope}
-use Rattle.ad_tree.specs.Tree.{Tree, Trees, node, frame, none, more, literal, name, unary, binary, all, any, choice, select, subscript, call, list}
+use Rattle.ad_tree.specs.Tree.{Tree, node, frame, none, more, literal, name, unary, binary, all, any, choice, select, subscript, call, list}
 use Rattle.ad_tree.specs.Enclosing.{enclosed_expr, expr_named}
 use Rattle.ad_tree.specs.Frames.{Frame}
 use Rattle.ad_tree.specs.Names.{has_name}
 use Rattle.eval_scope.specs.declared.found.Found.{Found}
 use Rattle.eval_scope.specs.World.{PlainWorld}
-use Rattle.eval_scope.specs.Look.{enclosing, find, first_found, in_frame, labels, targets}
+use Rattle.eval_scope.specs.Look.{enclosing, find, first_found, labels, targets}
 use Rattle.eval_scope.proofs.LookLemmas.{in_beyond, in_own}
 use Rattle.ad_eval.specs.Node.{named}
 use Rattle.ad_eval.specs.Value.{value_at, value_with}
 use Rattle.conjunct_plan.specs.declared.test.Test.{Test}
 use Rattle.conjunct_plan.specs.Decided.{counted, test_value}
-use Rattle.conjunct_plan.specs.Tests.{Side, constant, neither, bare_side, comparison_of, is_comparison, own_side, side_of, test_of, truth_of}
+use Rattle.conjunct_plan.specs.Tests.{Side, constant, neither, bare_side, comparison_of, is_comparison, side_of, test_of, truth_of}
 use Rattle.conjunct_plan.specs.Tests.{named as asked_of}
 use Rattle.bilateral_match.proofs.FindLemmas.{Finds, finds-nothing, finds-something, named-counted, own-counted, own-unnamed}
 

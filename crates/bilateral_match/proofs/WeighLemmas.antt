@@ -1,5 +1,5 @@
 -- What one dock is worth, and what it takes.
-use Rattle.std.proofs.Common.{◌≡◌, ◌*◌, ◌+◌, ℕ, ℤ, Bool, true, false, not, refl, List, [], ◌∷◌, ◌++◌, Option, None, Some, option_map, slice_get, take, length, ◌<◌, if◌then◌else◌, ap, sym, ◌∙◌}
+use Rattle.std.proofs.Common.{◌≡◌, ◌*◌, ℕ, ℤ, Bool, true, false, not, List, [], ◌∷◌, Option, None, Some, option_map, if◌then◌else◌, ap, sym, ◌∙◌}
 use Rattle.std.specs.Option.{option_and_then, option_map_or}
 use Rattle.ad_tree.specs.declared.request.Port.{Port}
 use Rattle.ad_tree.specs.Frames.{Frame}

@@ -1,5 +1,5 @@
 -- What a query answers: all ads that dock with it, by rank and then by place.
-use Rattle.std.specs.Prelude.{ℕ, List, [], ◌∷◌, map, suc, Option, None, Some, option_map, slice_index, if◌then◌else◌}
+use Rattle.std.specs.Prelude.{ℕ, List, [], ◌∷◌, suc, Option, option_map, slice_index, if◌then◌else◌}
 use Rattle.std.specs.Ordering.{int_cmp, is_lt, nat_cmp, ordering_then}
 use Rattle.std.specs.declared.cmp.Ordering.{Ordering}
 use Rattle.std.specs.List.{cons_option}

@@ -1,5 +1,5 @@
 -- Which ads a query looks at.
-use Rattle.std.specs.Prelude.{ℕ, ◌≡◌, ◌≤◌, Bool, true, false, suc, List, [], ◌∷◌, length, if◌then◌else◌}
+use Rattle.std.specs.Prelude.{ℕ, ◌≡◌, ◌≤◌, Bool, false, suc, List, [], ◌∷◌, length, if◌then◌else◌}
 use Rattle.std.specs.List.Sorted.{IsPermutation}
 use Rattle.ad_tree.specs.Frames.{Frame}
 use Rattle.ad_store.specs.Stock.{Advert}

@@ -1,9 +1,9 @@
 -- The dock of a request and a resource.
-use Rattle.std.specs.Prelude.{ℕ, ℤ, Bool, not, List, [], ◌∷◌, length, Option, None, Some, if◌then◌else◌}
+use Rattle.std.specs.Prelude.{ℕ, ℤ, Bool, not, List, [], ◌∷◌, Option, None, Some, if◌then◌else◌}
 use Rattle.ad_tree.specs.Frames.{Frame}
 use Rattle.eval_scope.specs.World.{PlainWorld, frames_of_ad, request_side, resource_side}
 use Rattle.ad_eval.specs.Dock.{is_docked, rank_by}
-use Rattle.conjunct_plan.specs.Decided.{is_dock_decided, rules_out}
+use Rattle.conjunct_plan.specs.Decided.{is_dock_decided}
 use Rattle.conjunct_plan.specs.Tests.{labels_of}
 
 -- ---- a single request and one ad

@@ -1,13 +1,10 @@
 use Rattle.std.proofs.Common.{◌≡◌, [], List, length, Contains, ap, arith, subst, sym, ◌∙◌}
 use Rattle.std.specs.List.{range_with_len}
-use Rattle.std.specs.List.Sorted.{IsPermutation}
 use Rattle.ad_tree.specs.Ad.{ad_frames}
 use Rattle.ad_tree.specs.declared.request.Port.{Port}
 use Rattle.ad_store.specs.Store.{stock_of}
 use Rattle.conjunct_plan.specs.declared.test.Test.{Test}
 use Rattle.conjunct_plan.specs.Tests.{labels_of, tests_of}
-use Rattle.literal_index.specs.Rows.{passing_slots}
-use Rattle.bilateral_match.specs.Candidates.{AreCandidates}
 use Rattle.bilateral_match.specs.Counts.{least_left}
 use Rattle.bilateral_match.specs.Rows.{rows_of}
 use Rattle.bilateral_match.proofs.PlaceLemmas.{all-candidates, candidates-within, hits-held, left-candidates}

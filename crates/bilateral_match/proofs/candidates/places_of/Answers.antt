@@ -1,4 +1,4 @@
-use Rattle.std.proofs.Common.{All, Contains, sym, subst, arith, ℕ, List}
+use Rattle.std.proofs.Common.{All, Contains, sym, subst, ℕ, List}
 use Rattle.ad_store.specs.Store.{stock_of}
 use Rattle.bilateral_match.proofs.candidates.places_of.Goals as goal
 

@@ -1,5 +1,5 @@
 -- Ads beside their slots, and ads that leave.
-use Rattle.std.proofs.Common.{◌≡◌, ℕ, zero, suc, ◌+◌, ◌<◌, Bool, true, false, not, List, [], ◌∷◌, ◌++◌, length, map, take, find, None, Some, slice_get, option_map, Result, Ok, Err, OnOk, OnErr, refl, sym, ◌∙◌, ap, inl, inr, arith}
+use Rattle.std.proofs.Common.{◌≡◌, ℕ, zero, suc, ◌+◌, ◌<◌, ◌≤◌, if◌then◌else◌, Bool, true, false, not, List, [], ◌∷◌, ◌++◌, length, map, take, find, None, Some, slice_get, option_map, Result, Ok, Err, OnOk, OnErr, refl, sym, ◌∙◌, ap, inl, inr, arith}
 use Rattle.std.proofs.lemmas.Bool.{cases_Bool}
 use Rattle.std.proofs.lemmas.List.{length-map}
 use Rattle.std.specs.Cmp.Lexicographic.{bytes_decides}
@@ -51,10 +51,10 @@ rows_more [] i row is = absurd (cc)
 rows_more (x ∷ ads) zero row is = let same : ad_row x ≡ row = cc in ap (λ (r : AdRow). r ∷ []) (sym same)
 rows_more (x ∷ ads) (suc i) row is = ap (λ (rows : List AdRow). ad_row x ∷ rows) (rows_more ads i row is)
 
-named : (name : List ℕ) (x : Advert) → is_named name x ≡ true → name ≡ x.name
+pub named : (name : List ℕ) (x : Advert) → is_named name x ≡ true → name ≡ x.name
 named name x is = (bytes_decides name x.name).0 is
 
-is_own_name : (x : Advert) → is_named x.name x ≡ true
+pub is_own_name : (x : Advert) → is_named x.name x ≡ true
 is_own_name x = (bytes_decides x.name x.name).1 refl
 
 -- an ad has its own name
@@ -132,3 +132,12 @@ not_live false is = refl
 
 pub shorter : (new old : List Advert) (name : List ℕ) → new ≡ without name old → has name old ≡ true → length new < length old
 shorter new old name is held = omega (arith, ap length is, fewer-without name old held)
+
+-- no more ads are live than there are
+pub live-le : (now : ℕ) (ads : List Advert) → length (live_ads now ads) ≤ length ads
+live-le now [] = omega arith
+live-le now (x ∷ ads) = by (live-le now ads) (is_live now x)
+  where
+    by : length (live_ads now ads) ≤ length ads → (b : Bool) → length (if b then x ∷ live_ads now ads else live_ads now ads) ≤ length (x ∷ ads)
+    by rest true = omega (arith, rest)
+    by rest false = omega (arith, rest)

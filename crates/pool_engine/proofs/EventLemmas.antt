@@ -1,14 +1,14 @@
 -- Commands one after the other.
-use Rattle.std.proofs.Common.{◌≡◌, ◌+◌, ◌≤◌, List, [], ◌∷◌, ◌++◌, length, refl, ◌∙◌, ap, inl, inr, arith}
+use Rattle.std.proofs.Common.{◌≡◌, ℕ, ◌+◌, ◌≤◌, List, [], ◌∷◌, ◌++◌, length, sum_by, refl, ◌∙◌, ap, inl, inr, arith}
 use Rattle.std.proofs.lemmas.Bool.{cases_Bool}
 use Rattle.std.proofs.lemmas.Grind.{flat_map-append}
 use Rattle.std.proofs.lemmas.List.Sums.{sum_by-append}
 use Rattle.pool_script.specs.declared.command.Command.{Command}
 use Rattle.pool_replies.specs.declared.reply.Reply.{Reply}
 use Rattle.pool_replies.specs.Replies.{is_refused, refusal_count, reply_text}
-use Rattle.pool_engine.specs.Events.{Event, allowed_of, event_of, events_of, refusals_of, replies_text, state_after}
+use Rattle.pool_engine.specs.Events.{Event, allowed_of, event_of, events_of, looks_of, refusals_of, replies_text, state_after}
 use Rattle.pool_engine.specs.State.{State}
-use Rattle.pool_engine.specs.Step.{allowance, step}
+use Rattle.pool_engine.specs.Step.{allowance, looks, step}
 
 pub events_of-append : (s : State) (a b : List Command) → events_of s (a ++ b) ≡ events_of s a ++ events_of (state_after s a) b
 events_of-append s [] b = refl
@@ -41,5 +41,12 @@ pub refusals-le : (s : State) (commands : List Command) → refusals_of (events_
 refusals-le s [] = omega arith
 refusals-le s (c ∷ commands) = omega (arith, refusal_count-le (step s c).1, refusals-le (step s c).0 commands)
 
+-- what the commands may count by any measure of events
+pub sum-append : (f : Event → ℕ) (s : State) (a b : List Command) → sum_by f (events_of s (a ++ b)) ≡ sum_by f (events_of s a) + sum_by f (events_of (state_after s a) b)
+sum-append f s a b = ap (sum_by f) (events_of-append s a b) ∙ sum_by-append f (events_of s a) (events_of (state_after s a) b)
+
 pub allowed-append : (s : State) (a b : List Command) → allowed_of (events_of s (a ++ b)) ≡ allowed_of (events_of s a) + allowed_of (events_of (state_after s a) b)
-allowed-append s a b = ap allowed_of (events_of-append s a b) ∙ sum_by-append (λ event. allowance event.before event.command) (events_of s a) (events_of (state_after s a) b)
+allowed-append = sum-append (λ event. allowance event.before event.command)
+
+pub looks-append : (s : State) (a b : List Command) → looks_of (events_of s (a ++ b)) ≡ looks_of (events_of s a) + looks_of (events_of (state_after s a) b)
+looks-append = sum-append (λ event. looks event.before event.command)

@@ -2,8 +2,11 @@ mod AdLemmas
 mod Cases
 mod EndLemmas
 mod EventLemmas
+mod HitLemmas
+mod IndexLemmas
 mod ReadingLemmas
 mod RunningLemmas
 mod StepLemmas
+mod TimeLemmas
 mod TookLemmas
 mod WroteLemmas

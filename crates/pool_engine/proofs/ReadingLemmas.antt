@@ -14,7 +14,7 @@ use Rattle.pool_engine.specs.Limits.{input_limit}
 use Rattle.pool_engine.specs.Session.{Stopped, Took}
 use Rattle.pool_engine.specs.State.{State, opening}
 use Rattle.pool_engine.proofs.EventLemmas.{refusals-le}
-use Rattle.pool_engine.proofs.TookLemmas.{Took-append, broke_behind, cost_cut, cost_next, wrote_behind}
+use Rattle.pool_engine.proofs.TookLemmas.{Costs-none, Took-append, broke_behind, cost_to, wrote_behind}
 use Rattle.pool_engine.proofs.WroteLemmas.{Wrote-nil}
 
 -- ---- what reads gave
@@ -58,7 +58,7 @@ Reading-start s k script pool refused stands over waiting at none = record {
   stands = stands;
   over = over;
   waiting = waiting;
-  took = record { state = at; wrote = Wrote-nil k.sink; counted = none; cost = omega arith };
+  took = record { state = at; wrote = Wrote-nil k.sink; counted = none; cost = Costs-none k [] };
 }
 
 -- the commands of a further piece, and those of the end
@@ -119,7 +119,7 @@ stopped_ends s t k m n pool bytes a b refused WriteFault within gave due in_time
       due = subst (λ (l : List Command). AreDue t bytes l) split due;
       in_time = omega (arith, in_time, length-append a stopped.front);
       broke = broke_behind opening pool k.sink m.sink n.sink a stopped.front stopped.cut took.state took.wrote stopped.broke;
-      cost = cost_cut opening pool k.tops m.tops n.tops a stopped.front stopped.cut took.state took.cost stopped.cost;
+      cost = cost_to opening pool k m n a stopped.front (stopped.cut ∷ []) took.state took.cost stopped.cost;
     }
 stopped_ends s t k m n pool bytes a b refused OutOfMemory within gave due in_time took stopped =
     let split : a ++ b ≡ (a ++ stopped.front) ++ stopped.others = ap (λ (l : List Command). a ++ l) stopped.split ∙ sym (append_assoc a stopped.front stopped.others) in
@@ -132,7 +132,7 @@ stopped_ends s t k m n pool bytes a b refused OutOfMemory within gave due in_tim
       due = subst (λ (l : List Command). AreDue t bytes l) split due;
       in_time = omega (arith, in_time, length-append a stopped.front);
       wrote = wrote_behind opening pool k.sink m.sink n.sink a stopped.front took.state took.wrote stopped.wrote;
-      cost = cost_next opening pool k.tops m.tops n.tops a stopped.front stopped.others took.state took.cost stopped.cost;
+      cost = cost_to opening pool k m n a stopped.front (take 1 stopped.others) took.state took.cost stopped.cost;
     }
 stopped_ends s t k m n pool bytes a b refused (Done count) within gave due in_time took stopped = absurd stopped
 stopped_ends s t k m n pool bytes a b refused BadWords within gave due in_time took stopped = absurd stopped

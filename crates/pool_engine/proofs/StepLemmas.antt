@@ -1,5 +1,5 @@
 -- What a parse answers, as a step of the pool.
-use Rattle.std.proofs.Common.{◌≡◌, ℕ, Bool, true, false, not, List, Option, None, Some, Result, Ok, Err, refl, sym, ◌∙◌, ap, inl, inr}
+use Rattle.std.proofs.Common.{◌≡◌, ℕ, Bool, true, false, not, List, [], map, Option, None, Some, Result, Ok, Err, refl, sym, ◌∙◌, ap, inl, inr}
 use Rattle.ad_tree.specs.declared.ad.Ad.{Ad}
 use Rattle.ad_tree.specs.declared.phrase.Phrase.{Phrase}
 use Rattle.ad_tree.specs.Ad.{ad_frames}
@@ -12,12 +12,16 @@ use Rattle.ad_parser.specs.Outcomes.{IsAdAnswer, IsExprAnswer}
 use Rattle.pool_replies.specs.Refusals.{is_fault_of_text}
 use Rattle.pool_replies.specs.declared.refusal.Refusal.TheVariants.{AdText, Full, UnknownName}
 use Rattle.pool_replies.specs.declared.reply.Reply.{Reply}
-use Rattle.pool_replies.specs.declared.reply.Reply.TheVariants.{Advertised, Evaluated, Refused, Replaced, Shown}
+use Rattle.pool_replies.specs.declared.reply.Reply.TheVariants.{Advertised, Evaluated, Hits, Refused, Replaced, Shown}
+use Rattle.pool_replies.specs.declared.rows.HitRow.{HitRow}
 use Rattle.ad_printer.specs.Values.{printed_frame}
 use Rattle.ad_store.specs.Stock.{Advert, has, lack, placed}
 use Rattle.ad_store.specs.declared.answers.PutFault.{PutFault}
+use Rattle.bilateral_match.specs.Answers.{answers}
+use Rattle.bilateral_match.specs.Counts.{least_left, undecided_count}
+use Rattle.conjunct_plan.specs.Tests.{tests_of}
 use Rattle.pool_engine.specs.State.{State}
-use Rattle.pool_engine.specs.Step.{ad_named, advertise, eval, eval_beside, eval_in, put_ad, refused, room_of, show, show_ad, value_line}
+use Rattle.pool_engine.specs.Step.{ad_named, advertise, eval, eval_beside, eval_in, hit_row, narrowest, put_ad, query, refused, room_of, show, show_ad, undecided_docks, value_line}
 
 no_fault : (fault : ParseFault) → is_fault_of_text fault ≡ true → fault ≡ OutOfMemory → ⊥
 no_fault fault told none = let no : false ≡ true = sym (ap is_fault_of_text none) ∙ told in absurd (cc)
@@ -61,11 +65,11 @@ advertise-faulty s name lifetime size (Ok x) fault fits told = absurd (no_fault 
 advertise-faulty s name lifetime size (Err wrong) fault (inl same) told = ap (λ (f : ParseFault). refused s (AdText f)) (sym same)
 advertise-faulty s name lifetime size (Err wrong) fault (inr none) told = absurd (no_fault fault told none)
 
-not_true : (b : Bool) → true ≡ not b → b ≡ false
+pub not_true : (b : Bool) → true ≡ not b → b ≡ false
 not_true true is = absurd (cc)
 not_true false is = refl
 
-not_false : (b : Bool) → false ≡ not b → b ≡ true
+pub not_false : (b : Bool) → false ≡ not b → b ≡ true
 not_false true is = refl
 not_false false is = absurd (cc)
 
@@ -112,3 +116,25 @@ show-found s name advert frames text found is printed = ap (show_ad s) found ∙
 
 pub show-unknown : (s : State) (name : List ℕ) → ad_named name s.ads ≡ None → ◌≡◌ {A = State × Reply} (show s name) (refused s UnknownName)
 show-unknown s name none = ap (show_ad s) none
+
+-- ---- queries
+
+-- an ad that was parsed, and one that has a fault
+pub query-parsed : (s : State) (outcome : Result Inline ParseFault) (ad : Ad) (rows : List HitRow) → IsAdAnswer outcome (Ok ad) → rows ≡ map (hit_row s.ads) (answers s.moment (ad_frames ad) s.ads) → ◌≡◌ {A = State × Reply} (query s outcome) (s, Hits rows)
+query-parsed s (Ok x) ad rows fits is =
+    ap (λ (frames : List Frame). (s, Hits (map (hit_row s.ads) (answers s.moment frames s.ads)))) (sym fits) ∙ ap (λ (l : List HitRow). (s, Hits l)) (sym is)
+query-parsed s (Err wrong) ad rows fits is = absurd fits
+
+pub query-faulty : (s : State) (outcome : Result Inline ParseFault) (fault : ParseFault) → IsAdAnswer outcome (Err fault) → is_fault_of_text fault ≡ true → ◌≡◌ {A = State × Reply} (query s outcome) (refused s (AdText fault))
+query-faulty s (Ok x) fault fits told = absurd (no_fault fault told fits)
+query-faulty s (Err wrong) fault (inl same) told = ap (λ (f : ParseFault). refused s (AdText f)) (sym same)
+query-faulty s (Err wrong) fault (inr none) told = absurd (no_fault fault told none)
+
+-- what a query may count
+pub undecided-parsed : (s : State) (outcome : Result Inline ParseFault) (ad : Ad) → IsAdAnswer outcome (Ok ad) → undecided_docks s outcome ≡ undecided_count (ad_frames ad) s.ads
+undecided-parsed s (Ok x) ad fits = ap (λ (frames : List Frame). undecided_count frames s.ads) (sym fits)
+undecided-parsed s (Err wrong) ad fits = absurd fits
+
+pub narrowest-parsed : (s : State) (outcome : Result Inline ParseFault) (ad : Ad) → IsAdAnswer outcome (Ok ad) → narrowest s outcome ≡ least_left s.ads (tests_of (ad_frames ad) 0 [])
+narrowest-parsed s (Ok x) ad fits = ap (λ (frames : List Frame). least_left s.ads (tests_of frames 0 [])) (sym fits)
+narrowest-parsed s (Err wrong) ad fits = absurd fits

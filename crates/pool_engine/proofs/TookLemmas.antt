@@ -1,5 +1,5 @@
 -- Commands that ran one after the other, and those at which running stopped.
-use Rattle.std.proofs.Common.{◌≡◌, ℕ, ◌+◌, ◌≤◌, List, [], ◌∷◌, ◌++◌, take, Result, Ok, Err, IfErr, refl, sym, ◌∙◌, ap, subst, arith, append_assoc}
+use Rattle.std.proofs.Common.{◌≡◌, ℕ, ◌+◌, ◌≤◌, List, [], ◌∷◌, ◌++◌, sum_by, take, Result, Ok, Err, IfErr, refl, sym, ◌∙◌, ap, subst, arith, append_assoc}
 use Rattle.std.proofs.lemmas.List.{append-nil}
 use Rattle.pool_io.specs.Flow.{Intake}
 use Rattle.pool_script.specs.declared.command.Command.{Command}
@@ -7,16 +7,20 @@ use Rattle.pool_replies.specs.declared.reply.Reply.{Reply}
 use Rattle.pool_replies.specs.Replies.{refusal_count, reply_text}
 use Rattle.pool_engine.specs.declared.run.RunEnd.{RunEnd}
 use Rattle.pool_engine.specs.declared.run.RunEnd.TheVariants.{Done, BadWords, ReadFault, WriteFault, TooLong, OutOfMemory}
-use Rattle.pool_engine.specs.Ends.{Broke, Effects, Wrote}
-use Rattle.pool_engine.specs.Events.{allowed_of, events_of, replies_text, state_after}
+use Rattle.pool_engine.specs.Ends.{Broke, Costs, Effects, Wrote}
+use Rattle.pool_engine.specs.Events.{Event, allowed_of, events_of, looks_of, replies_text, state_after}
 use Rattle.pool_engine.specs.Session.{Lacks, Stopped, Took}
 use Rattle.pool_engine.specs.State.{State}
-use Rattle.pool_engine.specs.Step.{allowance, step}
-use Rattle.pool_engine.proofs.EventLemmas.{allowed-append, refusals-append, replies-append, state_after-append}
+use Rattle.pool_engine.specs.Step.{allowance, looks, step}
+use Rattle.pool_engine.proofs.EventLemmas.{allowed-append, looks-append, sum-append, refusals-append, replies-append, state_after-append}
 use Rattle.pool_engine.proofs.WroteLemmas.{Broke-after, Wrote-append, Wrote-nil}
 
+-- nothing was counted
+pub Costs-none : (k : Effects) (events : List Event) → Costs k k events
+Costs-none k events = record { tops = omega arith; touch = omega arith }
+
 pub Took-nil : (s : State) (k : Effects) (n : ℕ) → Took s s k k [] n n
-Took-nil s k n = record { state = refl; wrote = Wrote-nil k.sink; counted = omega arith; cost = omega arith }
+Took-nil s k n = record { state = refl; wrote = Wrote-nil k.sink; counted = omega arith; cost = Costs-none k [] }
 
 -- the replies to commands behind others
 pub wrote_behind : (s t : State) (k m n : Intake) (a b : List Command) → t ≡ state_after s a → Wrote k m (replies_text (events_of s a)) → Wrote m n (replies_text (events_of t b)) → Wrote k n (replies_text (events_of s (a ++ b)))
@@ -33,14 +37,27 @@ broke_behind s t k m n a b cut is first second =
     let whole : Broke k n (replies_text (events_of s (a ++ b))) (reply_text (step (state_after at b) cut).1) = subst (λ (l : List ℕ). Broke k n l (reply_text (step (state_after at b) cut).1)) (sym (replies-append s a b)) both in
     subst (λ (x : State). Broke k n (replies_text (events_of s (a ++ b))) (reply_text (step x cut).1)) (sym (state_after-append s a b)) whole
 
--- the evaluations of commands behind others
-pub cost_behind : (s t : State) (x y z : ℕ) (a b : List Command) → t ≡ state_after s a → y ≤ x + allowed_of (events_of s a) → z ≤ y + allowed_of (events_of t b) → z ≤ x + allowed_of (events_of s (a ++ b))
-cost_behind s t x y z a b is first second = omega (arith, allowed-append s a b, ap (λ (u : State). allowed_of (events_of u b)) is)
+-- one command
+pub Costs-one : (s : State) (k m : Effects) (command : Command) → m.tops ≤ k.tops + allowance s command → m.touch ≤ k.touch + looks s command → Costs k m (events_of s (command ∷ []))
+Costs-one s k m command cost looking = record { tops = omega (arith, cost); touch = omega (arith, looking) }
 
--- the evaluations of some commands and the next, where more follow
-next-le : (s : State) (front others c : List Command) → allowed_of (events_of s (front ++ take 1 others)) ≤ allowed_of (events_of s (front ++ take 1 (others ++ c)))
-next-le s front [] c = omega (arith, allowed-append s front [], allowed-append s front (take 1 c))
-next-le s front (x ∷ others) c = omega (arith, allowed-append s front (x ∷ []), allowed-append s front (take 1 ((x ∷ others) ++ c)))
+-- commands behind others
+pub cost_behind : (s t : State) (k m n : Effects) (a b : List Command) → t ≡ state_after s a → Costs k m (events_of s a) → Costs m n (events_of t b) → Costs k n (events_of s (a ++ b))
+cost_behind s t k m n a b is first second = record {
+  tops = omega (arith, first.tops, second.tops, allowed-append s a b, ap (λ (u : State). allowed_of (events_of u b)) is);
+  touch = omega (arith, first.touch, second.touch, looks-append s a b, ap (λ (u : State). looks_of (events_of u b)) is);
+}
+
+-- what some commands and the next may count, where more follow
+next-le : (f : Event → ℕ) (s : State) (front others c : List Command) → sum_by f (events_of s (front ++ take 1 others)) ≤ sum_by f (events_of s (front ++ take 1 (others ++ c)))
+next-le f s front [] c = omega (arith, sum-append f s front [], sum-append f s front (take 1 c))
+next-le f s front (x ∷ others) c = omega (arith, sum-append f s front (x ∷ []), sum-append f s front (take 1 ((x ∷ others) ++ c)))
+
+Costs-next : (s : State) (k m : Effects) (front others c : List Command) → Costs k m (events_of s (front ++ take 1 others)) → Costs k m (events_of s (front ++ take 1 (others ++ c)))
+Costs-next s k m front others c costs = record {
+  tops = omega (arith, costs.tops, next-le (λ event. allowance event.before event.command) s front others c);
+  touch = omega (arith, costs.touch, next-le (λ event. looks event.before event.command) s front others c);
+}
 
 -- commands and then more commands
 pub Took-append : (s t u : State) (k m n : Effects) (a b : List Command) (p q r : ℕ) → Took s t k m a p q → Took t u m n b q r → Took s u k n (a ++ b) p r
@@ -50,7 +67,7 @@ Took-append s t u k m n a b p q r first second =
       state = here.state ∙ sym (state_after-append s a b);
       wrote = wrote_behind s (state_after s a) k.sink m.sink n.sink a b refl first.wrote here.wrote;
       counted = omega (arith, first.counted, here.counted, refusals-append s a b);
-      cost = cost_behind s (state_after s a) k.tops m.tops n.tops a b refl first.cost here.cost;
+      cost = cost_behind s (state_after s a) k m n a b refl first.cost here.cost;
     }
 
 -- a count goes on from any number
@@ -58,68 +75,61 @@ pub Took-from : (s t : State) (k m : Effects) (a : List Command) (p c : ℕ) →
 Took-from s t k m a p c took = record { state = took.state; wrote = took.wrote; counted = omega (arith, took.counted); cost = took.cost }
 
 -- a command whose reply was taken
-pub Took-one : (s t : State) (k m : Effects) (command : Command) (reply : Reply) (n : ℕ) → ◌≡◌ {A = State × Reply} (step s command) (t, reply) → Wrote k.sink m.sink (reply_text reply) → n ≡ refusal_count reply → m.tops ≤ k.tops + allowance s command → Took s t k m (command ∷ []) 0 n
-Took-one s t k m command reply n is wrote count cost =
+pub Took-one : (s t : State) (k m : Effects) (command : Command) (reply : Reply) (n : ℕ) → ◌≡◌ {A = State × Reply} (step s command) (t, reply) → Wrote k.sink m.sink (reply_text reply) → n ≡ refusal_count reply → m.tops ≤ k.tops + allowance s command → m.touch ≤ k.touch + looks s command → Took s t k m (command ∷ []) 0 n
+Took-one s t k m command reply n is wrote count cost looking =
     let text : reply_text reply ≡ reply_text (step s command).1 ++ [] = ap (λ (p : State × Reply). reply_text p.1) (sym is) ∙ sym (append-nil (reply_text (step s command).1)) in
     record {
       state = sym (ap (λ (p : State × Reply). p.0) is);
       wrote = subst (λ (l : List ℕ). Wrote k.sink m.sink l) text wrote;
       counted = omega (arith, count, ap (λ (p : State × Reply). refusal_count p.1) is);
-      cost = omega (arith, cost);
+      cost = Costs-one s k m command cost looking;
     }
 
 -- a command whose reply wasn't taken
-pub Stopped-one : (s t : State) (k m : Effects) (command : Command) (reply : Reply) (end : RunEnd) → ◌≡◌ {A = State × Reply} (step s command) (t, reply) → m.tops ≤ k.tops + allowance s command → Lacks k.sink m.sink (reply_text reply) end → Stopped s k m (command ∷ []) end
-Stopped-one s t k m command reply WriteFault is cost lacks = record {
+pub Stopped-one : (s t : State) (k m : Effects) (command : Command) (reply : Reply) (end : RunEnd) → ◌≡◌ {A = State × Reply} (step s command) (t, reply) → m.tops ≤ k.tops + allowance s command → m.touch ≤ k.touch + looks s command → Lacks k.sink m.sink (reply_text reply) end → Stopped s k m (command ∷ []) end
+Stopped-one s t k m command reply WriteFault is cost looking lacks = record {
   front = [];
   cut = command;
   others = [];
   split = refl;
   broke = subst (λ (l : List ℕ). Broke k.sink m.sink [] l) (ap (λ (p : State × Reply). reply_text p.1) (sym is)) lacks;
-  cost = omega (arith, cost);
+  cost = Costs-one s k m command cost looking;
 }
-Stopped-one s t k m command reply OutOfMemory is cost lacks = record {
+Stopped-one s t k m command reply OutOfMemory is cost looking lacks = record {
   front = [];
   others = command ∷ [];
   split = refl;
   wrote = subst (λ (x : Intake). Wrote k.sink x []) (sym lacks) (Wrote-nil k.sink);
-  cost = omega (arith, cost);
+  cost = Costs-one s k m command cost looking;
 }
-Stopped-one s t k m command reply (Done refused) is cost lacks = absurd lacks
-Stopped-one s t k m command reply BadWords is cost lacks = absurd lacks
-Stopped-one s t k m command reply ReadFault is cost lacks = absurd lacks
-Stopped-one s t k m command reply TooLong is cost lacks = absurd lacks
+Stopped-one s t k m command reply (Done refused) is cost looking lacks = absurd lacks
+Stopped-one s t k m command reply BadWords is cost looking lacks = absurd lacks
+Stopped-one s t k m command reply ReadFault is cost looking lacks = absurd lacks
+Stopped-one s t k m command reply TooLong is cost looking lacks = absurd lacks
 
 -- a command whose reply was offered
-pub Stopped-offered : (s t : State) (k m : Effects) (command : Command) (reply : Reply) (result : Result ℕ RunEnd) → ◌≡◌ {A = State × Reply} (step s command) (t, reply) → m.tops ≤ k.tops + allowance s command → IfErr result (Lacks k.sink m.sink (reply_text reply)) → IfErr result (Stopped s k m (command ∷ []))
-Stopped-offered s t k m command reply (Ok n) is cost lacks = tt
-Stopped-offered s t k m command reply (Err end) is cost lacks = Stopped-one s t k m command reply end is cost lacks
+pub Stopped-offered : (s t : State) (k m : Effects) (command : Command) (reply : Reply) (result : Result ℕ RunEnd) → ◌≡◌ {A = State × Reply} (step s command) (t, reply) → m.tops ≤ k.tops + allowance s command → m.touch ≤ k.touch + looks s command → IfErr result (Lacks k.sink m.sink (reply_text reply)) → IfErr result (Stopped s k m (command ∷ []))
+Stopped-offered s t k m command reply (Ok n) is cost looking lacks = tt
+Stopped-offered s t k m command reply (Err end) is cost looking lacks = Stopped-one s t k m command reply end is cost looking lacks
 
 -- memory was wanting in the step
-pub Stopped-step : (s : State) (k m : Effects) (command : Command) → m.sink ≡ k.sink → m.tops ≤ k.tops + allowance s command → Stopped s k m (command ∷ []) OutOfMemory
-Stopped-step s k m command same cost = record {
+pub Stopped-step : (s : State) (k m : Effects) (command : Command) → m.sink ≡ k.sink → m.tops ≤ k.tops + allowance s command → m.touch ≤ k.touch + looks s command → Stopped s k m (command ∷ []) OutOfMemory
+Stopped-step s k m command same cost looking = record {
   front = [];
   others = command ∷ [];
   split = refl;
   wrote = subst (λ (x : Intake). Wrote k.sink x []) (sym same) (Wrote-nil k.sink);
-  cost = omega (arith, cost);
+  cost = Costs-one s k m command cost looking;
 }
 
 -- memory was wanting before any of the commands
 pub Stopped-none : (s : State) (k : Effects) (commands : List Command) → Stopped s k k commands OutOfMemory
-Stopped-none s k commands = record { front = []; others = commands; split = refl; wrote = Wrote-nil k.sink; cost = omega arith }
+Stopped-none s k commands = record { front = []; others = commands; split = refl; wrote = Wrote-nil k.sink; cost = Costs-none k _ }
 
--- the evaluations up to the command whose reply wasn't taken, behind other commands
-pub cost_cut : (s t : State) (x y z : ℕ) (a front : List Command) (cut : Command) → t ≡ state_after s a → y ≤ x + allowed_of (events_of s a) → z ≤ y + allowed_of (events_of t (front ++ cut ∷ [])) → z ≤ x + allowed_of (events_of s ((a ++ front) ++ cut ∷ []))
-cost_cut s t x y z a front cut is first second =
-    let both = cost_behind s t x y z a (front ++ cut ∷ []) is first second in
-    omega (arith, both, ap (λ (l : List Command). allowed_of (events_of s l)) (append_assoc a front (cut ∷ [])))
-
--- the evaluations up to the next command, behind other commands
-pub cost_next : (s t : State) (x y z : ℕ) (a front others : List Command) → t ≡ state_after s a → y ≤ x + allowed_of (events_of s a) → z ≤ y + allowed_of (events_of t (front ++ take 1 others)) → z ≤ x + allowed_of (events_of s ((a ++ front) ++ take 1 others))
-cost_next s t x y z a front others is first second =
-    let both = cost_behind s t x y z a (front ++ take 1 others) is first second in
-    omega (arith, both, ap (λ (l : List Command). allowed_of (events_of s l)) (append_assoc a front (take 1 others)))
+-- what the commands up to others count, behind more commands
+pub cost_to : (s t : State) (k m n : Effects) (a front others : List Command) → t ≡ state_after s a → Costs k m (events_of s a) → Costs m n (events_of t (front ++ others)) → Costs k n (events_of s ((a ++ front) ++ others))
+cost_to s t k m n a front others is first second =
+    subst (λ (l : List Command). Costs k n (events_of s l)) (sym (append_assoc a front others)) (cost_behind s t k m n a (front ++ others) is first second)
 
 split_within : (a b c front others : List Command) → b ≡ front ++ others → a ++ (b ++ c) ≡ (a ++ front) ++ (others ++ c)
 split_within a b c front others is =
@@ -133,14 +143,14 @@ Stopped-within s t k m n a b c p q WriteFault first stopped = record {
   others = stopped.others ++ c;
   split = split_within a b c stopped.front (stopped.cut ∷ stopped.others) stopped.split;
   broke = broke_behind s t k.sink m.sink n.sink a stopped.front stopped.cut first.state first.wrote stopped.broke;
-  cost = cost_cut s t k.tops m.tops n.tops a stopped.front stopped.cut first.state first.cost stopped.cost;
+  cost = cost_to s t k m n a stopped.front (stopped.cut ∷ []) first.state first.cost stopped.cost;
 }
 Stopped-within s t k m n a b c p q OutOfMemory first stopped = record {
   front = a ++ stopped.front;
   others = stopped.others ++ c;
   split = split_within a b c stopped.front stopped.others stopped.split;
   wrote = wrote_behind s t k.sink m.sink n.sink a stopped.front first.state first.wrote stopped.wrote;
-  cost = cost_next s t k.tops m.tops n.tops a stopped.front (stopped.others ++ c) first.state first.cost (omega (arith, stopped.cost, next-le t stopped.front stopped.others c));
+  cost = cost_to s t k m n a stopped.front (take 1 (stopped.others ++ c)) first.state first.cost (Costs-next t m n stopped.front stopped.others c stopped.cost);
 }
 Stopped-within s t k m n a b c p q (Done refused) first stopped = absurd stopped
 Stopped-within s t k m n a b c p q BadWords first stopped = absurd stopped

@@ -7,7 +7,7 @@ use Rattle.pool_script.specs.declared.command.Command.{Command}
 use Rattle.pool_replies.specs.Replies.{reply_text}
 use Rattle.pool_engine.specs.declared.run.RunEnd.{RunEnd}
 use Rattle.pool_engine.specs.declared.run.RunEnd.TheVariants.{Done, BadWords, ReadFault, WriteFault, TooLong, OutOfMemory}
-use Rattle.pool_engine.specs.Events.{allowed_of, events_of, refusals_of, replies_text, state_after}
+use Rattle.pool_engine.specs.Events.{Event, allowed_of, events_of, looks_of, refusals_of, replies_text, state_after}
 use Rattle.pool_engine.specs.Limits.{input_limit}
 use Rattle.pool_engine.specs.State.{opening}
 use Rattle.pool_engine.specs.Step.{step}
@@ -42,13 +42,19 @@ pub record Broke (k m : Intake) (text last : List ℕ) : Type 0 where
   pub rose : Rose k.faults m.faults
   pub unsure : k.sure < length text + length last
 
--- what a run changes besides the source and the pool: the sink, and the count of whole evaluations
+-- what a run changes besides the source and the pool: the sink, and the counts of whole evaluations and of looks at ads
 pub record Effects : Type 0 where
   pub sink : Intake
   pub tops : ℕ
+  pub touch : ℕ
 
-abbrev pub effects : Intake → ℕ → Effects
-effects sink tops = record { sink = sink; tops = tops }
+abbrev pub effects : Intake → ℕ → ℕ → Effects
+effects sink tops touch = record { sink = sink; tops = tops; touch = touch }
+
+-- no more was counted than these commands may count
+pub record Costs (k m : Effects) (events : List Event) : Type 0 where
+  pub tops : m.tops ≤ k.tops + allowed_of events
+  pub touch : m.touch ≤ k.touch + looks_of events
 
 -- the bytes that were read before the last read
 abbrev pub before_last : Supply → List ℕ → List ℕ
@@ -64,7 +70,7 @@ pub record IsDone (s t : Supply) (k m : Effects) (refused : ℕ) : Type 0 where
   pub at_end : IsAtEnd t.left
   pub wrote : Wrote k.sink m.sink (replies_text (events_of opening (whole_commands bytes)))
   pub counted : refused ≡ refusals_of (events_of opening (whole_commands bytes))
-  pub cost : m.tops ≤ k.tops + allowed_of (events_of opening (whole_commands bytes))
+  pub cost : Costs k m (events_of opening (whole_commands bytes))
 
 -- the source failed: the replies to the commands that had ended were taken
 pub record IsReadFault (s t : Supply) (k m : Effects) : Type 0 where
@@ -72,7 +78,7 @@ pub record IsReadFault (s t : Supply) (k m : Effects) : Type 0 where
   pub within : length bytes ≤ input_limit
   pub lost : Lost s t bytes
   pub wrote : Wrote k.sink m.sink (replies_text (events_of opening (ended_commands bytes)))
-  pub cost : m.tops ≤ k.tops + allowed_of (events_of opening (ended_commands bytes))
+  pub cost : Costs k m (events_of opening (ended_commands bytes))
 
 -- the commands to run after these bytes: those that have ended, or all of them where nothing is left to read
 abbrev pub AreDue : Supply → List ℕ → List Command → Type 0
@@ -90,7 +96,13 @@ pub record IsWriteFault (s t : Supply) (k m : Effects) : Type 0 where
   pub due : AreDue t bytes (front ++ cut ∷ others)
   pub in_time : length (ended_commands (before_last t bytes)) ≤ length front
   pub broke : Broke k.sink m.sink (replies_text (events_of opening front)) (reply_text (step (state_after opening front) cut).1)
-  pub cost : m.tops ≤ k.tops + allowed_of (events_of opening (front ++ cut ∷ []))
+  pub cost : Costs k m (events_of opening (front ++ cut ∷ []))
+
+-- the first reply was offered alone and whole, and no command had ended before the last read
+pub record AnswersFirst (t : Supply) (m : Effects) (bytes : List ℕ) (front : List Command) (cut : Command) : Type 0 where
+  pub first : front ≡ []
+  pub alone : m.sink.offered ≡ length (reply_text (step opening cut).1)
+  pub in_time : ended_commands (before_last t bytes) ≡ []
 
 -- one byte past the limit was read: the replies to the commands that had ended before it were taken
 pub record IsTooLong (s t : Supply) (k m : Effects) : Type 0 where
@@ -99,7 +111,7 @@ pub record IsTooLong (s t : Supply) (k m : Effects) : Type 0 where
   pub full : length bytes ≡ input_limit
   pub gave : Gave s t (bytes ++ last ∷ [])
   pub wrote : Wrote k.sink m.sink (replies_text (events_of opening (ended_commands bytes)))
-  pub cost : m.tops ≤ k.tops + allowed_of (events_of opening (ended_commands bytes))
+  pub cost : Costs k m (events_of opening (ended_commands bytes))
 
 -- memory was wanting: the replies to the first of the commands that were due were taken, each whole, and no fewer than had
 -- ended before the last read; at most the next command may have made evaluations besides
@@ -112,7 +124,7 @@ pub record IsOutOfMemory (s t : Supply) (k m : Effects) : Type 0 where
   pub due : AreDue t bytes (front ++ others)
   pub in_time : length (ended_commands (before_last t bytes)) ≤ length front
   pub wrote : Wrote k.sink m.sink (replies_text (events_of opening front))
-  pub cost : m.tops ≤ k.tops + allowed_of (events_of opening (front ++ take 1 others))
+  pub cost : Costs k m (events_of opening (front ++ take 1 others))
 
 -- a run ended so, from these states of source and sink to those
 abbrev pub Ends : Supply → Supply → Effects → Effects → RunEnd → Type 0

@@ -5,7 +5,7 @@ use Rattle.pool_script.specs.declared.command.Command.{Command}
 use Rattle.pool_replies.specs.declared.reply.Reply.{Reply}
 use Rattle.pool_replies.specs.Replies.{refusal_count, reply_text}
 use Rattle.pool_engine.specs.State.{State}
-use Rattle.pool_engine.specs.Step.{allowance, step}
+use Rattle.pool_engine.specs.Step.{allowance, looks, step}
 
 -- a command that ran: the state before it, the command, the state behind it, and the reply
 pub record Event : Type 0 where
@@ -40,3 +40,7 @@ refusals_of (event ∷ events) = refusal_count event.reply + refusals_of events
 -- how many whole evaluations the commands may have made
 abbrev pub allowed_of : List Event → ℕ
 allowed_of events = sum_by (λ event. allowance event.before event.command) events
+
+-- how many ads of the store the commands may have looked into
+abbrev pub looks_of : List Event → ℕ
+looks_of events = sum_by (λ event. looks event.before event.command) events

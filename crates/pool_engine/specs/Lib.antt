@@ -1,7 +1,9 @@
 pub mod Ends
 pub mod Events
+pub mod Indexed
 pub mod Limits
 pub mod Pool
 pub mod Session
 pub mod State
 pub mod Step
+pub mod Stocks

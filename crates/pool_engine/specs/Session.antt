@@ -1,12 +1,12 @@
 -- What running some commands does to a pool and to a sink.
-use Rattle.std.specs.Prelude.{◌≡◌, ℕ, ◌+◌, ◌≤◌, List, [], ◌∷◌, ◌++◌, take}
+use Rattle.std.specs.Prelude.{◌≡◌, ℕ, ◌+◌, List, [], ◌∷◌, ◌++◌, take}
 use Rattle.pool_io.specs.Flow.{Intake}
 use Rattle.pool_script.specs.declared.command.Command.{Command}
 use Rattle.pool_engine.specs.declared.run.RunEnd.{RunEnd}
 use Rattle.pool_engine.specs.declared.run.RunEnd.TheVariants.{WriteFault, OutOfMemory}
 use Rattle.pool_replies.specs.Replies.{reply_text}
-use Rattle.pool_engine.specs.Ends.{Broke, Effects, Wrote}
-use Rattle.pool_engine.specs.Events.{allowed_of, events_of, refusals_of, replies_text, state_after}
+use Rattle.pool_engine.specs.Ends.{Broke, Costs, Effects, Wrote}
+use Rattle.pool_engine.specs.Events.{events_of, refusals_of, replies_text, state_after}
 use Rattle.pool_engine.specs.State.{State}
 use Rattle.pool_engine.specs.Step.{step}
 
@@ -15,7 +15,7 @@ pub record Took (s t : State) (k m : Effects) (commands : List Command) (before 
   pub state : t ≡ state_after s commands
   pub wrote : Wrote k.sink m.sink (replies_text (events_of s commands))
   pub counted : after ≡ before + refusals_of (events_of s commands)
-  pub cost : m.tops ≤ k.tops + allowed_of (events_of s commands)
+  pub cost : Costs k m (events_of s commands)
 
 -- the replies to the first commands were taken, and that to the next one wasn't taken whole
 pub record Broken (s : State) (k m : Effects) (commands : List Command) : Type 0 where
@@ -24,7 +24,7 @@ pub record Broken (s : State) (k m : Effects) (commands : List Command) : Type 0
   pub others : List Command
   pub split : commands ≡ front ++ cut ∷ others
   pub broke : Broke k.sink m.sink (replies_text (events_of s front)) (reply_text (step (state_after s front) cut).1)
-  pub cost : m.tops ≤ k.tops + allowed_of (events_of s (front ++ cut ∷ []))
+  pub cost : Costs k m (events_of s (front ++ cut ∷ []))
 
 -- the replies to the first commands were taken, each whole
 pub record Partly (s : State) (k m : Effects) (commands : List Command) : Type 0 where
@@ -32,7 +32,7 @@ pub record Partly (s : State) (k m : Effects) (commands : List Command) : Type 0
   pub others : List Command
   pub split : commands ≡ front ++ others
   pub wrote : Wrote k.sink m.sink (replies_text (events_of s front))
-  pub cost : m.tops ≤ k.tops + allowed_of (events_of s (front ++ take 1 others))
+  pub cost : Costs k m (events_of s (front ++ take 1 others))
 
 -- why running stopped, and what was taken then
 abbrev pub Stopped : State → Effects → Effects → List Command → RunEnd → Type 0

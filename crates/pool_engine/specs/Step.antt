@@ -1,5 +1,6 @@
 -- What a command makes of the state, and the reply to it.
-use Rattle.std.specs.Prelude.{ℕ, ◌-◌, List, [], ◌∷◌, length, filter, find, map, nat_lt, Option, None, Some, Result, Ok, Err, if◌then◌else◌}
+use Rattle.std.specs.Prelude.{ℕ, ◌-◌, ◌*◌, List, [], ◌∷◌, length, filter, find, map, nat_lt, slice_get, Option, None, Some, Result, Ok, Err, if◌then◌else◌}
+use Rattle.std.specs.Option.{option_map_or}
 use Rattle.ad_tree.specs.Frames.{Frame}
 use Rattle.ad_tree.specs.Inline.{Inline, ad_of, phrase_of, phrase_tree}
 use Rattle.ad_tree.specs.Tree.{Tree}
@@ -8,6 +9,10 @@ use Rattle.ad_parser.proofs.Outcomes.{ad_outcome, expr_outcome}
 use Rattle.pool_text.specs.declared.language.AdPlace.{AdPlace}
 use Rattle.eval_scope.specs.World.{PlainWorld}
 use Rattle.ad_eval.specs.Value.{evaluation}
+use Rattle.bilateral_match.specs.Answers.{answers}
+use Rattle.bilateral_match.specs.Counts.{least_left, undecided_count}
+use Rattle.bilateral_match.specs.declared.hit.Match.{Match}
+use Rattle.conjunct_plan.specs.Tests.{tests_of}
 use Rattle.ad_printer.specs.Values.{printed_frame, printed_value}
 use Rattle.ad_store.specs.Stock.{Advert, has, is_live, is_named, lack, placed, without}
 use Rattle.ad_store.specs.declared.answers.PutFault.{PutFault}
@@ -21,6 +26,7 @@ use Rattle.pool_replies.specs.declared.refusal.Room.TheVariants as room
 use Rattle.pool_replies.specs.declared.reply.Reply.{Reply}
 use Rattle.pool_replies.specs.declared.reply.Reply.TheVariants as reply
 use Rattle.pool_replies.specs.declared.rows.AdRow.{AdRow}
+use Rattle.pool_replies.specs.declared.rows.HitRow.{HitRow}
 use Rattle.pool_engine.specs.State.{State}
 
 -- a refused command changes nothing
@@ -107,6 +113,29 @@ abbrev pub eval_in : State → List ℕ → Result Inline ParseFault → State �
 eval_in s name (Err fault) = refused s (why.AdText fault)
 eval_in s name (Ok x) = eval_beside s (phrase_of x) (phrase_tree x) (ad_named name s.ads)
 
+-- ---- queries
+
+-- the row of a match
+abbrev pub hit_row : List Advert → Match → HitRow
+hit_row ads m = record { name = option_map_or (λ advert. advert.name) (slice_get ads m.place) []; rank = m.rank }
+
+-- `query` and a block, by what its text is
+abbrev pub query : State → Result Inline ParseFault → State × Reply
+query s (Err fault) = refused s (why.AdText fault)
+query s (Ok x) = (s, reply.Hits (map (hit_row s.ads) (answers s.moment (ad_of x) s.ads)))
+
+-- how many docks a query meets that literal attributes leave undecided
+abbrev pub undecided_docks : State → Result Inline ParseFault → ℕ
+undecided_docks s (Err fault) = 0
+undecided_docks s (Ok x) = undecided_count (ad_of x) s.ads
+
+-- how many ads the narrowest test of a query leaves
+abbrev pub narrowest : State → Result Inline ParseFault → ℕ
+narrowest s (Err fault) = 0
+narrowest s (Ok x) = least_left s.ads (tests_of (ad_of x) 0 [])
+
+-- ---- one step
+
 -- the state behind a command, and the reply to it
 unfoldable pub step : State → Command → State × Reply
 step s (command.Clock n) = clock s n
@@ -116,17 +145,27 @@ step s (command.Show name) = show s name
 step s command.List = list s
 step s (command.Eval expr) = eval s (expr_outcome expr)
 step s (command.EvalIn name expr) = eval_in s name (expr_outcome expr)
+step s (command.Query block) = query s (ad_outcome block)
 step s (command.Bad number) = refused s (why.Line number)
 step s other = refused s why.NotBuilt
+
+-- how many docks a command meets in a state that literal attributes leave undecided
+unfoldable pub undecided : State → Command → ℕ
+undecided s (command.Query block) = undecided_docks s (ad_outcome block)
+undecided s other = 0
 
 -- how many whole evaluations a command may make in a state
 unfoldable pub allowance : State → Command → ℕ
 allowance s (command.Eval expr) = 1
 allowance s (command.EvalIn name expr) = 1
-allowance s other = 0
+allowance s other = 5 * undecided s other
 
--- how many ads of the store a command may look into
-unfoldable pub looks : Command → ℕ
-looks (command.Show name) = 1
-looks (command.EvalIn name expr) = 1
-looks other = 0
+-- how many ads of the store a command may look into in a state
+unfoldable pub looks : State → Command → ℕ
+looks s (command.Clock n) = length s.ads - length (live_ads n s.ads)
+looks s (command.Advertise name lifetime block) = 2
+looks s (command.Withdraw name) = 1
+looks s (command.Show name) = 1
+looks s (command.EvalIn name expr) = 1
+looks s (command.Query block) = narrowest s (ad_outcome block)
+looks s other = 0

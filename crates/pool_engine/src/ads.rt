@@ -1,12 +1,14 @@
 // The commands on the ads of the pool.
-ghost use Rattle.std.specs.Prelude.{◌≡◌, ◌+◌, ◌-◌, ◌<◌, ◌≤◌, ℕ, length, map, option_map, slice_get, Some, Contains, IfOk, IsTrue, OnOk};
+ghost use Rattle.std.specs.Prelude.{◌≡◌, ◌+◌, ◌-◌, ◌<◌, ◌≤◌, ℕ, length, map, option_map, slice_get, Some, Contains, IfOk, IsTrue, OnErr, OnOk};
 ghost use Rattle.ad_parser.proofs.Outcomes.{ad_outcome};
 ghost use Rattle.ad_store.specs.Stock.{first_expired};
 ghost use Rattle.ad_store.specs.Store.{stock_of};
 ghost use Rattle.pool_script.specs.Form.{is_block_text};
 ghost use Rattle.pool_replies.specs.Replies.{is_printable};
+ghost use Rattle.pool_engine.specs.Indexed.{ads_of};
 ghost use Rattle.pool_engine.specs.Step as steps;
 
+use crate::indexed::IndexedStore;
 use crate::pool::told;
 use ad_parser::parse_ad;
 use ad_printer::print_ad;
@@ -17,28 +19,37 @@ use pool_text::{OutOfMemory, Text};
 use std::alloc::Global;
 use std::sync::ledger::Ledger;
 
-/// `advertise`: the ad of the block is put under the name, born at the moment.
+/// `advertise`: the ad of the block is put under the name, born at the moment. It counts two at most in `touch`.
 #[tactic(auto, unfolding(pool_replies::specs::Replies::is_printable, pool_replies::specs::Refusals::is_printable_refusal))]
-pub(crate) fn advertise(
+pub(crate) fn advertise<T: Ledger>(
     alloc: Global,
-    store: &mut Store,
+    ads: &mut IndexedStore,
     moment: u64,
     name: &Text,
     lifetime: u64,
     block: &[u8],
+    touch: &mut Steps<T>,
 ) -> Result<Reply, OutOfMemory>
     requires { IsTrue (is_block_text block.now) }
     ensures step { IfOk result (λ reply.
-        steps.advertise (record { moment = moment; ads = (stock_of store.old).ads }) name.now lifetime (length block.now) (ad_outcome block.now)
-        ≡ (record { moment = moment; ads = (stock_of store.new).ads }, reply)) }
+        steps.advertise (record { moment = moment; ads = ads_of ads.old }) name.now lifetime (length block.now) (ad_outcome block.now)
+        ≡ (record { moment = moment; ads = ads_of ads.new }, reply)) }
     ensures printable { IfOk result (λ reply. IsTrue (is_printable reply)) }
+    ensures looks { touch.new ≤ touch.old + 2 }
 {
     let ad = match parse_ad(alloc, block) {
         Ok(ad) => ad,
         Err(fault) => return Ok(Reply::Refused(Refusal::AdText(told(fault)?))),
     };
     let named = name.copy()?;
-    match store.put(name.bytes(), moment, lifetime, block.len() as u64, ad) {
+    match ads.put(
+        name.bytes(),
+        moment,
+        lifetime,
+        block.len() as u64,
+        ad,
+        touch,
+    ) {
         Ok(Put::Added(_)) => Ok(Reply::Advertised(named)),
         Ok(Put::Replaced(_)) => Ok(Reply::Replaced(named)),
         Err(PutFault::Full) => Ok(Reply::Refused(Refusal::Full(Room::Ads))),
@@ -47,43 +58,61 @@ pub(crate) fn advertise(
     }
 }
 
-/// `withdraw`: the ad of the name is taken out.
+/// `withdraw`: the ad of the name is taken out. It counts one at most in `touch`.
 #[tactic(auto, unfolding(pool_replies::specs::Replies::is_printable, pool_replies::specs::Refusals::is_printable_refusal))]
-pub(crate) fn withdraw(store: &mut Store, moment: u64, name: &Text) -> Result<Reply, OutOfMemory>
+pub(crate) fn withdraw<T: Ledger>(
+    ads: &mut IndexedStore,
+    moment: u64,
+    name: &Text,
+    touch: &mut Steps<T>,
+) -> Result<Reply, OutOfMemory>
     ensures step { IfOk result (λ reply.
-        steps.withdraw (record { moment = moment; ads = (stock_of store.old).ads }) name.now
-        ≡ (record { moment = moment; ads = (stock_of store.new).ads }, reply)) }
+        steps.withdraw (record { moment = moment; ads = ads_of ads.old }) name.now
+        ≡ (record { moment = moment; ads = ads_of ads.new }, reply)) }
     ensures printable { IfOk result (λ reply. IsTrue (is_printable reply)) }
+    ensures looks { touch.new ≤ touch.old + 1 }
 {
     let named = name.copy()?;
-    match store.withdraw(name.bytes()) {
-        Ok(_) => Ok(Reply::Withdrawn(named)),
+    match ads.withdraw(name.bytes(), touch) {
+        Ok(()) => Ok(Reply::Withdrawn(named)),
         Err(NoName) => Ok(Reply::Refused(Refusal::UnknownName)),
     }
 }
 
-/// The ads that are no longer live leave. Answers how many they were.
-pub(crate) fn expire(store: &mut Store, now: u64) -> Result<u64, OutOfMemory>
-    ensures ads { OnOk result ((stock_of store.new).ads ≡ steps.live_ads now (stock_of store.old).ads) }
-    ensures count { IfOk result (λ n. n ≡ length (stock_of store.old).ads - length (steps.live_ads now (stock_of store.old).ads)) }
+/// The ads that are no longer live leave. Answers how many they were, and counts one at most in `touch` for each.
+pub(crate) fn expire<T: Ledger>(
+    ads: &mut IndexedStore,
+    now: u64,
+    touch: &mut Steps<T>,
+) -> Result<u64, OutOfMemory>
+    ensures ads { OnOk result (ads_of ads.new ≡ steps.live_ads now (ads_of ads.old)) }
+    ensures count { IfOk result (λ n. n ≡ length (ads_of ads.old) - length (steps.live_ads now (ads_of ads.old))) }
+    ensures looks { touch.new ≤ touch.old + (length (ads_of ads.old) - length (steps.live_ads now (ads_of ads.old))) }
 {
-    let before = store.len();
-    while let Some(slot) = store.next_expired(now) {
-        take_out(store, now, slot)?;
+    let before = ads.store.len();
+    while let Some(slot) = ads.store.next_expired(now) {
+        take_out(ads, now, slot, touch)?;
     }
-    Ok((before - store.len()) as u64)
+    Ok((before - ads.store.len()) as u64)
 }
 
 /// Takes out an ad that is no longer live.
-fn take_out(store: &mut Store, now: u64, slot: usize) -> Result<(), OutOfMemory>
-    requires first { first_expired now (stock_of store.old) ≡ Some slot }
-    requires held { Contains (stock_of store.old).slots slot }
-    ensures live { OnOk result (steps.live_ads now (stock_of store.new).ads ≡ steps.live_ads now (stock_of store.old).ads) }
-    ensures fewer { OnOk result (length (stock_of store.new).ads < length (stock_of store.old).ads) }
+fn take_out<T: Ledger>(
+    ads: &mut IndexedStore,
+    now: u64,
+    slot: usize,
+    touch: &mut Steps<T>,
+) -> Result<(), OutOfMemory>
+    requires first { first_expired now (stock_of ads.old.store) ≡ Some slot }
+    requires held { Contains (stock_of ads.old.store).slots slot }
+    ensures live { OnOk result (steps.live_ads now (ads_of ads.new) ≡ steps.live_ads now (ads_of ads.old)) }
+    ensures fewer { OnOk result (length (ads_of ads.new) < length (ads_of ads.old)) }
+    ensures looks { OnOk result (touch.new ≤ touch.old + 1) }
+    ensures none { OnErr result (touch.new ≡ touch.old) }
 {
-    store.names_are_apart();
-    let name = store.name(slot).copy()?;
-    let _ = store.withdraw(name.bytes());
+    ads.store.names_are_apart();
+    let name = ads.store.name(slot).copy()?;
+    let _ = ads.withdraw(name.bytes(), touch);
     Ok(())
 }
 

@@ -3,11 +3,15 @@
 
 mod ads;
 mod eval;
+mod indexed;
+mod laws;
 mod pool;
+mod query;
 mod run;
 mod session;
 #[cfg(test)]
 mod tests;
 
+pub use laws::the_first_reply_is_offered_at_once;
 pub use pool::Pool;
 pub use run::{RunEnd, run_pool};

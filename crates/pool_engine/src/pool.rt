@@ -8,8 +8,9 @@ ghost use Rattle.pool_engine.specs.Step as steps;
 
 use crate::ads::{advertise, expire, rows, show, withdraw};
 use crate::eval::{eval, eval_in};
+use crate::indexed::IndexedStore;
+use crate::query::query;
 use ad_parser::ParseFault;
-use ad_store::Store;
 use pool_replies::{Refusal, Reply};
 use pool_script::Command;
 use pool_steps::Steps;
@@ -22,7 +23,7 @@ use std::sync::ledger::Ledger;
 pub struct Pool {
     alloc: Global,
     moment: u64,
-    store: Store,
+    ads: IndexedStore,
     spent: bool,
 }
 
@@ -38,13 +39,13 @@ impl Pool {
         Pool {
             alloc,
             moment: 0,
-            store: Store::new(alloc),
+            ads: IndexedStore::new(alloc),
             spent: false,
         }
     }
 
-    /// Runs a command. It counts in `tops` the whole evaluations, one at most for `eval` and `evalin` and none for any other
-    /// command, in `entry` the attributes that they enter, and in `touch` the ads of the store that are looked into.
+    /// Runs a command. It counts in `tops` the whole evaluations, one at most for `eval` and `evalin`, and for any other command
+    /// five at most for each dock that it meets and that literal attributes leave undecided, in `entry` the attributes that they enter, and in `touch` the ads of the store that are looked into.
     #[tactic(auto, unfolding(crate::specs::Pool::state_of, crate::specs::Pool::is_spent))]
     pub fn step<F: Ledger, E: Ledger, T: Ledger>(
         &mut self,
@@ -59,7 +60,7 @@ impl Pool {
         ensures fresh { OnOk result (is_spent self.new ≡ false) }
         ensures memory { OnErr result (is_spent self.new ≡ true) }
         ensures cost { tops.new ≤ tops.old + steps.allowance (state_of self.old) command.now }
-        ensures looks { touch.new ≤ touch.old + steps.looks command.now }
+        ensures looks { touch.new ≤ touch.old + steps.looks (state_of self.old) command.now }
         ensures spent { is_spent self.old ≡ true → IsErr result × (self.new ≡ self.old) }
     {
         if self.spent {
@@ -70,7 +71,7 @@ impl Pool {
         answered
     }
 
-    #[tactic(auto, unfolding(crate::specs::Pool::state_of, crate::specs::Step::step, crate::specs::Step::allowance, crate::specs::Step::looks, pool_script::specs::Form::is_within_form, pool_replies::specs::Replies::is_printable, pool_replies::specs::Refusals::is_printable_refusal))]
+    #[tactic(auto, unfolding(crate::specs::Pool::state_of, crate::specs::Step::step, crate::specs::Step::allowance, crate::specs::Step::undecided, crate::specs::Step::looks, pool_script::specs::Form::is_within_form, pool_replies::specs::Replies::is_printable, pool_replies::specs::Refusals::is_printable_refusal))]
     fn answer<F: Ledger, E: Ledger, T: Ledger>(
         &mut self,
         command: &Command,
@@ -82,28 +83,35 @@ impl Pool {
         ensures step { IfOk result (λ reply. steps.step (state_of self.old) command.now ≡ (state_of self.new, reply)) }
         ensures printable { IfOk result (λ reply. IsTrue (is_printable reply)) }
         ensures cost { tops.new ≤ tops.old + steps.allowance (state_of self.old) command.now }
-        ensures looks { touch.new ≤ touch.old + steps.looks command.now }
+        ensures looks { touch.new ≤ touch.old + steps.looks (state_of self.old) command.now }
     {
         match command {
-            Command::Clock(n) => self.clock(*n),
+            Command::Clock(n) => self.clock(*n, touch),
             Command::Advertise {
                 name,
                 lifetime,
                 block,
             } => advertise(
                 self.alloc,
-                &mut self.store,
+                &mut self.ads,
                 self.moment,
                 name,
                 *lifetime,
                 block.bytes(),
+                touch,
             ),
-            Command::Withdraw(name) => withdraw(&mut self.store, self.moment, name),
-            Command::Show(name) => show(self.alloc, &self.store, self.moment, name.bytes(), touch),
-            Command::List => Ok(Reply::Ads(rows(self.alloc, &self.store)?)),
+            Command::Withdraw(name) => withdraw(&mut self.ads, self.moment, name, touch),
+            Command::Show(name) => show(
+                self.alloc,
+                &self.ads.store,
+                self.moment,
+                name.bytes(),
+                touch,
+            ),
+            Command::List => Ok(Reply::Ads(rows(self.alloc, &self.ads.store)?)),
             Command::Eval(expr) => eval(
                 self.alloc,
-                &self.store,
+                &self.ads.store,
                 self.moment,
                 expr.bytes(),
                 tops,
@@ -111,10 +119,19 @@ impl Pool {
             ),
             Command::EvalIn { name, expr } => eval_in(
                 self.alloc,
-                &self.store,
+                &self.ads.store,
                 self.moment,
                 name.bytes(),
                 expr.bytes(),
+                tops,
+                entry,
+                touch,
+            ),
+            Command::Query(block) => query(
+                self.alloc,
+                &self.ads,
+                self.moment,
+                block.bytes(),
                 tops,
                 entry,
                 touch,
@@ -124,15 +141,16 @@ impl Pool {
         }
     }
 
-    #[tactic(auto, unfolding(crate::specs::Pool::state_of, pool_replies::specs::Replies::is_printable, pool_replies::specs::Refusals::is_printable_refusal))]
-    fn clock(&mut self, n: u64) -> Result<Reply, OutOfMemory>
+    #[tactic(auto, unfolding(crate::specs::Pool::state_of, crate::specs::Step::looks, pool_replies::specs::Replies::is_printable, pool_replies::specs::Refusals::is_printable_refusal))]
+    fn clock<T: Ledger>(&mut self, n: u64, touch: &mut Steps<T>) -> Result<Reply, OutOfMemory>
         ensures step { IfOk result (λ reply. steps.clock (state_of self.old) n ≡ (state_of self.new, reply)) }
         ensures printable { IfOk result (λ reply. IsTrue (is_printable reply)) }
+        ensures looks { touch.new ≤ touch.old + steps.looks (state_of self.old) (Command.Clock n) }
     {
         if n < self.moment {
             return Ok(Reply::Refused(Refusal::ClockBack));
         }
-        let expired = expire(&mut self.store, n)?;
+        let expired = expire(&mut self.ads, n, touch)?;
         self.moment = n;
         Ok(Reply::Clock { moment: n, expired })
     }

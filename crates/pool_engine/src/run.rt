@@ -78,7 +78,7 @@ pub fn run_pool<S: Source, K: Sink, F: Ledger, E: Ledger, T: Ledger>(
     touch: &mut Steps<T>,
 ) -> RunEnd
     ensures ends { Ends (S.shows source.old) (S.shows source.new)
-        (effects (K.shows sink.old) tops.old) (effects (K.shows sink.new) tops.new) result }
+        (effects (K.shows sink.old) tops.old touch.old) (effects (K.shows sink.new) tops.new touch.new) result }
 
     // No word is built, so any word is a wrong one, and then nothing was read or written.
     ensures words { (result ≡ RunEnd.BadWords) ↔ (0 < length words.now) }
@@ -114,7 +114,7 @@ fn run_input<S: Source, K: Sink, F: Ledger, E: Ledger, T: Ledger>(
     touch: &mut Steps<T>,
 ) -> Result<u64, RunEnd>
     ensures ends { Ends (S.shows source.old) (S.shows source.new)
-        (effects (K.shows sink.old) tops.old) (effects (K.shows sink.new) tops.new) (end_of result) }
+        (effects (K.shows sink.old) tops.old touch.old) (effects (K.shows sink.new) tops.new touch.new) (end_of result) }
     ensures words { result ≢ Err RunEnd.BadWords }
 {
     let mut buffer = [0; READ_SIZE];

@@ -55,10 +55,10 @@ impl Session {
         requires waiting { self.old.script.waiting ≡ [] }
         requires room { self.old.refused + length (ended_commands (self.old.script.rest ++ piece.now)) < 2 ^ 64 }
         ensures took { OnOk result (Took (state_of self.old.pool) (state_of self.new.pool)
-            (effects (K.shows sink.old) tops.old) (effects (K.shows sink.new) tops.new)
+            (effects (K.shows sink.old) tops.old touch.old) (effects (K.shows sink.new) tops.new touch.new)
             (ended_commands (self.old.script.rest ++ piece.now)) self.old.refused self.new.refused) }
         ensures stopped { IfErr result (Stopped (state_of self.old.pool)
-            (effects (K.shows sink.old) tops.old) (effects (K.shows sink.new) tops.new)
+            (effects (K.shows sink.old) tops.old touch.old) (effects (K.shows sink.new) tops.new touch.new)
             (ended_commands (self.old.script.rest ++ piece.now))) }
         ensures waiting { OnOk result (self.new.script.waiting ≡ []) }
         ensures over { OnOk result (self.new.script.over ≡ false) }
@@ -81,10 +81,10 @@ impl Session {
         requires waiting { self.script.waiting ≡ [] }
         requires room { self.refused + length (whole_commands self.script.rest) < 2 ^ 64 }
         ensures took { IfOk result (λ refused. (t : State) × Took (state_of self.pool) t
-            (effects (K.shows sink.old) tops.old) (effects (K.shows sink.new) tops.new)
+            (effects (K.shows sink.old) tops.old touch.old) (effects (K.shows sink.new) tops.new touch.new)
             (whole_commands self.script.rest) self.refused refused) }
         ensures stopped { IfErr result (Stopped (state_of self.pool)
-            (effects (K.shows sink.old) tops.old) (effects (K.shows sink.new) tops.new)
+            (effects (K.shows sink.old) tops.old touch.old) (effects (K.shows sink.new) tops.new touch.new)
             (whole_commands self.script.rest)) }
     {
         self.script.end()?;
@@ -102,10 +102,10 @@ impl Session {
     ) -> Result<(), RunEnd>
         requires { self.old.refused + length self.old.script.waiting < 2 ^ 64 }
         ensures took { OnOk result (Took (state_of self.old.pool) (state_of self.new.pool)
-            (effects (K.shows sink.old) tops.old) (effects (K.shows sink.new) tops.new)
+            (effects (K.shows sink.old) tops.old touch.old) (effects (K.shows sink.new) tops.new touch.new)
             self.old.script.waiting self.old.refused self.new.refused) }
         ensures stopped { IfErr result (Stopped (state_of self.old.pool)
-            (effects (K.shows sink.old) tops.old) (effects (K.shows sink.new) tops.new)
+            (effects (K.shows sink.old) tops.old touch.old) (effects (K.shows sink.new) tops.new touch.new)
             self.old.script.waiting) }
         ensures waiting { OnOk result (self.new.script.waiting ≡ []) }
         ensures over { self.new.script.over ≡ self.old.script.over }
@@ -139,9 +139,9 @@ fn run_command<K: Sink, F: Ledger, E: Ledger, T: Ledger>(
 ) -> Result<u64, RunEnd>
     requires { IsTrue (is_within_form command) }
     ensures took { IfOk result (λ n. Took (state_of pool.old) (state_of pool.new)
-        (effects (K.shows sink.old) tops.old) (effects (K.shows sink.new) tops.new) (command ∷ []) 0 n) }
+        (effects (K.shows sink.old) tops.old touch.old) (effects (K.shows sink.new) tops.new touch.new) (command ∷ []) 0 n) }
     ensures stopped { IfErr result (Stopped (state_of pool.old)
-        (effects (K.shows sink.old) tops.old) (effects (K.shows sink.new) tops.new) (command ∷ [])) }
+        (effects (K.shows sink.old) tops.old touch.old) (effects (K.shows sink.new) tops.new touch.new) (command ∷ [])) }
     ensures one { IfOk result (λ n. n ≤ 1) }
 {
     let answered = pool.step(&command, tops, entry, touch);

@@ -86,7 +86,7 @@ fn run_uncounted(
 }
 
 /// Scripts with how many commands are refused, and the replies.
-const SCRIPTS: [(&[u8], u64, &[u8]); 11] = [
+const SCRIPTS: [(&[u8], u64, &[u8]); 12] = [
     (b"", 0, b""),
     (
         b"eval false && error\neval error && false\neval true && undefined\n",
@@ -116,7 +116,7 @@ const SCRIPTS: [(&[u8], u64, &[u8]); 11] = [
         b"advertised a\nclock 2 expired 0\nadvertised b\nreplaced a\nads 2\na 2 4 free\nb 2 5 free\n[ y = { } ]\nclock 6 expired 1\nrefused 8 name not known\nrefused 8 name not known\nclock 7 expired 1\nads 0\nrefused 6 grammar\n",
     ),
     (
-        b"query\n# no comment\n.\nquery\neval 1\n",
+        b"gang\n# no comment\n.\ngang\neval 1\n",
         2,
         b"refused 14 not built\nrefused 4 block not ended\n",
     ),
@@ -129,6 +129,11 @@ const SCRIPTS: [(&[u8], u64, &[u8]); 11] = [
         b"eval (true || error) && (false || undefined)\nadvertise a 5\n[ x = 2; y = x * TARGET.z ]\n.\nevalin a x + 1\nevalin a [ z = 1 ].z\nevalin b x\nevalin b x +",
         2,
         b"undefined\nadvertised a\n3\n1\nrefused 8 name not known\nrefused 6 grammar\n",
+    ),
+    (
+        b"query\n[\n.\nadvertise a 9\n[ M = 128; Requirements = true ]\n.\nadvertise b 9\n[ Requirements = true ]\n.\nadvertise d 9\n[ M = 64 * 2; Requirements = TARGET.O != 3 ]\n.\nquery\n[ Requirements = TARGET.M >= 64; Rank = TARGET.M ]\n.\nadvertise a 9\n[ M = 32; Requirements = true ]\n.\nquery\n[ O = 4; Requirements = TARGET.M >= 32 ]\n.\nwithdraw a\nquery\n[ O = 3; Requirements = TARGET.M >= 32 ]\n.\n",
+        1,
+        b"refused 6 grammar\nadvertised a\nadvertised b\nadvertised d\nhits 1\na 128\nreplaced a\nhits 2\na 0\nd 0\nwithdrawn a\nhits 0\n",
     ),
 ];
 

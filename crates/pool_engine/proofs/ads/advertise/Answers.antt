@@ -1,49 +1,47 @@
-use Rattle.std.proofs.Common.{◌≡◌, true, length, sym, ◌∙◌, ap, subst}
+use Rattle.std.proofs.Common.{◌≡◌, true, length, Some, sym, ◌∙◌, ap, subst}
 use Rattle.ad_parser.specs.declared.fault.ParseFault.{ParseFault}
 use Rattle.ad_parser.proofs.Outcomes.{ad_outcome, ad_outcome-has}
-use Rattle.ad_store.specs.Answers.{IsCause, is_added}
-use Rattle.ad_store.specs.Stock.{Stock, lack}
-use Rattle.ad_store.specs.Store.{stock_of}
-use Rattle.ad_store.specs.declared.answers.PutFault.{PutFault}
+use Rattle.ad_store.specs.Answers.{is_added}
 use Rattle.ad_store.specs.declared.answers.PutFault.TheVariants as fault
 use Rattle.pool_replies.specs.Refusals.{is_fault_of_text}
 use Rattle.pool_replies.specs.declared.refusal.Refusal.TheVariants.{AdText}
+use Rattle.pool_engine.specs.Indexed.{ads_of}
 use Rattle.pool_engine.specs.State.{State}
 use Rattle.pool_engine.specs.Step.{refused}
 use Rattle.pool_engine.proofs.StepLemmas.{advertise-added, advertise-faulty, advertise-full, advertise-replaced}
 use Rattle.pool_engine.proofs.ads.advertise.Goals as goal
 
 pub returns-in-Err-clause-step : goal.returns-in-Err-clause-step
-returns-in-Err-clause-step c =
-    let s : State = record { moment = c.args.moment; ads = (stock_of c.args.store.now).ads } in
+returns-in-Err-clause-step g c =
+    let s : State = record { moment = c.args.moment; ads = ads_of c.args.ads.now } in
     let block = c.args.block.now in
     let told = c.in_ok-told-in-Err.ensures in
     advertise-faulty s c.args.name.now c.args.lifetime (length block) (ad_outcome block) c.in-Err.fault (c.in-Err.ensures.outcome (ad_outcome block) (ad_outcome-has block)) (subst (λ (fault : ParseFault). is_fault_of_text fault ≡ true) told.0 told.1) ∙ ap (λ (fault : ParseFault). refused s (AdText fault)) (sym told.0)
 
 pub returns-in-Ok-Added-clause-step : goal.returns-in-Ok-Added-clause-step
-returns-in-Ok-Added-clause-step c =
-    let s : State = record { moment = c.args.moment; ads = (stock_of c.args.store.now).ads } in
+returns-in-Ok-Added-clause-step g c =
+    let s : State = record { moment = c.args.moment; ads = ads_of c.args.ads.now } in
     let block = c.args.block.now in
     let put = c.in-Ok-Added.ensures in
-    advertise-added s c.args.name.now c.bytes.result.now c.in_ok-named.named c.args.lifetime (length block) (ad_outcome block) c.in-Ok.ad (stock_of c.put.new.self).ads (c.in-Ok.ensures.outcome (ad_outcome block) (ad_outcome-has block)) c.bytes.ensures c.in_ok-named.ensures put.room put.ads (sym (ap is_added c.in-Ok-Added.field-0-is) ∙ put.added)
+    advertise-added s c.args.name.now c.bytes.result.now c.in_ok-named.named c.args.lifetime (length block) (ad_outcome block) c.in-Ok.ad (ads_of c.put.new.self) (c.in-Ok.ensures.outcome (ad_outcome block) (ad_outcome-has block)) c.bytes.ensures c.in_ok-named.ensures put.room put.ads (sym (ap is_added c.in-Ok-Added.field-0-is) ∙ put.added)
 
 pub returns-in-Ok-Replaced-clause-step : goal.returns-in-Ok-Replaced-clause-step
-returns-in-Ok-Replaced-clause-step c =
-    let s : State = record { moment = c.args.moment; ads = (stock_of c.args.store.now).ads } in
+returns-in-Ok-Replaced-clause-step g c =
+    let s : State = record { moment = c.args.moment; ads = ads_of c.args.ads.now } in
     let block = c.args.block.now in
     let put = c.in-Ok-Replaced.ensures in
-    advertise-replaced s c.args.name.now c.bytes.result.now c.in_ok-named.named c.args.lifetime (length block) (ad_outcome block) c.in-Ok.ad (stock_of c.put.new.self).ads (c.in-Ok.ensures.outcome (ad_outcome block) (ad_outcome-has block)) c.bytes.ensures c.in_ok-named.ensures put.room put.ads (sym (ap is_added c.in-Ok-Replaced.field-0-is) ∙ put.added)
+    advertise-replaced s c.args.name.now c.bytes.result.now c.in_ok-named.named c.args.lifetime (length block) (ad_outcome block) c.in-Ok.ad (ads_of c.put.new.self) (c.in-Ok.ensures.outcome (ad_outcome block) (ad_outcome-has block)) c.bytes.ensures c.in_ok-named.ensures put.room put.ads (sym (ap is_added c.in-Ok-Replaced.field-0-is) ∙ put.added)
 
 pub returns-in-Err-Full-clause-step : goal.returns-in-Err-Full-clause-step
-returns-in-Err-Full-clause-step c =
-    let s : State = record { moment = c.args.moment; ads = (stock_of c.args.store.now).ads } in
+returns-in-Err-Full-clause-step g c =
+    let s : State = record { moment = c.args.moment; ads = ads_of c.args.ads.now } in
     let block = c.args.block.now in
-    let put = c.in-Err-Full.ensures in
-    advertise-full s c.args.name.now c.bytes.result.now c.args.lifetime (length block) (ad_outcome block) c.in-Ok.ad fault.Full (stock_of c.put.new.self).ads (c.in-Ok.ensures.outcome (ad_outcome block) (ad_outcome-has block)) c.bytes.ensures (subst (λ (f : PutFault). IsCause f (lack c.bytes.result.now (length block) s.ads)) c.in-Err-Full.field-0-is put.cause) (ap (λ (k : Stock). k.ads) put.err)
+    let cause = c.in-Err-Full.ensures.cause (λ same. let no : fault.Full ≡ fault.OutOfMemory = sym c.in-Err-Full.field-0-is ∙ same in absurd (cc)) in
+    advertise-full s c.args.name.now c.bytes.result.now c.args.lifetime (length block) (ad_outcome block) c.in-Ok.ad fault.Full (ads_of c.put.new.self) (c.in-Ok.ensures.outcome (ad_outcome block) (ad_outcome-has block)) c.bytes.ensures (cause.0 ∙ ap Some c.in-Err-Full.field-0-is) cause.1
 
 pub returns-in-Err-FullText-clause-step : goal.returns-in-Err-FullText-clause-step
-returns-in-Err-FullText-clause-step c =
-    let s : State = record { moment = c.args.moment; ads = (stock_of c.args.store.now).ads } in
+returns-in-Err-FullText-clause-step g c =
+    let s : State = record { moment = c.args.moment; ads = ads_of c.args.ads.now } in
     let block = c.args.block.now in
-    let put = c.in-Err-FullText.ensures in
-    advertise-full s c.args.name.now c.bytes.result.now c.args.lifetime (length block) (ad_outcome block) c.in-Ok.ad fault.FullText (stock_of c.put.new.self).ads (c.in-Ok.ensures.outcome (ad_outcome block) (ad_outcome-has block)) c.bytes.ensures (subst (λ (f : PutFault). IsCause f (lack c.bytes.result.now (length block) s.ads)) c.in-Err-FullText.field-0-is put.cause) (ap (λ (k : Stock). k.ads) put.err)
+    let cause = c.in-Err-FullText.ensures.cause (λ same. let no : fault.FullText ≡ fault.OutOfMemory = sym c.in-Err-FullText.field-0-is ∙ same in absurd (cc)) in
+    advertise-full s c.args.name.now c.bytes.result.now c.args.lifetime (length block) (ad_outcome block) c.in-Ok.ad fault.FullText (ads_of c.put.new.self) (c.in-Ok.ensures.outcome (ad_outcome block) (ad_outcome-has block)) c.bytes.ensures (cause.0 ∙ ap Some c.in-Err-FullText.field-0-is) cause.1

@@ -1,10 +1,9 @@
-use Rattle.std.proofs.Common.{◌≡◌, ℕ, true, List, OnOk, IfOk, Ok, sym, ◌∙◌, ap, subst}
+use Rattle.std.proofs.Common.{◌≡◌, true, sym, ◌∙◌, ap, subst}
 use Rattle.ad_parser.specs.declared.fault.ParseFault.{ParseFault}
 use Rattle.ad_parser.proofs.Outcomes.{expr_outcome, expr_outcome-has}
 use Rattle.ad_store.specs.Store.{stock_of}
 use Rattle.pool_replies.specs.Refusals.{is_fault_of_text}
 use Rattle.pool_replies.specs.declared.refusal.Refusal.TheVariants.{AdText}
-use Rattle.pool_replies.specs.declared.reply.Reply.{Reply}
 use Rattle.pool_engine.specs.State.{State}
 use Rattle.pool_engine.specs.Step.{refused}
 use Rattle.pool_engine.proofs.StepLemmas.{eval-faulty, eval-parsed}

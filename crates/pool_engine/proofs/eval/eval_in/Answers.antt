@@ -1,4 +1,4 @@
-use Rattle.std.proofs.Common.{◌≡◌, ℕ, true, List, OnOk, IfOk, Ok, sym, ◌∙◌, ap, subst}
+use Rattle.std.proofs.Common.{◌≡◌, true, IfOk, sym, ◌∙◌, ap, subst}
 use Rattle.ad_parser.specs.declared.fault.ParseFault.{ParseFault}
 use Rattle.ad_parser.proofs.Outcomes.{expr_outcome, expr_outcome-has}
 use Rattle.ad_store.specs.Store.{stock_of}

@@ -1,7 +1,7 @@
 use Rattle.std.proofs.Common.{arith, length-take}
 use Rattle.std.proofs.lemmas.Result.{err_from_is_err_and}
 use Rattle.pool_engine.specs.Pool.{state_of}
-use Rattle.pool_engine.proofs.ReadingLemmas.{Reading-finish, Reading-past, Reading-piece, Reading-room, Reading-room_last, Reading-stopped, take_one}
+use Rattle.pool_engine.proofs.ReadingLemmas.{Reading-finish, Reading-lost, Reading-past, Reading-piece, Reading-room, Reading-room_last, Reading-stopped, take_one}
 use Rattle.pool_engine.proofs.run.run_input.Goals as goal
 
 pub finish-requires-clause-room : goal.finish-requires-clause-room
@@ -35,3 +35,6 @@ pub returns-in-Ok-read_piece-clause-ends : goal.returns-in-Ok-read_piece-clause-
 returns-in-Ok-read_piece-clause-ends g c =
     let one = take_one c.read_piece-2.new.buffer c.in-Ok-read_piece.field-0 c.in-Ok-read_piece.ensures.within c.in-Ok-read_piece.field-0-test.1 (omega (arith, c.read_piece-2.auto.buffer, c.loop-left.invariant.room)) in
     Reading-past _ _ _ _ _ _ _ _ _ _ _ one.0 c.loop-left.invariant.reading (omega (arith, c.loop-left-test.false)) c.in-Ok-read_piece.ensures.reads one.1
+
+pub returns-in-Err-clause-ends : goal.returns-in-Err-clause-ends
+returns-in-Err-clause-ends g c = Reading-lost _ _ _ _ _ _ _ _ _ _ _ c.loop-left.invariant.reading c.in-Err.ensures.reads

@@ -6,7 +6,7 @@ use Rattle.pool_engine.proofs.run.run_input.Given as goal
 
 abbrev pub invariant-loop-left : goal.invariant-loop-left
 invariant-loop-left g l = record {
-  reading : Reading (g.S.Source.shows l.initial.source) (g.S.Source.shows l.source) (effects (g.K.Sink.shows l.initial.sink) l.initial.tops) (effects (g.K.Sink.shows l.sink) l.tops) l.session.script (state_of l.session.pool) l.session.refused l.left;
+  reading : Reading (g.S.Source.shows l.initial.source) (g.S.Source.shows l.source) (effects (g.K.Sink.shows l.initial.sink) l.initial.tops l.initial.touch) (effects (g.K.Sink.shows l.sink) l.tops l.touch) l.session.script (state_of l.session.pool) l.session.refused l.left;
   room : length l.buffer ≡ 4096;
 }
 

@@ -6,10 +6,10 @@ use Rattle.pool_engine.proofs.TookLemmas.{Stopped-offered, Stopped-step}
 use Rattle.pool_engine.proofs.session.run_command.Goals as goal
 
 pub returns-clause-stopped : goal.returns-clause-stopped
-returns-clause-stopped g c = Stopped-offered _ _ _ _ c.args.command c.in_ok-reply.reply c.offer-offered.result c.in_ok-reply.ensures.step c.step-answered.ensures.cost c.offer-offered.ensures.lacks
+returns-clause-stopped g c = Stopped-offered _ _ _ _ c.args.command c.in_ok-reply.reply c.offer-offered.result c.in_ok-reply.ensures.step c.step-answered.ensures.cost c.step-answered.ensures.looks c.offer-offered.ensures.lacks
 
 pub returns-in_err-reply-clause-stopped : goal.returns-in_err-reply-clause-stopped
 returns-in_err-reply-clause-stopped g c =
     let sink = g.K.Sink.shows c.args.sink.now in
     let exit = err_from_is_err_and c.from_residual.result c.from_residual.ensures.1 in
-    rw (exit.1, exit.2) (Stopped-step (state_of c.args.pool.now) (effects sink c.args.tops.now) (effects sink c.step-answered.new.tops) c.args.command refl c.step-answered.ensures.cost)
+    rw (exit.1, exit.2) (Stopped-step (state_of c.args.pool.now) (effects sink c.args.tops.now c.args.touch.now) (effects sink c.step-answered.new.tops c.step-answered.new.touch) c.args.command refl c.step-answered.ensures.cost c.step-answered.ensures.looks)

@@ -7,7 +7,7 @@ use Rattle.pool_engine.proofs.session.Session.run_waiting.Given as goal
 
 abbrev pub invariant-loop-command : goal.invariant-loop-command
 invariant-loop-command g l = record {
-  running : Running (state_of l.initial.self.pool) (state_of l.self.pool) (effects (g.K.Sink.shows l.initial.sink) l.initial.tops) (effects (g.K.Sink.shows l.sink) l.tops) l.initial.self.script.waiting l.self.script.waiting l.initial.self.refused l.self.refused;
+  running : Running (state_of l.initial.self.pool) (state_of l.self.pool) (effects (g.K.Sink.shows l.initial.sink) l.initial.tops l.initial.touch) (effects (g.K.Sink.shows l.sink) l.tops l.touch) l.initial.self.script.waiting l.self.script.waiting l.initial.self.refused l.self.refused;
   over : l.self.script.over ≡ l.initial.self.script.over;
   stands : (bytes : List ℕ) (n : ℕ) → Stands l.initial.self.script bytes n → (m : ℕ) × Stands l.self.script bytes m;
 }

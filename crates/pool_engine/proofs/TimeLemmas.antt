@@ -1,0 +1,231 @@
+-- No reply is empty, so a sink that took nothing took no reply.
+use Rattle.std.proofs.Common.{◌≡◌, ◌≢◌, ℕ, ◌<◌, ◌==◌, Bool, true, false, List, [], ◌∷◌, ◌++◌, codes, length, take, nat_lt, if◌then◌else◌, Option, None, Some, Result, Ok, Err, refl, ap, arith, length-append, length-take}
+use Rattle.std.specs.Io.KnownBytes.{Appends}
+use Rattle.ad_tree.specs.Inline.{Inline, phrase_of, phrase_tree}
+use Rattle.ad_tree.specs.Tree.{Tree}
+use Rattle.ad_tree.specs.Frames.{Frame}
+use Rattle.ad_parser.specs.declared.fault.ParseFault.{ParseFault}
+use Rattle.ad_parser.specs.declared.fault.ParseFault.TheVariants as faults
+use Rattle.ad_parser.specs.Outcomes.{HasAdOutcome, HasExprOutcome}
+use Rattle.ad_parser.proofs.Outcomes.{ad_outcome, ad_outcome-has, expr_outcome, expr_outcome-has}
+use Rattle.ad_store.specs.Stock.{Advert, has, lack, placed, without}
+use Rattle.ad_store.specs.declared.answers.PutFault.{PutFault}
+use Rattle.pool_io.specs.Flow.{Supply}
+use Rattle.pool_script.specs.Commands.{ended_commands}
+use Rattle.pool_script.specs.declared.command.Command.{Command}
+use Rattle.pool_script.specs.declared.command.Command.TheVariants as command
+use Rattle.pool_replies.specs.declared.refusal.Refusal.TheVariants as why
+use Rattle.pool_replies.specs.declared.refusal.Room.{Room}
+use Rattle.pool_replies.specs.declared.refusal.Room.TheVariants as room
+use Rattle.pool_replies.specs.declared.rows.AdRow.{AdRow}
+use Rattle.pool_replies.specs.declared.rows.HitRow.{HitRow}
+use Rattle.pool_replies.specs.declared.reply.Reply.{Reply}
+use Rattle.pool_replies.specs.declared.reply.Reply.TheVariants as reply
+use Rattle.pool_replies.specs.Refusals.{fault_text, is_fault_of_text, line_refusal, refusal_text, room_text}
+use Rattle.pool_replies.specs.Replies.{reply_text}
+use Rattle.pool_engine.specs.Ends.{AnswersFirst, Effects, IsWriteFault, before_last}
+use Rattle.pool_engine.specs.Events.{events_of, replies_text, state_after}
+use Rattle.pool_engine.specs.State.{State, opening}
+use Rattle.pool_engine.specs.Step.{ad_named, advertise, clock, eval, eval_beside, eval_in, live_ads, put_ad, query, refused, room_of, show_ad, step, withdraw}
+
+-- ---- no reply is empty
+
+front_some : (a b : List ℕ) → 0 < length a → 0 < length (a ++ b)
+front_some a b some = omega (arith, some, length-append a b)
+
+back_some : (a b : List ℕ) → 0 < length b → 0 < length (a ++ b)
+back_some a b some = omega (arith, some, length-append a b)
+
+fault_some : (fault : ParseFault) → is_fault_of_text fault ≡ true → 0 < length (fault_text fault)
+fault_some (faults.Lex kind place) told = front_some (codes "refused 6 lexical ") _ (omega arith)
+fault_some faults.Nesting told = omega arith
+fault_some faults.Grammar told = omega arith
+fault_some faults.Depth told = omega arith
+fault_some faults.Frames told = omega arith
+fault_some faults.Attributes told = omega arith
+fault_some faults.OutOfMemory told = absurd (cc)
+
+room_some : (r : Room) → 0 < length (room_text r)
+room_some room.Ads = omega arith
+room_some room.AdText = omega arith
+room_some room.Jobs = omega arith
+room_some room.JobText = omega arith
+room_some room.Users = omega arith
+
+holds_if : {A : Type 0} (P : A → Type 0) (b : Bool) (x y : A) → P x → P y → P (if b then x else y)
+holds_if P true x y first second = first
+holds_if P false x y first second = second
+
+line_some : (n : ℕ) → 0 < length (line_refusal n)
+unfolding line_refusal
+line_some n =
+    holds_if (λ (l : List ℕ). 0 < length l) (n == 1) _ _ (omega arith)
+    (holds_if (λ (l : List ℕ). 0 < length l) (n == 2) _ _ (omega arith)
+    (holds_if (λ (l : List ℕ). 0 < length l) (n == 3) _ _ (omega arith)
+    (holds_if (λ (l : List ℕ). 0 < length l) (n == 4) _ _ (omega arith) (omega arith))))
+
+-- the reply has a text of one byte at least
+abbrev pub IsTold : State × Reply → Type 0
+IsTold p = 0 < length (reply_text p.1)
+
+line_told : (s : State) (n : ℕ) → IsTold (refused s (why.Line n))
+unfolding reply_text refusal_text
+line_told s n = line_some n
+
+text_told : (s : State) (fault : ParseFault) → is_fault_of_text fault ≡ true → IsTold (refused s (why.AdText fault))
+unfolding reply_text refusal_text
+text_told s fault told = fault_some fault told
+
+full_told : (s : State) (r : Room) → IsTold (refused s (why.Full r))
+unfolding reply_text refusal_text
+full_told s r = room_some r
+
+back_told : (s : State) → IsTold (refused s why.ClockBack)
+unfolding reply_text refusal_text
+back_told s = omega arith
+
+unknown_told : (s : State) → IsTold (refused s why.UnknownName)
+unfolding reply_text refusal_text
+unknown_told s = omega arith
+
+unbuilt_told : (s : State) → IsTold (refused s why.NotBuilt)
+unfolding reply_text refusal_text
+unbuilt_told s = omega arith
+
+moment_told : (s : State) (n expired : ℕ) → IsTold (s, reply.Clock n expired)
+unfolding reply_text
+moment_told s n expired = front_some (codes "clock ") _ (omega arith)
+
+advertised_told : (s : State) (name : List ℕ) → IsTold (s, reply.Advertised name)
+unfolding reply_text
+advertised_told s name = front_some (codes "advertised ") _ (omega arith)
+
+replaced_told : (s : State) (name : List ℕ) → IsTold (s, reply.Replaced name)
+unfolding reply_text
+replaced_told s name = front_some (codes "replaced ") _ (omega arith)
+
+withdrawn_told : (s : State) (name : List ℕ) → IsTold (s, reply.Withdrawn name)
+unfolding reply_text
+withdrawn_told s name = front_some (codes "withdrawn ") _ (omega arith)
+
+shown_told : (s : State) (text : List ℕ) → IsTold (s, reply.Shown text)
+unfolding reply_text
+shown_told s text = back_some text (codes "\n") (omega arith)
+
+evaluated_told : (s : State) (text : List ℕ) → IsTold (s, reply.Evaluated text)
+unfolding reply_text
+evaluated_told s text = back_some text (codes "\n") (omega arith)
+
+ads_told : (s : State) (rows : List AdRow) → IsTold (s, reply.Ads rows)
+unfolding reply_text
+ads_told s rows = front_some (codes "ads ") _ (omega arith)
+
+hits_told : (s : State) (rows : List HitRow) → IsTold (s, reply.Hits rows)
+unfolding reply_text
+hits_told s rows = front_some (codes "hits ") _ (omega arith)
+
+-- ---- the replies to commands
+
+clock_told : (s : State) (n : ℕ) → IsTold (clock s n)
+clock_told s n = holds_if IsTold (nat_lt n s.moment) (refused s why.ClockBack) _ (back_told s) (moment_told (record { moment = n; ads = live_ads n s.ads }) n _)
+
+named_told : (s : State) (name : List ℕ) (b : Bool) → IsTold (s, if b then reply.Replaced name else reply.Advertised name)
+named_told s name b = holds_if (λ (r : Reply). IsTold (s, r)) b (reply.Replaced name) (reply.Advertised name) (replaced_told s name) (advertised_told s name)
+
+put_told : (s : State) (advert : Advert) (lacking : Option PutFault) → IsTold (put_ad s advert lacking)
+put_told s advert (Some lacking) = full_told s (room_of lacking)
+put_told s advert None = named_told (record { moment = s.moment; ads = placed advert s.ads }) advert.name (has advert.name s.ads)
+
+-- a fault that isn't want of memory is one of a text
+told_fault : (fault : ParseFault) → fault ≢ faults.OutOfMemory → is_fault_of_text fault ≡ true
+told_fault (faults.Lex kind place) other = refl
+told_fault faults.Nesting other = refl
+told_fault faults.Grammar other = refl
+told_fault faults.Depth other = refl
+told_fault faults.Frames other = refl
+told_fault faults.Attributes other = refl
+told_fault faults.OutOfMemory other = absurd (other refl)
+
+advertise_told : (s : State) (name text : List ℕ) (lifetime size : ℕ) (outcome : Result Inline ParseFault) → HasAdOutcome text outcome → IsTold (advertise s name lifetime size outcome)
+advertise_told s name text lifetime size (Ok x) has_outcome = put_told s _ (lack name size s.ads)
+advertise_told s name text lifetime size (Err fault) has_outcome = text_told s fault (told_fault fault has_outcome.1)
+
+withdraw_told : (s : State) (name : List ℕ) → IsTold (withdraw s name)
+withdraw_told s name = holds_if IsTold (has name s.ads) _ (refused s why.UnknownName) (withdrawn_told (record { moment = s.moment; ads = without name s.ads }) name) (unknown_told s)
+
+show_told : (s : State) (found : Option Advert) → IsTold (show_ad s found)
+show_told s None = unknown_told s
+show_told s (Some advert) = shown_told s _
+
+eval_told : (s : State) (text : List ℕ) (outcome : Result Inline ParseFault) → HasExprOutcome text outcome → IsTold (eval s outcome)
+eval_told s text (Ok x) has_outcome = evaluated_told s _
+eval_told s text (Err fault) has_outcome = text_told s fault (told_fault fault has_outcome.1)
+
+beside_told : (s : State) (frames : List Frame) (t : Tree) (found : Option Advert) → IsTold (eval_beside s frames t found)
+beside_told s frames t None = unknown_told s
+beside_told s frames t (Some advert) = evaluated_told s _
+
+eval_in_told : (s : State) (name text : List ℕ) (outcome : Result Inline ParseFault) → HasExprOutcome text outcome → IsTold (eval_in s name outcome)
+eval_in_told s name text (Ok x) has_outcome = beside_told s (phrase_of x) (phrase_tree x) (ad_named name s.ads)
+eval_in_told s name text (Err fault) has_outcome = text_told s fault (told_fault fault has_outcome.1)
+
+query_told : (s : State) (text : List ℕ) (outcome : Result Inline ParseFault) → HasAdOutcome text outcome → IsTold (query s outcome)
+query_told s text (Ok x) has_outcome = hits_told s _
+query_told s text (Err fault) has_outcome = text_told s fault (told_fault fault has_outcome.1)
+
+pub step_told : (s : State) (c : Command) → IsTold (step s c)
+unfolding step
+step_told s (command.Clock n) = clock_told s n
+step_told s (command.Advertise name lifetime block) = advertise_told s name block lifetime (length block) (ad_outcome block) (ad_outcome-has block)
+step_told s (command.Withdraw name) = withdraw_told s name
+step_told s (command.Show name) = show_told s (ad_named name s.ads)
+step_told s command.List = ads_told s _
+step_told s (command.Eval expr) = eval_told s expr (expr_outcome expr) (expr_outcome-has expr)
+step_told s (command.EvalIn name expr) = eval_in_told s name expr (expr_outcome expr) (expr_outcome-has expr)
+step_told s (command.Query block) = query_told s block (ad_outcome block) (ad_outcome-has block)
+step_told s (command.Submit job user block) = unbuilt_told s
+step_told s (command.Remove job) = unbuilt_told s
+step_told s (command.Priority user n) = unbuilt_told s
+step_told s (command.Gang block) = unbuilt_told s
+step_told s command.Negotiate = unbuilt_told s
+step_told s (command.Claim job) = unbuilt_told s
+step_told s (command.Release job) = unbuilt_told s
+step_told s (command.Unlisten name) = unbuilt_told s
+step_told s (command.Bad number) = line_told s number
+
+-- ---- a sink that took nothing
+
+empty : {A : Type 0} (l : List A) → length l ≡ 0 → l ≡ []
+empty [] none = refl
+empty (x ∷ l) none = absurd (omega arith)
+
+some_same : (xs known : List ℕ) → ◌≡◌ {A = Option (List ℕ)} (Some xs) (Some known) → xs ≡ known
+some_same xs known same = cc
+
+none_appended : (old new : Option (List ℕ)) (known text : List ℕ) → old ≡ Some known → new ≡ Some known → Appends old new text → length text ≡ 0
+none_appended None new known text from to appends = absurd (cc)
+none_appended (Some xs) None known text from to appends = absurd (cc)
+none_appended (Some xs) (Some ys) known text from to appends =
+    omega (arith, ap length appends, length-append xs text, ap length (some_same xs known from), ap length (some_same ys known to))
+
+-- replies whose text is empty are none
+no_commands : (s : State) (front : List Command) → length (replies_text (events_of s front)) ≡ 0 → front ≡ []
+no_commands s [] none = refl
+no_commands s (c ∷ front) none = absurd (omega (arith, none, step_told s c, length-append (reply_text (step s c).1) (replies_text (events_of (step s c).0 front))))
+
+-- where a write failed and the sink took nothing, it was offered the first reply alone and whole, and no command had ended before
+-- the last read
+pub answers_first : (s t : Supply) (k m : Effects) (fault : IsWriteFault s t k m) (known : List ℕ) → k.sink.taken ≡ Some known → m.sink.taken ≡ Some known → AnswersFirst t m fault.bytes fault.front fault.cut
+answers_first s t k m fault known from to =
+    let before : List ℕ = replies_text (events_of opening fault.front) in
+    let cut : List ℕ = reply_text (step (state_after opening fault.front) fault.cut).1 in
+    let piece : List ℕ = take fault.broke.count cut in
+    let nothing = none_appended k.sink.taken m.sink.taken known (before ++ piece) from to fault.broke.taken in
+    let both = length-append before piece in
+    let first : fault.front ≡ [] = no_commands opening fault.front (omega (arith, nothing, both)) in
+    let same = ap (λ (l : List Command). length (reply_text (step (state_after opening l) fault.cut).1)) first in
+    record {
+      first = first;
+      alone = omega (arith, fault.broke.others, fault.broke.proper, nothing, both, length-take fault.broke.count cut, same);
+      in_time = empty (ended_commands (before_last t fault.bytes)) (omega (arith, fault.in_time, ap length first));
+    }

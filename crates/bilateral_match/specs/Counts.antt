@@ -23,9 +23,13 @@ undecided_count request ads = count_by (λ advert. is_undecided request advert.a
 abbrev pub left_by : List Advert → Test → ℕ
 left_by ads test = count_by (λ advert. not (is_decided test advert.ad 0)) ads
 
+-- the least number of ads that one of the tests leaves, or the most that is asked for where it is more
+abbrev pub least_within : ℕ → List Advert → List Test → ℕ
+least_within most ads tests = fold (λ least test. min least (left_by ads test)) most tests
+
 -- the least number of ads that one of the tests leaves; all ads where there is no test
 abbrev pub least_left : List Advert → List Test → ℕ
-least_left ads tests = fold (λ least test. min least (left_by ads test)) (length ads) tests
+least_left ads tests = least_within (length ads) ads tests
 
 -- how many attributes may be entered in the docks with all ads
 abbrev pub entered_most : ℕ → List Frame → List Advert → ℕ

@@ -6,7 +6,7 @@ ghost use Rattle.ad_store.specs.Store.{stock_of};
 ghost use Rattle.literal_index.specs.Rows.{passing_slots};
 ghost use Rattle.literal_index.specs.Shown.{IsIndex};
 ghost use Rattle.bilateral_match.specs.Candidates.{AreCandidates};
-ghost use Rattle.bilateral_match.specs.Counts.{least_left, left_by};
+ghost use Rattle.bilateral_match.specs.Counts.{least_left, least_within, left_by};
 ghost use Rattle.bilateral_match.specs.Rows.{rows_of};
 
 use ad_store::Store;
@@ -16,6 +16,9 @@ use literal_index::Index;
 use pool_text::{OutOfMemory, Slots};
 use std::alloc::Global;
 use std::convert::AsSlice;
+
+// Tests are counted up to each of these limits in turn, so that a test that leaves many ads costs no more than a narrow one.
+const LIMITS: [usize; 3] = [32, 256, 2048];
 
 /// The places of the ads to look at, in any order.
 pub fn candidates(
@@ -46,10 +49,37 @@ fn narrowest<'a>(store: &Store, index: &Index, tests: &'a Tests) -> Option<&'a T
     ensures least { IfSome result (λ test. left_by (stock_of store.now).ads test.now ≡ least_left (stock_of store.now).ads tests.now) }
     ensures all { IfNone result (length (stock_of store.now).ads ≡ least_left (stock_of store.now).ads tests.now) }
 {
-    let mut least = store.len();
+    let all = store.len();
+    for most in LIMITS {
+        if most < all {
+            let found = narrowest_within(store, index, tests, most);
+            if found.is_some() {
+                return found;
+            }
+        }
+    }
+    narrowest_within(store, index, tests, all)
+}
+
+// The test that leaves the fewest ads, where some test leaves fewer than so many.
+fn narrowest_within<'a>(
+    store: &Store,
+    index: &Index,
+    tests: &'a Tests,
+    most: usize,
+) -> Option<&'a Test>
+    requires { IsIndex index.now (rows_of (stock_of store.now)) }
+    ensures one { IfSome result (λ test. Contains tests.now test.now) }
+    ensures least { IfSome result (λ test. left_by (stock_of store.now).ads test.now ≡ least_within most (stock_of store.now).ads tests.now) }
+    ensures fewer { IfSome result (λ test. left_by (stock_of store.now).ads test.now < most) }
+    ensures all { IfNone result (most ≡ least_within most (stock_of store.now).ads tests.now) }
+{
+    // The length comes with the fact that each ad has a slot.
+    let _len = store.len();
+    let mut least = most;
     let mut best = None;
     for test in tests.as_slice() {
-        let count = index.count(test);
+        let count = index.count_within(test, least);
         if count < least {
             least = count;
             best = Some(test);

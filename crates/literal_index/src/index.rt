@@ -1,5 +1,5 @@
 // The index of the ads of a pool.
-ghost use Rattle.std.specs.Prelude.{◌≡◌, ◌∷◌, ◌++◌, ◌<◌, [], ℕ, length, IfOk, OnOk, OnErr, None, List};
+ghost use Rattle.std.specs.Prelude.{◌≡◌, ◌∷◌, ◌++◌, ◌<◌, [], ℕ, length, min, IfOk, OnOk, OnErr, None, List};
 ghost use Rattle.std.specs.List.Sorted.{IsPermutation, IsStrictlyIncreasing};
 ghost use Rattle.ad_tree.specs.Ad.{ad_frames};
 ghost use Rattle.literal_index.specs.Rows.{Row, ad_under, passing_slots, row_of};
@@ -7,7 +7,7 @@ ghost use Rattle.literal_index.specs.Rows.{Row, ad_under, passing_slots, row_of}
 use crate::attributes::{put_attributes, take_attributes};
 use crate::entry::{Choice, Entry, holds};
 use crate::place::{Kind, Place};
-use crate::selection::{count_chosen, in_order, listed, others, push_chosen};
+use crate::selection::{count_chosen, count_chosen_within, in_order, listed, others, push_chosen};
 use crate::span::Span;
 use ad_tree::Ad;
 use conjunct_plan::Test;
@@ -112,5 +112,18 @@ impl Index {
         }
         count_chosen(&self.entries, test, Choice::Open, OPEN)
             + count_chosen(&self.entries, test, Choice::True, Span::passing(test))
+    }
+
+    /// The same number, or the most that is asked for where it is more. A test that leaves many slots costs no more time
+    /// than one that leaves so many. No memory is taken.
+    pub fn count_within(&self, test: &Test, most: usize) -> usize
+        ensures { (rows : List Row) → IsIndex self.now rows → result ≡ min (length (passing_slots test.now rows)) most }
+    {
+        if holds(test, &Lit::Undefined) {
+            return self.count(test).min(most);
+        }
+        let open = count_chosen_within(&self.entries, test, Choice::Open, OPEN, most);
+        let passing = Span::passing(test);
+        open + count_chosen_within(&self.entries, test, Choice::True, passing, most - open)
     }
 }

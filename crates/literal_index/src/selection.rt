@@ -1,5 +1,5 @@
 // Slots chosen by a test.
-ghost use Rattle.std.specs.Prelude.{◌≡◌, ◌<◌, ◌^◌, ◌++◌, count_by, filter, not, nat_eq, IfOk, OnOk};
+ghost use Rattle.std.specs.Prelude.{◌≡◌, ◌<◌, ◌^◌, ◌++◌, count_by, filter, min, not, nat_eq, IfOk, OnOk};
 ghost use Rattle.std.specs.BTreeMap.{IsOrdered};
 ghost use Rattle.std.specs.BTreeSet.{IsOrdered as IsSetOrdered};
 ghost use Rattle.std.specs.Ordering.{nat_cmp};
@@ -62,6 +62,29 @@ pub fn count_chosen(
     entries
         .range(bounds)
         .filter(|(_, entry)| entry.is_chosen(test, choice))
+        .count()
+}
+
+/// The same number, or the most that is asked for where it is more: no more entries are counted then.
+pub fn count_chosen_within(
+    entries: &BTreeMap<Place, Entry>,
+    test: &Test,
+    choice: Choice,
+    span: Span,
+    most: usize,
+) -> usize
+    ensures ordered { IsOrdered place_order entries.now }
+    ensures count { result ≡ min (count_by (λ e. is_chosen test.now choice e.1) (spanned test.now span entries.now)) most }
+{
+    let name = digest(asked(test).bytes());
+    let bounds = (
+        Bound::Included(span.first(name)),
+        Bound::Included(span.last(name)),
+    );
+    entries
+        .range(bounds)
+        .filter(|(_, entry)| entry.is_chosen(test, choice))
+        .take(most)
         .count()
 }
 

@@ -1,30 +1,8 @@
-use Rattle.std.proofs.Common.{◌≡◌, ◌+◌, sym, ◌∙◌, refl}
+use Rattle.std.proofs.Common.{arith}
 use Rattle.ad_store.specs.Store.{stock_of}
-use Rattle.bilateral_match.specs.Counts.{left_by}
-use Rattle.bilateral_match.specs.Rows.{rows_of}
-use Rattle.bilateral_match.proofs.NarrowLemmas.{IsNarrowest, narrower, no-narrower, the-same}
-use Rattle.bilateral_match.proofs.PlaceLemmas.{length-passing}
+use Rattle.bilateral_match.proofs.NarrowLemmas.{some-of-all}
 use Rattle.bilateral_match.proofs.candidates.narrowest.Goals as goal
-use Rattle.bilateral_match.proofs.candidates.narrowest.Goals.{then-count-least, else-count-least}
 
-pub loop-test-preserved : goal.loop-test-preserved
-loop-test-preserved c =
-    let stock = stock_of c.args.store.now in
-    let tests = c.as_slice-test-items.result.now in
-    let i = c.loop-test.test-index in
-    let so_far : IsNarrowest stock.ads tests i c.loop-test.least c.loop-test.best = record {
-      least_is = c.loop-test.invariant.least;
-      one = c.loop-test.invariant.one;
-      left = c.loop-test.invariant.left;
-      all = c.loop-test.invariant.all;
-    } in
-    let leaves : c.count-count.result ≡ left_by stock.ads c.test-item.result =
-    c.count-count.ensures (rows_of stock) c.requires ∙ length-passing c.test-item.result stock.ads stock.slots (sym c.len-least.ensures.ads ∙ c.len-least.ensures.slots) in
-    let now : IsNarrowest stock.ads tests (i + 1) c.if-count-least.least c.if-count-least.best =
-    elim c.if-count-least.branch [
-      | then-count-least w ↦ the-same stock.ads tests (i + 1) c.if-count-least.least _ c.if-count-least.best _ w.least-is w.best-is
-          (narrower stock.ads tests i c.loop-test.least c.loop-test.best so_far c.loop-test-test.true c.test-item.result c.test-item.is c.count-count.result leaves w.if-count-least.true _ refl)
-      | else-count-least w ↦ the-same stock.ads tests (i + 1) c.if-count-least.least _ c.if-count-least.best _ w.least-is w.best-is
-          (no-narrower stock.ads tests i c.loop-test.least c.loop-test.best so_far c.loop-test-test.true c.test-item.result c.test-item.is c.count-count.result leaves w.if-count-least.false)
-    ] in
-    record { least = now.least_is; one = now.one; left = now.left; all = now.all }
+pub returns-then-is_some-clause-least : goal.returns-then-is_some-clause-least
+returns-then-is_some-clause-least c =
+    some-of-all _ (stock_of c.args.store.now).ads c.args.tests.now c.narrowest_within-found.result (omega (arith, c.if-most-all.true, c.len-all.ensures.ads)) c.narrowest_within-found.ensures.least c.narrowest_within-found.ensures.fewer

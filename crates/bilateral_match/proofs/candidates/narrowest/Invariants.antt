@@ -1,13 +1,6 @@
-use Rattle.std.proofs.Common.{◌≡◌, length, take, Contains, IfNone, IfSome}
+use Rattle.std.proofs.Common.{◌≡◌, length}
 use Rattle.ad_store.specs.Store.{stock_of}
-use Rattle.bilateral_match.specs.Counts.{least_left, left_by}
 use Rattle.bilateral_match.proofs.candidates.narrowest.Given as goal
 
--- the least among the tests so far
-abbrev pub invariant-loop-test : goal.invariant-loop-test
-invariant-loop-test l = record {
-  least : l.least ≡ least_left (stock_of l.store).ads (take l.test-index l.test-items);
-  one : IfSome l.best (λ test. Contains l.test-items test.now);
-  left : IfSome l.best (λ test. left_by (stock_of l.store).ads test.now ≡ l.least);
-  all : IfNone l.best (length (stock_of l.store).ads ≡ l.least);
-}
+abbrev pub invariant-loop-most : goal.invariant-loop-most
+invariant-loop-most l = l.all ≡ length (stock_of l.store).ads

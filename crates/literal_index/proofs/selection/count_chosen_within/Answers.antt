@@ -1,0 +1,11 @@
+use Rattle.std.proofs.Common.{◌∙◌, ap, is_gt}
+use Rattle.literal_index.specs.Entries.{place_order}
+use Rattle.literal_index.specs.Spans.{first_place}
+use Rattle.literal_index.proofs.SpanLemmas.{forward}
+use Rattle.literal_index.proofs.selection.count_chosen_within.Goals as goal
+
+pub range-requires : goal.range-requires
+range-requires c =
+    ap (λ p. is_gt (place_order p c.last.result)) c.first.ensures
+    ∙ ap (λ p. is_gt (place_order (first_place c.digest-name.result c.args.span) p)) c.last.ensures
+    ∙ forward c.digest-name.result c.args.span

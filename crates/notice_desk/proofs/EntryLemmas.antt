@@ -1,11 +1,11 @@
 -- The rows of entries: their names, and one entry that changes, comes or goes.
-use Rattle.std.proofs.Common.{◌≡◌, ℕ, ◌+◌, ◌<◌, ◌≤◌, ◌↔◌, true, false, List, [], ◌∷◌, ◌++◌, length, map, get_or, remove, slice_get, slice_set, Option, Some, None, IsNone, refl, sym, ◌∙◌, ap, subst, arith}
+use Rattle.std.proofs.Common.{◌≡◌, ◌≢◌, ℕ, ◌+◌, ◌<◌, ◌≤◌, ◌↔◌, true, false, List, [], ◌∷◌, ◌++◌, length, map, get_or, remove, slice_get, slice_set, Option, Some, None, IsNone, IsSome, IfNone, IfSome, IsTrue, is_some, refl, sym, ◌∙◌, ap, subst, arith}
 use Rattle.std.specs.List.{AllZip}
 use Rattle.std.proofs.Math.Seq.{map-set_same}
 use Rattle.std.proofs.lemmas.List.{length-map, map-append, map-set}
 use Rattle.std.proofs.lemmas.List.Quantifiers.{all_pairs_push, all_pairs_remove}
 use Rattle.std.proofs.lemmas.Option.{slice_get_within}
-use Rattle.notice_desk.specs.Desk.{Held, Row, Posts, RowPosts, box_under, failures_under, is_marked, names_of, retired, without}
+use Rattle.notice_desk.specs.Desk.{Held, Row, Posts, RowPosts, box_under, failures_under, is_marked, names_of, retired, told_by, without}
 use Rattle.notice_desk.specs.Names.{AreDistinct, IsAbsent}
 use Rattle.notice_desk.specs.Sight.{Sight, row_of, rows_of, entry_names}
 use Rattle.notice_desk.specs.declared.entry.Entry.{Entry}
@@ -13,7 +13,7 @@ use Rattle.notice_desk.specs.declared.notices.PostEnd.{PostEnd}
 use Rattle.notice_desk.specs.declared.notices.PostEnd.TheVariants.{NoBox}
 use Rattle.notice_desk.proofs.ListLemmas.{image-there, map-remove}
 use Rattle.notice_desk.proofs.RetireLemmas.{Retiring, names-retired, retiring-marked, retiring-unmarked}
-use Rattle.notice_desk.proofs.RowLemmas.{box-absent, box-there, failures-there, no_box_iff, posts-there, without-there}
+use Rattle.notice_desk.proofs.RowLemmas.{box-absent, box-there, failures-absent, failures-known, failures-there, no_box_iff, posts-absent, posts-there, without-absent, without-there}
 
 -- ---- names
 
@@ -63,7 +63,7 @@ distinct-retired see entries kept is apart =
 row-there : {X : Type 0} {F : X → Type 0} (see : Sight X F) (entries : List (Entry X F)) (i : ℕ) (entry d : Entry X F) → i < length entries → entry ≡ get_or entries i d → slice_get (rows_of see entries) i ≡ Some (row_of see entry)
 row-there see entries i entry d within is = image-there (row_of see) entries i entry d within is
 
-within_names : {X : Type 0} {F : X → Type 0} (entries : List (Entry X F)) (i : ℕ) (name : List ℕ) → slice_get (entry_names entries) i ≡ Some name → i < length entries
+pub within_names : {X : Type 0} {F : X → Type 0} (entries : List (Entry X F)) (i : ℕ) (name : List ℕ) → slice_get (entry_names entries) i ≡ Some name → i < length entries
 within_names entries i name at = omega (arith, slice_get_within (entry_names entries) i name at, length-names entries)
 
 named : {X : Type 0} {F : X → Type 0} (entries : List (Entry X F)) (i : ℕ) (name : List ℕ) (entry d : Entry X F) → slice_get (entry_names entries) i ≡ Some name → entry ≡ get_or entries i d → entry.name ≡ name
@@ -100,14 +100,42 @@ no_box-none see name entries absent =
     let P : Option Held → Type 0 = λ o. (NoBox ≡ NoBox) ↔ IsNone o in
     subst P (sym (box-absent name (rows_of see entries) (absent-rows see name entries absent))) (λ _. refl, λ _. refl)
 
+pub known-none : {X : Type 0} {F : X → Type 0} (see : Sight X F) (name : List ℕ) (entries : List (Entry X F)) → IsAbsent name (entry_names entries) → IsTrue false ↔ IsSome (failures_under name (rows_of see entries))
+known-none see name entries absent =
+    let P : Option ℕ → Type 0 = λ o. IsTrue false ↔ IsSome o in
+    subst P (sym (failures-absent name (rows_of see entries) (absent-rows see name entries absent))) (λ h. absurd (cc), λ h. absurd (cc))
+
+pub known-there : {X : Type 0} {F : X → Type 0} (see : Sight X F) (name : List ℕ) (entries : List (Entry X F)) (i : ℕ) (entry d : Entry X F) → slice_get (entry_names entries) i ≡ Some name → entry ≡ get_or entries i d → AreDistinct (entry_names entries) → IsTrue true ↔ IsSome (failures_under name (rows_of see entries))
+known-there see name entries i entry d at is apart =
+    let P : Option ℕ → Type 0 = λ o. IsTrue true ↔ IsSome o in
+    subst P (sym (failures-entry see name entries i entry d at is apart)) (λ _. refl, λ _. refl)
+
+-- ---- a search that found a name, or none
+
+pub known-found : {X : Type 0} {F : X → Type 0} (see : Sight X F) (name : List ℕ) (entries : List (Entry X F)) (found : Option ℕ) → IfSome found (λ i. slice_get (entry_names entries) i ≡ Some name) → is_some found ≡ true → IsTrue true ↔ IsSome (failures_under name (rows_of see entries))
+known-found see name entries None is is_so = absurd (cc)
+known-found see name entries (Some i) is is_so =
+    (λ _. failures-known name (rows_of see entries) i (ap (λ (ns : List (List ℕ)). slice_get ns i) (names_of-rows see entries) ∙ is), λ _. refl)
+
+pub known-absent : {X : Type 0} {F : X → Type 0} (see : Sight X F) (name : List ℕ) (entries : List (Entry X F)) (found : Option ℕ) → IfNone found (IsAbsent name (entry_names entries)) → is_some found ≡ false → IsTrue false ↔ IsSome (failures_under name (rows_of see entries))
+known-absent see name entries None absent isnt = known-none see name entries absent
+known-absent see name entries (Some i) absent isnt = absurd (cc)
+
+pub unknown : {X : Type 0} {F : X → Type 0} (see : Sight X F) (name : List ℕ) (entries : List (Entry X F)) (found : Option ℕ) → IfNone found (IsAbsent name (entry_names entries)) → is_some found ≡ false → ⊥ ↔ IsSome (failures_under name (rows_of see entries))
+unknown see name entries found absent isnt = let known = known-absent see name entries found absent isnt in (λ h. absurd h, λ h. let e = known.1 h in absurd (cc))
+
 -- ---- retiring
 
-pub retiring-entry-marked : {X : Type 0} {F : X → Type 0} (see : Sight X F) (start now : List (Entry X F)) (i count : ℕ) (old new d : Entry X F) → Retiring (rows_of see start) (rows_of see now) i count → i < length now → old ≡ get_or now i d → is_marked (row_of see old) ≡ true → row_of see new ≡ retired (row_of see old) → Retiring (rows_of see start) (rows_of see (slice_set now i new)) (i + 1) (count + 1)
-retiring-entry-marked see start now i count old new d so_far within is yes changed =
-    let P : List Row → Type 0 = λ rs. Retiring (rows_of see start) rs (i + 1) (count + 1) in
-    subst P (sym (map-set (row_of see) now i new)) (retiring-marked (rows_of see start) (rows_of see now) i count (row_of see old) (row_of see new) so_far (row-there see now i old d within is) changed yes)
+pub retiring-entry-marked : {X : Type 0} {F : X → Type 0} (see : Sight X F) (start now : List (Entry X F)) (i count after : ℕ) (old new d : Entry X F) → Retiring (rows_of see start) (rows_of see now) i count → i < length now → old ≡ get_or now i d → row_of see new ≡ retired (row_of see old) → is_marked (row_of see old) ≡ true → after ≡ count + 1 → Retiring (rows_of see start) (rows_of see (slice_set now i new)) (i + 1) after
+retiring-entry-marked see start now i count after old new d so_far within is changed is_so counted =
+    let P : List Row → Type 0 = λ rs. Retiring (rows_of see start) rs (i + 1) after in
+    let Q : ℕ → Type 0 = λ n. Retiring (rows_of see start) (slice_set (rows_of see now) i (row_of see new)) (i + 1) n in
+    subst P (sym (map-set (row_of see) now i new))
+      (subst Q (sym counted) (retiring-marked (rows_of see start) (rows_of see now) i count (row_of see old) (row_of see new) so_far (row-there see now i old d within is) changed is_so))
 
-pub retiring-entry-unmarked : {X : Type 0} {F : X → Type 0} (see : Sight X F) (start now : List (Entry X F)) (i count : ℕ) (old new d : Entry X F) → Retiring (rows_of see start) (rows_of see now) i count → i < length now → old ≡ get_or now i d → is_marked (row_of see old) ≡ false → row_of see new ≡ retired (row_of see old) → Retiring (rows_of see start) (rows_of see (slice_set now i new)) (i + 1) count
-retiring-entry-unmarked see start now i count old new d so_far within is no changed =
-    let P : List Row → Type 0 = λ rs. Retiring (rows_of see start) rs (i + 1) count in
-    subst P (sym (map-set (row_of see) now i new)) (retiring-unmarked (rows_of see start) (rows_of see now) i count (row_of see old) (row_of see new) so_far (row-there see now i old d within is) changed no)
+pub retiring-entry-unmarked : {X : Type 0} {F : X → Type 0} (see : Sight X F) (start now : List (Entry X F)) (i count after : ℕ) (old new d : Entry X F) → Retiring (rows_of see start) (rows_of see now) i count → i < length now → old ≡ get_or now i d → row_of see new ≡ retired (row_of see old) → is_marked (row_of see old) ≡ false → after ≡ count → Retiring (rows_of see start) (rows_of see (slice_set now i new)) (i + 1) after
+retiring-entry-unmarked see start now i count after old new d so_far within is changed isnt counted =
+    let P : List Row → Type 0 = λ rs. Retiring (rows_of see start) rs (i + 1) after in
+    let Q : ℕ → Type 0 = λ n. Retiring (rows_of see start) (slice_set (rows_of see now) i (row_of see new)) (i + 1) n in
+    subst P (sym (map-set (row_of see) now i new))
+      (subst Q (sym counted) (retiring-unmarked (rows_of see start) (rows_of see now) i count (row_of see old) (row_of see new) so_far (row-there see now i old d within is) changed isnt))

@@ -8,7 +8,7 @@ use Rattle.notice_desk.specs.Desk.{Row, is_marked, names_of, retired}
 -- the first rows are retired, the others stay, and the count is that of the marked ones among the first
 pub record Retiring (start now : List Row) (i count : ℕ) : Type 0 where
   pub rows : now ≡ map retired (take i start) ++ drop i start
-  pub count : count ≡ count_by is_marked (take i start)
+  pub counted : count ≡ count_by is_marked (take i start)
 
 -- the next row is still as it was
 next : (start : List Row) (i : ℕ) → slice_get (map retired (take i start) ++ drop i start) i ≡ slice_get start i
@@ -33,23 +33,23 @@ module _ (start now : List Row) (i count : ℕ) (old new : Row) (so_far : Retiri
       ∙ ap (λ n. map retired (take n start) ++ drop n start) (sym (add-one i))
 
   pub retiring-marked : is_marked old ≡ true → Retiring start (slice_set now i new) (i + 1) (count + 1)
-  retiring-marked yes = record {
+  retiring-marked is_so = record {
     rows = rows_more;
-    count = ap (λ n. n + 1) so_far.count ∙ sym (count_by_more_yes is_marked start i old (slice_get_within start i old there) (ap is_marked (get_or_from_slice_get start i old old there) ∙ yes));
+    counted = ap (λ n. n + 1) so_far.counted ∙ sym (count_by_more_yes is_marked start i old (slice_get_within start i old there) (ap is_marked (get_or_from_slice_get start i old old there) ∙ is_so));
   }
 
   pub retiring-unmarked : is_marked old ≡ false → Retiring start (slice_set now i new) (i + 1) count
-  retiring-unmarked no = record {
+  retiring-unmarked isnt = record {
     rows = rows_more;
-    count = so_far.count ∙ sym (count_by_more_no is_marked start i old (slice_get_within start i old there) (ap is_marked (get_or_from_slice_get start i old old there) ∙ no));
+    counted = so_far.counted ∙ sym (count_by_more_no is_marked start i old (slice_get_within start i old there) (ap is_marked (get_or_from_slice_get start i old old there) ∙ isnt));
   }
 
 pub retiring-count : (start now : List Row) (i count : ℕ) → Retiring start now i count → count ≤ i
-retiring-count start now i count so_far = omega (arith, so_far.count, count_by-le-length is_marked (take i start), length-take i start)
+retiring-count start now i count so_far = omega (arith, so_far.counted, count_by-le-length is_marked (take i start), length-take i start)
 
 pub retiring-end : (start now : List Row) (i count : ℕ) → Retiring start now i count → length start ≤ i → (count ≡ count_by is_marked start) × (now ≡ map retired start)
 retiring-end start now i count so_far all = (
-  so_far.count ∙ ap (λ rs. count_by is_marked rs) (take_all i start all),
+  so_far.counted ∙ ap (λ rs. count_by is_marked rs) (take_all i start all),
   so_far.rows ∙ ap (λ rs. map retired rs ++ drop i start) (take_all i start all) ∙ ap (λ rs. map retired start ++ rs) (drop_all i start all) ∙ append-nil (map retired start),
 )
 

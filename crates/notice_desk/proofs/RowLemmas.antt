@@ -1,5 +1,5 @@
 -- The rows of a desk at a name that is there, and at one that is absent.
-use Rattle.std.proofs.Common.{◌≡◌, ◌≢◌, ℕ, zero, suc, ◌↔◌, Bool, true, false, cond, not, List, [], ◌∷◌, map, slice_get, slice_set, remove, Option, None, Some, IsNone, bytes_eq, refl, sym, ◌∙◌, ap, subst}
+use Rattle.std.proofs.Common.{◌≡◌, ◌≢◌, ℕ, zero, suc, ◌↔◌, Bool, true, false, cond, not, List, [], ◌∷◌, map, slice_get, slice_set, remove, Option, None, Some, IsNone, IsSome, bytes_eq, is_some, true≢false, refl, sym, ◌∙◌, ap, subst}
 use Rattle.std.specs.List.{AllZip}
 use Rattle.std.proofs.lemmas.List.Elements.{All-head, All-tail}
 use Rattle.notice_desk.specs.Desk.{Held, Row, HeldPosts, RowPosts, Posts, box_under, failures_under, names_of, without}
@@ -38,6 +38,17 @@ module _ (name : List ℕ) where
   )
 
 -- ---- a name at a place
+
+-- a name that stands somewhere is known
+pub failures-known : (name : List ℕ) (rows : List Row) (i : ℕ) → slice_get (names_of rows) i ≡ Some name → IsSome (failures_under name rows)
+failures-known name [] i is = absurd (cc)
+failures-known name (row ∷ rows) i is = by (failures-known name rows) (bytes_eq row.name name) refl i is
+  where
+    by : ((j : ℕ) → slice_get (names_of rows) j ≡ Some name → IsSome (failures_under name rows)) → (b : Bool) → bytes_eq row.name name ≡ b
+        → (j : ℕ) → slice_get (names_of (row ∷ rows)) j ≡ Some name → is_some (cond b (Some row.failures) (failures_under name rows)) ≡ true
+    by rest true e j is = refl
+    by rest false e zero is = let same : row.name ≡ name = cc in absurd (true≢false (sym (same_name row.name name same) ∙ e))
+    by rest false e (suc j) is = rest j is
 
 module _ (name : List ℕ) (row : Row) (named : row.name ≡ name) where
   -- the row at the front has the name

@@ -52,10 +52,10 @@ distinct-remove {X = X} {F = F} entries left i is within apart =
     let names = ap (λ (es : List (Entry X F)). entry_names es) is ∙ map-remove (λ (e : Entry X F). e.name) entries i in
     subst P (sym names) (all_pairs_remove (λ a b. a ≢ b) (entry_names entries) i (omega (arith, length-names entries)) apart)
 
-pub distinct-retired : {X : Type 0} {F : X → Type 0} (see : Sight X F) (entries kept : List (Entry X F)) → rows_of see kept ≡ map retired (rows_of see entries) → AreDistinct (entry_names entries) → AreDistinct (entry_names kept)
-distinct-retired see entries kept is apart =
+pub distinct-retired : {X : Type 0} {F : X → Type 0} (see : Sight X F) (entries changed kept : List (Entry X F)) → kept ≡ changed → rows_of see changed ≡ map retired (rows_of see entries) → AreDistinct (entry_names entries) → AreDistinct (entry_names kept)
+distinct-retired {X = X} {F = F} see entries changed kept is rows apart =
     let P : List (List ℕ) → Type 0 = λ ns. AreDistinct ns in
-    let names = sym (names_of-rows see kept) ∙ ap names_of is ∙ names-retired (rows_of see entries) ∙ names_of-rows see entries in
+    let names = ap (λ (es : List (Entry X F)). entry_names es) is ∙ sym (names_of-rows see changed) ∙ ap names_of rows ∙ names-retired (rows_of see entries) ∙ names_of-rows see entries in
     subst P (sym names) apart
 
 -- ---- the entry of a name
@@ -86,7 +86,7 @@ pub posts-entry : {X : Type 0} {F : X → Type 0} (see : Sight X F) (name notice
 posts-entry see name notice end entries i old new d at is apart posts =
     let P : List Row → Type 0 = λ rs. AllZip (Posts name notice end) (rows_of see entries) rs in
     subst P (sym (map-set (row_of see) entries i new))
-      (posts-there name (row_of see old) (named entries i name old d at is) notice end (row_of see new) (rows_of see entries) i (row-there see entries i old d (within_names entries i name at) is) (distinct-rows see entries apart) posts)
+    (posts-there name (row_of see old) (named entries i name old d at is) notice end (row_of see new) (rows_of see entries) i (row-there see entries i old d (within_names entries i name at) is) (distinct-rows see entries apart) posts)
 
 pub no_box-entry : {X : Type 0} {F : X → Type 0} (see : Sight X F) (name notice : List ℕ) (end : PostEnd) (entries : List (Entry X F)) (i : ℕ) (old new d : Entry X F) → slice_get (entry_names entries) i ≡ Some name → old ≡ get_or entries i d → AreDistinct (entry_names entries) → RowPosts notice end (row_of see old) (row_of see new) → (end ≡ NoBox) ↔ IsNone (box_under name (rows_of see entries))
 no_box-entry see name notice end entries i old new d at is apart posts =
@@ -131,11 +131,11 @@ retiring-entry-marked see start now i count after old new d so_far within is cha
     let P : List Row → Type 0 = λ rs. Retiring (rows_of see start) rs (i + 1) after in
     let Q : ℕ → Type 0 = λ n. Retiring (rows_of see start) (slice_set (rows_of see now) i (row_of see new)) (i + 1) n in
     subst P (sym (map-set (row_of see) now i new))
-      (subst Q (sym counted) (retiring-marked (rows_of see start) (rows_of see now) i count (row_of see old) (row_of see new) so_far (row-there see now i old d within is) changed is_so))
+    (subst Q (sym counted) (retiring-marked (rows_of see start) (rows_of see now) i count (row_of see old) (row_of see new) so_far (row-there see now i old d within is) changed is_so))
 
 pub retiring-entry-unmarked : {X : Type 0} {F : X → Type 0} (see : Sight X F) (start now : List (Entry X F)) (i count after : ℕ) (old new d : Entry X F) → Retiring (rows_of see start) (rows_of see now) i count → i < length now → old ≡ get_or now i d → row_of see new ≡ retired (row_of see old) → is_marked (row_of see old) ≡ false → after ≡ count → Retiring (rows_of see start) (rows_of see (slice_set now i new)) (i + 1) after
 retiring-entry-unmarked see start now i count after old new d so_far within is changed isnt counted =
     let P : List Row → Type 0 = λ rs. Retiring (rows_of see start) rs (i + 1) after in
     let Q : ℕ → Type 0 = λ n. Retiring (rows_of see start) (slice_set (rows_of see now) i (row_of see new)) (i + 1) n in
     subst P (sym (map-set (row_of see) now i new))
-      (subst Q (sym counted) (retiring-unmarked (rows_of see start) (rows_of see now) i count (row_of see old) (row_of see new) so_far (row-there see now i old d within is) changed isnt))
+    (subst Q (sym counted) (retiring-unmarked (rows_of see start) (rows_of see now) i count (row_of see old) (row_of see new) so_far (row-there see now i old d within is) changed isnt))

@@ -1,7 +1,6 @@
 //! Mailboxes under names: boxes over memory and over files, and the desk that hands them notices.
 #![tactic(auto)]
 
-
 mod desk;
 mod entry;
 mod file_mailbox;
@@ -10,7 +9,6 @@ mod memory_mailbox;
 mod notices;
 #[cfg(test)]
 mod tests;
-
 
 pub use desk::{AddFault, Desk};
 pub use file_mailbox::FileMailbox;

@@ -41,11 +41,7 @@ impl Model for MemoryMailbox {
 
 impl MemoryMailbox {
     /// An empty box, with memory for `room` bytes taken here and none later.
-    pub fn new(
-        alloc: Global,
-        room: usize,
-        failing: Slots,
-    ) -> Result<MemoryMailbox, OutOfMemory>
+    pub fn new(alloc: Global, room: usize, failing: Slots) -> Result<MemoryMailbox, OutOfMemory>
         ensures { IfOk result (λ b. b ≡ record { taken = []; room = room; failing = failing; calls = 0; faults = 0 }) }
     {
         Ok(MemoryMailbox {

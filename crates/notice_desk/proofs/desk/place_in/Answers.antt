@@ -16,7 +16,7 @@ loop-i-preserved g c =
     let entry = c.index-entries-i.result in
     let is = name-there c.args.entries.now c.loop-i.i entry entry (omega (arith, c.loop-i-test.true)) c.index-entries-i.is in
     absent_more c.args.name.now (entry_names c.args.entries.now) c.loop-i.i entry.name is
-      (λ e. true≢false (sym (same_name entry.name c.args.name.now e) ∙ sym c.is_named.ensures ∙ c.if-is_named.false)) c.loop-i.invariant
+    (λ e. true≢false (sym (same_name entry.name c.args.name.now e) ∙ sym c.is_named.ensures ∙ c.if-is_named.false)) c.loop-i.invariant
 
 pub returns-clause-absent : goal.returns-clause-absent
 returns-clause-absent g c =

@@ -1,0 +1,5 @@
+mod EntryLemmas
+mod ListLemmas
+mod NameLemmas
+mod RetireLemmas
+pub mod RowLemmas

@@ -68,7 +68,8 @@ pub fn best<H: Holdings, F: Ledger, E: Ledger, T: Ledger>(
 // The slot of a member.
 fn slot_of(store: &Store, member: Option<Member>) -> Option<usize>
     requires { IfSome member (λ m. m.place < length (stock_of store.now).slots) }
-    ensures { result ≡ option_map (λ m. slice_index (stock_of store.now).slots m.place) member }
+    ensures slot { result ≡ option_map (λ m. slice_index (stock_of store.now).slots m.place) member }
+    ensures held { IfSome result (Contains (stock_of store.now).slots) }
 {
     let member = member?;
     Some(store.at(member.place))

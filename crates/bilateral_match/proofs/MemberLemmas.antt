@@ -35,6 +35,10 @@ not-before-itself a = by (is_lt (member_order a a)) refl
     by true e = member_weak.one_way a a e
     by false e = e
 
+-- four answers, of which the first that isn't a tie decides
+abbrev whole : Ordering → Ordering → Ordering → Ordering → Ordering
+whole r c s p = ordering_then (ordering_then (ordering_then r c) s) p
+
 -- two members of which neither is before the other are one
 ties-are-one : (a b : Member) → NotBefore b a → NotBefore a b → a ≡ b
 ties-are-one a b h k = by (int_cmp b.rank a.rank) (bool_cmp a.claimed b.claimed) (int_cmp b.regard a.regard) (nat_cmp a.place b.place) refl refl refl refl h (turned (member_order a b) (member_order b a) (member_total.antisymm b a) k)
@@ -54,9 +58,6 @@ ties-are-one a b h k = by (int_cmp b.rank a.rank) (bool_cmp a.claimed b.claimed)
         ∙ ap (λ (c : Bool). let m : Member = record { rank = b.rank; claimed = c; regard = a.regard; place = a.place } in m) claimed
         ∙ ap (λ (r : ℤ). let m : Member = record { rank = b.rank; claimed = b.claimed; regard = r; place = a.place } in m) (sym regards)
         ∙ ap (λ (p : ℕ). let m : Member = record { rank = b.rank; claimed = b.claimed; regard = b.regard; place = p } in m) places
-
-    abbrev whole : Ordering → Ordering → Ordering → Ordering → Ordering
-    whole r c s p = ordering_then (ordering_then (ordering_then r c) s) p
 
     by : (r c s p : Ordering) → int_cmp b.rank a.rank ≡ r → bool_cmp a.claimed b.claimed ≡ c → int_cmp b.regard a.regard ≡ s → nat_cmp a.place b.place ≡ p
         → is_lt (whole r c s p) ≡ false → (whole r c s p ≡ Greater → ⊥) → a ≡ b

@@ -74,7 +74,7 @@ pub fn no_other_member_comes_before_the_best(request: &Ad)
 pub fn more_offers_leave_no_more_members(request: &Ad)
     ensures none { (pool : Pool) (offered : ℕ → Bool) → ((slot : ℕ) → pool.is_offered slot ≡ true → offered slot ≡ true)
         → best pool (ad_frames request.now) ≡ None → best (record pool { is_offered = offered }) (ad_frames request.now) ≡ None }
-    ensures open { (pool : Pool) (offered : ℕ → Bool) → ((slot : ℕ) → pool.is_offered slot ≡ true → offered slot ≡ true)
+    ensures undecided { (pool : Pool) (offered : ℕ → Bool) → ((slot : ℕ) → pool.is_offered slot ≡ true → offered slot ≡ true)
         → open_count (record pool { is_offered = offered }) (ad_frames request.now) ≤ open_count pool (ad_frames request.now) }
     ensures entered { (pool : Pool) (offered : ℕ → Bool) → ((slot : ℕ) → pool.is_offered slot ≡ true → offered slot ≡ true)
         → entered_for (record pool { is_offered = offered }) (ad_frames request.now) ≤ entered_for pool (ad_frames request.now) }

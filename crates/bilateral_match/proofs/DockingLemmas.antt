@@ -3,7 +3,7 @@ use Rattle.std.proofs.Common.{◌≡◌, ◌<◌, ◌≤◌, ◌+◌, ℕ, zero,
 use Rattle.std.specs.List.{position_or_len}
 use Rattle.std.specs.Option.{option_map_or}
 use Rattle.std.proofs.lemmas.Bool.{eq-eqb, eqb-true}
-use Rattle.std.proofs.lemmas.List.{map_more, take_all}
+use Rattle.std.proofs.lemmas.List.{length-map, length-take-le, map_more, take_all}
 use Rattle.std.proofs.Math.Dec.{eqb}
 use Rattle.ad_tree.specs.Ad.{ad_frames}
 use Rattle.ad_tree.specs.Frames.{Frame}
@@ -46,6 +46,12 @@ module _ (moment : ℕ) (stock : Stock) (request : Request) where
       ∙ ap (λ (u : PlainWorld). with_docked u fs) so_far
       ∙ ap (λ (a : List Frame). with_docked (slots_world moment stock request (take i slots)) a) ad
       ∙ ap (λ (as : List (List Frame)). record { moment = moment; request = ad_frames request.ad; ports = request.ports; docked = as }) (sym (map_more (ad_in stock) slots i d within))
+
+  -- so many are docked
+  pub docked-few : (slots : List ℕ) (i : ℕ) (w : PlainWorld) → w ≡ slots_world moment stock request (take i slots) → i < length slots → length slots ≤ 8 → length w.docked < 8
+  docked-few slots i w so_far within few =
+      let long : length w.docked ≡ i = ap (λ (u : PlainWorld). length u.docked) so_far ∙ length-map (take i slots) (ad_in stock) ∙ length-take-le i slots (omega (arith, within)) in
+      omega (arith, long, within, few)
 
   pub dock-all : (slots : List ℕ) (i : ℕ) (w : PlainWorld) → length slots ≤ i → w ≡ slots_world moment stock request (take i slots) → w ≡ slots_world moment stock request slots
   dock-all slots i w past so_far = so_far ∙ ap (slots_world moment stock request) (take_all i slots past)

@@ -1,9 +1,10 @@
 -- What one resource is for a job, and what it takes to tell.
-use Rattle.std.proofs.Common.{◌≡◌, ◌≤◌, ◌+◌, ◌*◌, ℕ, ℤ, zero, suc, Bool, true, false, not, ◌&&◌, int_lt, refl, List, [], ◌∷◌, slice_get, slice_index, Option, None, Some, is_some, option_map, if◌then◌else◌, ap, sym, ◌∙◌, subst, arith, zero-le}
+use Rattle.std.proofs.Common.{◌≡◌, ◌<◌, ◌≤◌, ◌+◌, ◌*◌, ℕ, ℤ, zero, suc, Bool, true, false, not, ◌&&◌, int_lt, refl, List, [], ◌∷◌, slice_get, slice_index, length, All, Contains, IfSome, Option, None, Some, is_some, option_map, if◌then◌else◌, ap, sym, ◌∙◌, subst, arith, zero-le}
 use Rattle.std.specs.Option.{option_and_then, option_map_or}
 use Rattle.ad_tree.specs.Frames.{Frame}
-use Rattle.ad_store.specs.Holdings.{Holding}
-use Rattle.ad_store.specs.Stock.{Advert, is_live}
+use Rattle.ad_store.specs.declared.holdings.Held.{Held}
+use Rattle.ad_store.specs.Holdings.{Holding, holding_of}
+use Rattle.ad_store.specs.Stock.{Advert, Stock, is_live}
 use Rattle.eval_scope.specs.World.{attribute_count}
 use Rattle.conjunct_plan.specs.Decided.{is_dock_decided}
 use Rattle.bilateral_match.specs.declared.member.Member.{Member}
@@ -11,7 +12,7 @@ use Rattle.bilateral_match.specs.declared.member.Ranks.{Ranks}
 use Rattle.bilateral_match.specs.Counts.{attributes_weighed, is_open}
 use Rattle.bilateral_match.specs.Docks.{docks, is_undecided, pair_world, rank_of_dock}
 use Rattle.bilateral_match.specs.Members.{as_member, is_won, member_with, regard}
-use Rattle.bilateral_match.specs.Pool.{Pool, holder_regard, holder_world, slot_at}
+use Rattle.bilateral_match.specs.Pool.{AreStored, Pool, holder_regard, holder_world, slot_at}
 use Rattle.bilateral_match.specs.Scan.{ranks_of_dock}
 use Rattle.bilateral_match.proofs.ScanLemmas.{decided-docks}
 
@@ -33,7 +34,7 @@ module _ (moment : ℕ) (request ad : List Frame) where
   abbrev pub AreRanks : Ranks → Type 0
   AreRanks r = (docks moment request ad ≡ true) × (r.rank ≡ rank_of_dock moment request ad) × (r.regard ≡ regard moment request ad)
 
-  are-ranks : (r : Ranks) → ranks_of_dock moment request ad ≡ Some r → AreRanks r
+  pub are-ranks : (r : Ranks) → ranks_of_dock moment request ad ≡ Some r → AreRanks r
   are-ranks r e = by (docks moment request ad) e
     where
       by : (b : Bool) → (if b then Some (record { rank = rank_of_dock moment request ad; regard = regard moment request ad }) else None) ≡ Some r
@@ -188,3 +189,28 @@ module _ (pool : Pool) (request : List Frame) (place slot : ℕ) (at : slice_get
           let all = weighed a same open in
           let job = ap (λ (b : Bool). if b then job_attributes else 0) open in
           omega (arith, all, job)
+
+-- ---- the holder
+
+module _ (stock : Stock) (holding : ℕ → Option Holding) (slot : ℕ) where
+  -- what the holder holds is in the store
+  pub holder-stored : (holder : Option Held) → AreStored stock holding → option_map holding_of holder ≡ holding slot → IfSome holder (λ h. All (Contains stock.slots) h.slots.now)
+  holder-stored None stored who = tt
+  holder-stored (Some h) stored who = stored slot (holding_of h) (sym who)
+
+  pub holder-stands : (holder : Option Held) → IfSome holder (λ h. slice_get h.slots.now h.port ≡ Some slot) → IfSome holder (λ h. h.port < length h.slots.now)
+  holder-stands None stands = tt
+  holder-stands (Some h) stands = within h.slots.now h.port stands
+    where
+      within : (xs : List ℕ) (i : ℕ) → slice_get xs i ≡ Some slot → i < length xs
+      within [] i e = absurd (cc)
+      within (x ∷ xs) zero e = omega arith
+      within (x ∷ xs) (suc i) e = let rest = within xs i e in omega (arith, rest)
+
+-- the claim is won as the contract of the look at the holder says it
+pub won-by : (pool : Pool) (request : List Frame) (slot : ℕ) (ad : List Frame) (n : ℤ) (held : Option Holding) (won : Bool) → n ≡ regard pool.moment request ad → held ≡ pool.holding slot
+    → won ≡ option_map_or (λ h. int_lt (holder_regard pool.moment pool.stock h) n) held true → is_won pool request slot ad ≡ won
+won-by pool request slot ad n held won regards who is =
+    ap (λ (o : Option Holding). option_map_or (λ h. int_lt (holder_regard pool.moment pool.stock h) (regard pool.moment request ad)) o true) (sym who)
+    ∙ ap (λ (k : ℤ). option_map_or (λ h. int_lt (holder_regard pool.moment pool.stock h) k) held true) (sym regards)
+    ∙ sym is

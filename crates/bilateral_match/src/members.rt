@@ -43,15 +43,20 @@ pub fn member_at<H: Holdings, F: Ledger, E: Ledger, T: Ledger>(
     ensures looks { touch.new ≤ touch.old + 9 }
 {
     let slot = store.at(place);
-    if held.offered(slot) || !is_live(store, slot, moment) {
+    if held.offered(slot) {
+        return Ok(None);
+    }
+    if !is_live(store, slot, moment) {
         return Ok(None);
     }
     let ad = store.look(slot, touch);
-    let Some(ranks) = ranks(alloc, request, ad, moment, tops, entry)? else {
+    let met = ranks(alloc, request, ad, moment, tops, entry)?;
+    let Some(ranks) = met else {
         return Ok(None);
     };
     let holder = held.holder(slot);
-    if !is_won(alloc, store, holder, ranks.regard, moment, tops, entry, touch)? {
+    let won = is_won(alloc, store, holder, ranks.regard, moment, tops, entry, touch)?;
+    if !won {
         return Ok(None);
     }
     Ok(Some(Member {

@@ -1,15 +1,21 @@
 -- Docks with resources that are given by their slots.
-use Rattle.std.proofs.Common.{◌≡◌, ◌<◌, ◌≤◌, ◌+◌, ℕ, zero, suc, Bool, true, false, not, cond, refl, List, [], ◌∷◌, ◌++◌, map, take, get_or, length, slice_get, Option, None, Some, option_map, max, Contains, All, if◌then◌else◌, ap, sym, ◌∙◌, subst, arith}
+use Rattle.std.proofs.Common.{◌≡◌, ◌<◌, ◌≤◌, ◌+◌, ◌-◌, ℕ, zero, suc, Bool, true, false, not, cond, refl, List, [], ◌∷◌, ◌++◌, map, take, get_or, length, slice_get, Option, None, Some, option_map, unwrap_or, Contains, All, if◌then◌else◌, ap, sym, ◌∙◌, subst, arith}
 use Rattle.std.specs.List.{position_or_len}
 use Rattle.std.specs.Option.{option_map_or}
 use Rattle.std.proofs.lemmas.Bool.{eq-eqb, eqb-true}
+use Rattle.std.proofs.lemmas.List.Elements.{All-tail}
 use Rattle.std.proofs.lemmas.List.{length-map, length-take-le, map_more, take_all}
 use Rattle.std.proofs.Math.Dec.{eqb}
 use Rattle.ad_tree.specs.Ad.{ad_frames}
 use Rattle.ad_tree.specs.Frames.{Frame}
 use Rattle.ad_tree.specs.declared.request.Request.{Request}
 use Rattle.ad_store.specs.Stock.{Advert, Stock}
-use Rattle.eval_scope.specs.World.{PlainWorld, with_docked}
+use Rattle.ad_tree.specs.Requests.{ArePorts}
+use Rattle.ad_tree.specs.declared.request.Port.{Port}
+use Rattle.eval_scope.specs.World.{PlainWorld, port_frame, request_side, with_docked}
+use Rattle.conjunct_plan.specs.Decided.{is_dock_decided}
+use Rattle.conjunct_plan.specs.Tests.{labels_of}
+use Rattle.bilateral_match.specs.Docks.{is_last_decided, last_ad}
 use Rattle.bilateral_match.specs.Pool.{ad_in, slots_world}
 
 -- a number stands at its first place
@@ -45,7 +51,7 @@ module _ (moment : ℕ) (stock : Stock) (request : Request) where
       docked
       ∙ ap (λ (u : PlainWorld). with_docked u fs) so_far
       ∙ ap (λ (a : List Frame). with_docked (slots_world moment stock request (take i slots)) a) ad
-      ∙ ap (λ (as : List (List Frame)). record { moment = moment; request = ad_frames request.ad; ports = request.ports; docked = as }) (sym (map_more (ad_in stock) slots i d within))
+      ∙ ap (λ (ads : List (List Frame)). record { moment = moment; request = ad_frames request.ad; ports = request.ports; docked = ads }) (sym (map_more (ad_in stock) slots i d within))
 
   -- so many are docked
   pub docked-few : (slots : List ℕ) (i : ℕ) (w : PlainWorld) → w ≡ slots_world moment stock request (take i slots) → i < length slots → length slots ≤ 8 → length w.docked < 8
@@ -55,3 +61,48 @@ module _ (moment : ℕ) (stock : Stock) (request : Request) where
 
   pub dock-all : (slots : List ℕ) (i : ℕ) (w : PlainWorld) → length slots ≤ i → w ≡ slots_world moment stock request (take i slots) → w ≡ slots_world moment stock request slots
   dock-all slots i w past so_far = so_far ∙ ap (slots_world moment stock request) (take_all i slots past)
+
+-- ---- the last dock
+
+push-at : (xs : List (List Frame)) (x : List Frame) → slice_get (xs ++ x ∷ []) (length xs) ≡ Some x
+push-at [] x = refl
+push-at (y ∷ ys) x = push-at ys x
+
+-- the ad that was docked last
+last-docked : (w : PlainWorld) (fs : List Frame) → last_ad (with_docked w fs) ≡ fs
+last-docked w fs =
+    let long : length (w.docked ++ fs ∷ []) ≡ suc (length w.docked) = by w.docked in
+    ap (λ k. unwrap_or (slice_get (w.request ∷ w.docked ++ fs ∷ []) k) []) long
+    ∙ ap (λ o. unwrap_or o []) (push-at w.docked fs)
+  where
+    by : (xs : List (List Frame)) → length (xs ++ fs ∷ []) ≡ suc (length xs)
+    by [] = refl
+    by (x ∷ xs) = ap suc (by xs)
+
+module _ (moment : ℕ) (stock : Stock) (request : Request) (slots : List ℕ) (some : 0 < length slots) (last : ℕ) (is : last ≡ length slots - 1)
+    (w v : PlainWorld) (fs : List Frame) (before : w ≡ slots_world moment stock request (take last slots)) (ad : fs ≡ ad_in stock (get_or slots last 0)) (docked : v ≡ with_docked w fs) where
+  pub pair-world : v ≡ slots_world moment stock request slots
+  pair-world =
+      dock-next moment stock request slots last 0 w v fs (omega (arith, some, is)) before ad docked
+      ∙ ap (slots_world moment stock request) (take_all (last + 1) slots (omega (arith, some, is)))
+
+  -- the dock is decided as the contract of the tests says it
+  pub pair-decided : is_dock_decided (ad_frames request.ad) (request_side v).frame (labels_of request.ports) fs ≡ is_last_decided (slots_world moment stock request slots)
+  pair-decided =
+      let world = pair-world in
+      ap (λ (u : PlainWorld). is_dock_decided (ad_frames request.ad) (request_side u).frame (labels_of request.ports) fs) world
+      ∙ ap (is_dock_decided (ad_frames request.ad) (request_side (slots_world moment stock request slots)).frame (labels_of request.ports)) (sym (sym (ap last_ad world) ∙ ap last_ad docked ∙ last-docked w fs))
+
+-- what holds of all holds of each
+All-read : (P : Port → Type 0) (ports : List Port) (i : ℕ) (port : Port) → All P ports → slice_get ports i ≡ Some port → P port
+All-read P [] i port all e = absurd (cc)
+All-read P (first ∷ ports) zero port all e = let same : first ≡ port = cc in subst P same (all 0 first (omega arith))
+All-read P (first ∷ ports) (suc i) port all e = All-read P ports i port (All-tail P first ports all) e
+
+-- a request's frame at which a dock is, is one of its frames
+pub frame-there : (fs : List Frame) (ports : List Port) (k : ℕ) → ArePorts fs ports → 0 < length fs → port_frame ports k < length fs
+frame-there fs ports k are some = by (slice_get ports (k - 1)) refl
+  where
+    by : (o : Option Port) → slice_get ports (k - 1) ≡ o → unwrap_or (option_map (λ port. port.frame) o) 0 < length fs
+    by None e = some
+    by (Some port) e = All-read (λ (p : Port). p.frame < length fs) ports (k - 1) port are.within e

@@ -1,5 +1,5 @@
 -- Members in order: the first of them, whatever the order in which they come.
-use Rattle.std.proofs.Common.{◌≡◌, ◌<◌, ◌+◌, ℕ, Bool, true, false, refl, List, [], ◌∷◌, ◌++◌, cond, sum_by, Option, None, Some, if◌then◌else◌, All, Contains, ap, sym, ◌∙◌, subst, arith, zero-add, ℤ, Less, Equal, Greater}
+use Rattle.std.proofs.Common.{◌≡◌, ◌<◌, ◌+◌, ℕ, suc, Bool, true, false, refl, List, [], ◌∷◌, ◌++◌, cond, sum_by, Option, None, Some, if◌then◌else◌, All, Contains, ap, sym, ◌∙◌, subst, arith, zero-add, ℤ, Less, Equal, Greater}
 use Rattle.std.specs.Cmp.{IsTotalOrder, IsStrictWeakOrder, bool_cmp_total}
 use Rattle.std.specs.Ordering.{bool_cmp, int_cmp, is_lt, nat_cmp, ordering_reverse, ordering_then}
 use Rattle.std.specs.declared.cmp.Ordering.{Ordering}
@@ -112,7 +112,7 @@ first-front m ms (Some a) h = by (is_lt (member_order a m)) refl
 
     by : (b : Bool) → is_lt (member_order a m) ≡ b → IsBest (m ∷ ms) (if b then Some a else Some m)
     by true e = record {
-      among = (1 + h.among.0, (let within = h.among.1 in omega (arith, within)), h.among.2);
+      among = (suc h.among.0, (let within = h.among.1 in omega (arith, within)), h.among.2);
       none_before = All-cons (NotBefore a) m ms (later e) h.none_before;
     }
     by false e = record {
@@ -145,14 +145,13 @@ module _ (b : Member) where
 
   all-after : (ms : List Member) → sum_by before ms ≡ 0 → All (NotBefore b) ms
   all-after [] e = All-nil (NotBefore b)
-  all-after (o ∷ os) e = by (is_lt (member_order o b)) refl
+  all-after (o ∷ os) e =
+      let parts : before o + sum_by before os ≡ 0 = sym (sum_by-cons before o os) ∙ e in
+      by (is_lt (member_order o b)) refl parts (all-after os (omega (arith, parts)))
     where
-      parts : before o + sum_by before os ≡ 0
-      parts = sym (sum_by-cons before o os) ∙ e
-
-      by : (c : Bool) → is_lt (member_order o b) ≡ c → All (NotBefore b) (o ∷ os)
-      by true f = let one : before o ≡ 1 = ap (λ (c : Bool). cond c 1 0) f in absurd (omega (arith, parts, one))
-      by false f = All-cons (NotBefore b) o os f (all-after os (omega (arith, parts)))
+      by : (c : Bool) → is_lt (member_order o b) ≡ c → before o + sum_by before os ≡ 0 → All (NotBefore b) os → All (NotBefore b) (o ∷ os)
+      by true f parts rest = let one : before o ≡ 1 = ap (λ (c : Bool). cond c 1 0) f in absurd (omega (arith, parts, one))
+      by false f parts rest = All-cons (NotBefore b) o os f rest
 
   all-moved : (xs ys : List Member) → SameSums xs ys → All (NotBefore b) ys → All (NotBefore b) xs
   all-moved xs ys same h = all-after xs (same before ∙ none-before ys h)

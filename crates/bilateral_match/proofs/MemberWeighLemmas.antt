@@ -132,8 +132,8 @@ module _ (pool : Pool) (request : List Frame) (place slot : ℕ) (at : slice_get
 
     -- what it takes
     module _ (free : pool.is_offered slot ≡ false) where
-      is-open : (a : Advert) → a.ad ≡ fs → is_undecided request fs ≡ true → is_open pool request place a ≡ true
-      is-open a same open = both (is_undecided request a.ad) (pool.is_offered (slot_at pool place)) (ap (is_undecided request) same ∙ open) (ap pool.is_offered here ∙ free)
+      open-here : (a : Advert) → a.ad ≡ fs → is_undecided request fs ≡ true → is_open pool request place a ≡ true
+      open-here a same left = both (is_undecided request a.ad) (pool.is_offered (slot_at pool place)) (ap (is_undecided request) same ∙ left) (ap pool.is_offered here ∙ free)
         where
           both : (u off : Bool) → u ≡ true → off ≡ false → (u && not off) ≡ true
           both true false e f = refl
@@ -147,16 +147,16 @@ module _ (pool : Pool) (request : List Frame) (place slot : ℕ) (at : slice_get
         where
           by : (b : Bool) → is_undecided request fs ≡ b → a.ad ≡ fs → (if b then 4 else 0) ≤ (if is_open pool request place a then 5 else 0)
           by false e same = zero-le
-          by true e same = let five = ap (λ (b : Bool). if b then 5 else 0) (is-open a same e) in omega (arith, five)
+          by true e same = let five = ap (λ (b : Bool). if b then 5 else 0) (open-here a same e) in omega (arith, five)
 
       pub five-in-all : (o : Option Advert) (r : Ranks) → option_map (λ a. a.ad) o ≡ Some fs → Some r ≡ ranks_of_dock pool.moment request fs
           → (if is_undecided request fs then 4 else 0) + 1 ≤ option_map_or (λ a. if is_open pool request place a then 5 else 0) o 0
       five-in-all None r is ranks = absurd (cc)
       five-in-all (Some a) r is ranks =
           let same : a.ad ≡ fs = cc in
-          let open = docked-open pool.moment request fs (are-ranks pool.moment request fs r (sym ranks)).0 in
-          let five = ap (λ (b : Bool). if b then 5 else 0) (is-open a same open) in
-          let four = ap (λ (b : Bool). if b then 4 else 0) open in
+          let left = docked-open pool.moment request fs (are-ranks pool.moment request fs r (sym ranks)).0 in
+          let five = ap (λ (b : Bool). if b then 5 else 0) (open-here a same left) in
+          let four = ap (λ (b : Bool). if b then 4 else 0) left in
           omega (arith, five, four)
 
       abbrev job_attributes : ℕ
@@ -166,9 +166,9 @@ module _ (pool : Pool) (request : List Frame) (place slot : ℕ) (at : slice_get
       holder_attributes = option_map_or (λ h. attribute_count (holder_world pool.moment pool.stock h)) (pool.holding slot) 0
 
       weighed : (a : Advert) → a.ad ≡ fs → is_undecided request fs ≡ true → (if is_open pool request place a then attributes_weighed pool request place a else 0) ≡ job_attributes + holder_attributes
-      weighed a same open =
-          ap (λ (b : Bool). if b then attributes_weighed pool request place a else 0) (is-open a same open)
-          ∙ ap (λ (as : List Frame). 4 * attribute_count (pair_world pool.moment request as) + option_map_or (λ h. attribute_count (holder_world pool.moment pool.stock h)) (pool.holding (slot_at pool place)) 0) same
+      weighed a same left =
+          ap (λ (b : Bool). if b then attributes_weighed pool request place a else 0) (open-here a same left)
+          ∙ ap (λ (ad : List Frame). 4 * attribute_count (pair_world pool.moment request ad) + option_map_or (λ h. attribute_count (holder_world pool.moment pool.stock h)) (pool.holding (slot_at pool place)) 0) same
           ∙ ap (λ s. job_attributes + option_map_or (λ h. attribute_count (holder_world pool.moment pool.stock h)) (pool.holding s) 0) here
 
       pub attributes-of-dock : (o : Option Advert) → option_map (λ a. a.ad) o ≡ Some fs
@@ -185,9 +185,9 @@ module _ (pool : Pool) (request : List Frame) (place slot : ℕ) (at : slice_get
       attributes-in-all None r is ranks = absurd (cc)
       attributes-in-all (Some a) r is ranks =
           let same : a.ad ≡ fs = cc in
-          let open = docked-open pool.moment request fs (are-ranks pool.moment request fs r (sym ranks)).0 in
-          let all = weighed a same open in
-          let job = ap (λ (b : Bool). if b then job_attributes else 0) open in
+          let left = docked-open pool.moment request fs (are-ranks pool.moment request fs r (sym ranks)).0 in
+          let all = weighed a same left in
+          let job = ap (λ (b : Bool). if b then job_attributes else 0) left in
           omega (arith, all, job)
 
 -- ---- the holder

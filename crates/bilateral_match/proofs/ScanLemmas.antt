@@ -46,7 +46,7 @@ module _ {X Y : Type 0} (f : Y → ℕ) (h : X → Option Y) where
 module _ (passes : Advert → Bool) (h : ℕ → Advert → ℕ) (none : (k : ℕ) (a : Advert) → passes a ≡ false → h k a ≡ 0) (G : ℕ → ℕ) where
   -- the places of the ads that pass give the sum over all ads, where no other ad gives anything
   places-total : (k : ℕ) (ads : List Advert) → ((i : ℕ) (a : Advert) → slice_get ads i ≡ Some a → G (k + i) ≡ h (k + i) a) → sum_by G (places_where passes k ads) ≡ sum_from h k ads
-    places-total k [] at = refl
+  places-total k [] at = refl
   places-total k (a ∷ ads) at =
       by (places-total (suc k) ads (λ i b is. let same : k + suc i ≡ suc k + i = omega arith in let P : ℕ → Type 0 = λ n. G n ≡ h n b in subst P same (at (suc i) b is))) (passes a) refl
     where

@@ -61,7 +61,9 @@ pub fn best<H: Holdings, F: Ledger, E: Ledger, T: Ledger>(
         + 9 * least_left (stock_of store.now).ads (tests_of (ad_frames request.now.ad) 0 []) }
 {
     let places = candidates(alloc, store, index, request)?;
-    let first = first_at(alloc, store, held, request, moment, &places, tops, entry, touch)?;
+    let first = first_at(
+        alloc, store, held, request, moment, &places, tops, entry, touch,
+    )?;
     Ok(slot_of(store, first))
 }
 
@@ -97,7 +99,9 @@ fn first_at<H: Holdings, F: Ledger, E: Ledger, T: Ledger>(
 {
     let mut first = None;
     for place in places.as_slice() {
-        let next = member_at(alloc, store, held, request, moment, *place, tops, entry, touch)?;
+        let next = member_at(
+            alloc, store, held, request, moment, *place, tops, entry, touch,
+        )?;
         first = earlier(first, next);
     }
     Ok(first)

@@ -57,6 +57,7 @@ pub fn pair<F: Ledger, E: Ledger, T: Ledger>(
 }
 
 /// The world in which the resources in these slots are docked to a request. It counts one in `touch` for each.
+#[cycle(docking)]
 pub fn slots_world<'a, T: Ledger>(
     store: &'a Store,
     request: &'a Request,
@@ -69,11 +70,12 @@ pub fn slots_world<'a, T: Ledger>(
     ensures world { world_of result ≡ pool.slots_world moment (stock_of store.now) request.now slots.now }
     ensures looks { touch.new ≡ touch.old + length slots.now }
 {
-    let mut world = World::new(moment, &request.ad, &request.ports);
-    for slot in slots {
-        world.dock(store.look(*slot, touch));
+    if slots.is_empty() {
+        return World::new(moment, &request.ad, &request.ports);
     }
-    world
+    let last = slots.len() - 1;
+    let before = slots_world(store, request, &slots[..last], moment, touch);
+    before.with(store.look(slots[last], touch))
 }
 
 /// Whether a test of either side is decided against by the other, where the ad is docked to this frame of the request.

@@ -1,5 +1,5 @@
 //! What a request and single ads make of each other: the ads that a query finds, and the best resource for a job.
-// TACTIC
+#![tactic(auto)]
 
 mod candidates;
 mod choosing;
@@ -21,5 +21,5 @@ pub use laws::{
     a_decided_dock_is_never_true, answers_are_all_matches_in_order,
     more_offers_leave_no_more_members, no_other_member_comes_before_the_best,
 };
-pub use member::{Member, Ranks};
+pub use member::Member;
 pub use querying::query;

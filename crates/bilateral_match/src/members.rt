@@ -55,7 +55,16 @@ pub fn member_at<H: Holdings, F: Ledger, E: Ledger, T: Ledger>(
         return Ok(None);
     };
     let holder = held.holder(slot);
-    let won = is_won(alloc, store, holder, ranks.regard, moment, tops, entry, touch)?;
+    let won = is_won(
+        alloc,
+        store,
+        holder,
+        ranks.regard,
+        moment,
+        tops,
+        entry,
+        touch,
+    )?;
     if !won {
         return Ok(None);
     }
@@ -125,10 +134,10 @@ fn is_won<F: Ledger, E: Ledger, T: Ledger>(
     requires stored { IfSome holder (λ h. All (Contains (stock_of store.now).slots) h.slots.now) }
     requires stands { IfSome holder (λ h. h.port < length h.slots.now) }
     requires fills { IfSome holder (λ h. length h.slots.now ≡ max 1 (length h.request.now.ports)) }
-    ensures won { IfOk result (λ won. won ≡ option_map_or (λ h. int_lt (pool.holder_regard moment (stock_of store.now) h) regard) (option_map holding_of holder) true) }
+    ensures won { IfOk result (λ won. won ≡ option_map_or (λ h. int_lt (pool.holder_regard moment (stock_of store.now) h) regard) (option_map holding_of holder.entry) true) }
     ensures evaluations { tops.new ≤ tops.old + 1 }
     ensures entries { entry.new ≤ entry.old
-        + option_map_or (λ h. attribute_count (pool.holder_world moment (stock_of store.now) h)) (option_map holding_of holder) 0 }
+        + option_map_or (λ h. attribute_count (pool.holder_world moment (stock_of store.now) h)) (option_map holding_of holder.entry) 0 }
     ensures looks { touch.new ≤ touch.old + 8 }
 {
     let Some(holder) = holder else {

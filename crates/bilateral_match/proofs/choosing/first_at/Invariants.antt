@@ -9,7 +9,7 @@ use Rattle.bilateral_match.proofs.choosing.first_at.Given as goal
 
 abbrev pub invariant-loop-place : goal.invariant-loop-place
 invariant-loop-place g l =
-    let pool = pool_of l.moment (stock_of l.store) (g.H.is_offered l.held) (g.H.holding l.held) in
+    let pool = pool_of l.moment (stock_of l.store) (g.H.Holdings.is_offered l.held) (g.H.Holdings.holding l.held) in
     record {
       first : IsBest (filter_map (member_at pool (ad_frames l.request.ad)) (take l.place-index l.place-items)) l.first;
       evaluations : l.tops ≤ l.initial.tops + sum_by (evaluations_for pool (ad_frames l.request.ad)) (take l.place-index l.place-items);

@@ -1,32 +1,36 @@
 -- What one resource is for a job, and what it takes to tell.
-use Rattle.std.proofs.Common.{◌≡◌, ◌<◌, ◌≤◌, ◌+◌, ◌*◌, ℕ, ℤ, zero, suc, Bool, true, false, not, ◌&&◌, int_lt, refl, List, [], ◌∷◌, slice_get, slice_index, length, All, Contains, IfSome, Option, None, Some, is_some, option_map, if◌then◌else◌, ap, sym, ◌∙◌, subst, arith, zero-le}
+use Rattle.std.proofs.Common.{◌≡◌, ◌<◌, ◌≤◌, ◌+◌, ◌*◌, ℕ, ℤ, zero, suc, Bool, true, false, not, ◌&&◌, int_lt, refl, List, [], ◌∷◌, slice_get, slice_index, length, All, Contains, IfSome, Option, None, Some, is_some, option_map, if◌then◌else◌, ap, sym, ◌∙◌, subst, arith, add-one, take, zero-le}
 use Rattle.std.specs.Option.{option_and_then, option_map_or}
 use Rattle.ad_tree.specs.Frames.{Frame}
 use Rattle.ad_store.specs.declared.holdings.Held.{Held}
 use Rattle.ad_store.specs.Holdings.{Holding, holding_of}
 use Rattle.ad_store.specs.Stock.{Advert, Stock, is_live}
-use Rattle.eval_scope.specs.World.{attribute_count}
+use Rattle.eval_scope.specs.World.{PlainWorld, attribute_count, resource_side}
+use Rattle.ad_eval.specs.Dock.{rank_by}
 use Rattle.conjunct_plan.specs.Decided.{is_dock_decided}
 use Rattle.bilateral_match.specs.declared.member.Member.{Member}
 use Rattle.bilateral_match.specs.declared.member.Ranks.{Ranks}
 use Rattle.bilateral_match.specs.Counts.{attributes_weighed, is_open}
 use Rattle.bilateral_match.specs.Docks.{docks, is_undecided, pair_world, rank_of_dock}
 use Rattle.bilateral_match.specs.Members.{as_member, is_won, member_with, regard}
-use Rattle.bilateral_match.specs.Pool.{AreStored, Pool, holder_regard, holder_world, slot_at}
+use Rattle.bilateral_match.specs.Pool.{AreStored, Pool, holder_regard, holder_world, slot_at, slots_world}
 use Rattle.bilateral_match.specs.Scan.{ranks_of_dock}
 use Rattle.bilateral_match.proofs.ScanLemmas.{decided-docks}
 
 -- ---- the dock
 
 module _ (moment : ℕ) (request ad : List Frame) where
+  abbrev ranks-there : Ranks
+  ranks-there = record { rank = rank_of_dock moment request ad; regard = regard moment request ad }
+
   pub ranks-decided : is_dock_decided request 0 [] ad ≡ true → None ≡ ranks_of_dock moment request ad
   ranks-decided decided =
-      sym (ap (λ (b : Bool). if b then Some (record { rank = rank_of_dock moment request ad; regard = regard moment request ad }) else None) (decided-docks moment request ad (ap not decided)))
+      sym (ap (λ (b : Bool). if b then Some ranks-there else None) (decided-docks moment request ad (ap not decided)))
 
   none-docked : ranks_of_dock moment request ad ≡ None → docks moment request ad ≡ false
   none-docked e = by (docks moment request ad) e
     where
-      by : (b : Bool) → (if b then Some (record { rank = rank_of_dock moment request ad; regard = regard moment request ad }) else None) ≡ None → b ≡ false
+      by : (b : Bool) → (if b then Some ranks-there else None) ≡ None → b ≡ false
       by true e = absurd (cc)
       by false e = refl
 
@@ -37,9 +41,9 @@ module _ (moment : ℕ) (request ad : List Frame) where
   pub are-ranks : (r : Ranks) → ranks_of_dock moment request ad ≡ Some r → AreRanks r
   are-ranks r e = by (docks moment request ad) e
     where
-      by : (b : Bool) → (if b then Some (record { rank = rank_of_dock moment request ad; regard = regard moment request ad }) else None) ≡ Some r
+      by : (b : Bool) → (if b then Some ranks-there else None) ≡ Some r
           → (b ≡ true) × (r.rank ≡ rank_of_dock moment request ad) × (r.regard ≡ regard moment request ad)
-      by true e = let same : record { rank = rank_of_dock moment request ad; regard = regard moment request ad } ≡ r = cc in (refl, ap (λ (x : Ranks). x.rank) (sym same), ap (λ (x : Ranks). x.regard) (sym same))
+      by true e = let same : ranks-there ≡ r = cc in (refl, ap (λ (x : Ranks). x.rank) (sym same), ap (λ (x : Ranks). x.regard) (sym same))
       by false e = absurd (cc)
 
   docked-open : docks moment request ad ≡ true → is_undecided request ad ≡ true
@@ -114,7 +118,7 @@ module _ (pool : Pool) (request : List Frame) (place slot : ℕ) (at : slice_get
         let both = are-ranks pool.moment request fs r (sym ranks) in
         sym (by (is_live pool.moment a) (pool.is_offered (slot_at pool place)) (docks pool.moment request a.ad) (is_won pool request (slot_at pool place) a.ad)
         lives (ap pool.is_offered here ∙ free) (ap (docks pool.moment request) same ∙ both.0) (ap (λ s. is_won pool request s a.ad) here ∙ ap (is_won pool request slot) same ∙ won)
-        ∙ ap Some (parts (ap (rank_of_dock pool.moment request) same ∙ sym both.1.0) (ap (λ s. is_some (pool.holding s)) here) (ap (regard pool.moment request) same ∙ sym both.1.1)))
+        ∙ ap Some (parts (ap (rank_of_dock pool.moment request) same ∙ sym both.1) (ap (λ s. is_some (pool.holding s)) here) (ap (regard pool.moment request) same ∙ sym both.2)))
       where
         by : (live off docked won : Bool) → live ≡ true → off ≡ false → docked ≡ true → won ≡ true → (if live && (not off && (docked && won)) then Some (as_member pool request place a) else None) ≡ Some (as_member pool request place a)
         by true false true true e f g h = refl
@@ -147,7 +151,7 @@ module _ (pool : Pool) (request : List Frame) (place slot : ℕ) (at : slice_get
         where
           by : (b : Bool) → is_undecided request fs ≡ b → a.ad ≡ fs → (if b then 4 else 0) ≤ (if is_open pool request place a then 5 else 0)
           by false e same = zero-le
-          by true e same = let five = ap (λ (b : Bool). if b then 5 else 0) (open-here a same e) in omega (arith, five)
+          by true e same = let five = ap {B = ℕ} (λ (b : Bool). if b then 5 else 0) (open-here a same e) in omega (arith, five)
 
       pub five-in-all : (o : Option Advert) (r : Ranks) → option_map (λ a. a.ad) o ≡ Some fs → Some r ≡ ranks_of_dock pool.moment request fs
           → (if is_undecided request fs then 4 else 0) + 1 ≤ option_map_or (λ a. if is_open pool request place a then 5 else 0) o 0
@@ -155,8 +159,8 @@ module _ (pool : Pool) (request : List Frame) (place slot : ℕ) (at : slice_get
       five-in-all (Some a) r is ranks =
           let same : a.ad ≡ fs = cc in
           let left = docked-open pool.moment request fs (are-ranks pool.moment request fs r (sym ranks)).0 in
-          let five = ap (λ (b : Bool). if b then 5 else 0) (open-here a same left) in
-          let four = ap (λ (b : Bool). if b then 4 else 0) left in
+          let five = ap {B = ℕ} (λ (b : Bool). if b then 5 else 0) (open-here a same left) in
+          let four = ap {B = ℕ} (λ (b : Bool). if b then 4 else 0) left in
           omega (arith, five, four)
 
       abbrev job_attributes : ℕ
@@ -167,7 +171,7 @@ module _ (pool : Pool) (request : List Frame) (place slot : ℕ) (at : slice_get
 
       weighed : (a : Advert) → a.ad ≡ fs → is_undecided request fs ≡ true → (if is_open pool request place a then attributes_weighed pool request place a else 0) ≡ job_attributes + holder_attributes
       weighed a same left =
-          ap (λ (b : Bool). if b then attributes_weighed pool request place a else 0) (open-here a same left)
+          ap {B = ℕ} (λ (b : Bool). if b then attributes_weighed pool request place a else 0) (open-here a same left)
           ∙ ap (λ (ad : List Frame). 4 * attribute_count (pair_world pool.moment request ad) + option_map_or (λ h. attribute_count (holder_world pool.moment pool.stock h)) (pool.holding (slot_at pool place)) 0) same
           ∙ ap (λ s. job_attributes + option_map_or (λ h. attribute_count (holder_world pool.moment pool.stock h)) (pool.holding s) 0) here
 
@@ -187,7 +191,7 @@ module _ (pool : Pool) (request : List Frame) (place slot : ℕ) (at : slice_get
           let same : a.ad ≡ fs = cc in
           let left = docked-open pool.moment request fs (are-ranks pool.moment request fs r (sym ranks)).0 in
           let all = weighed a same left in
-          let job = ap (λ (b : Bool). if b then job_attributes else 0) left in
+          let job = ap {B = ℕ} (λ (b : Bool). if b then job_attributes else 0) left in
           omega (arith, all, job)
 
 -- ---- the holder
@@ -214,3 +218,15 @@ won-by pool request slot ad n held won regards who is =
     ap (λ (o : Option Holding). option_map_or (λ h. int_lt (holder_regard pool.moment pool.stock h) (regard pool.moment request ad)) o true) (sym who)
     ∙ ap (λ (k : ℤ). option_map_or (λ h. int_lt (holder_regard pool.moment pool.stock h) k) held true) (sym regards)
     ∙ sym is
+
+-- what holds of a value that is there holds of that value
+pub some-of : (holder : Option Held) (h : Held) (P : Held → Type 0) → holder ≡ Some h → IfSome holder P → P h
+some-of holder h P is all = let Q : Option Held → Type 0 = λ o. IfSome o P in subst Q is all
+
+-- the rank of the holder is that of the world up to its port
+pub rank-of-holder : (moment : ℕ) (stock : Stock) (holder : Option Held) (h : Held) (w : PlainWorld) (n k : ℤ) → holder ≡ Some h
+    → w ≡ slots_world moment stock h.request.now (take (h.port + 1) h.slots.now) → n ≡ rank_by w (resource_side w)
+    → int_lt n k ≡ option_map_or (λ g. int_lt (holder_regard moment stock g) k) (option_map holding_of holder) true
+rank-of-holder moment stock holder h w n k is world rank =
+    ap (λ m. int_lt m k) (rank ∙ ap (λ (u : PlainWorld). rank_by u (resource_side u)) (world ∙ ap (λ i. slots_world moment stock h.request.now (take i h.slots.now)) (add-one h.port)))
+    ∙ ap (λ o. option_map_or (λ g. int_lt (holder_regard moment stock g) k) (option_map holding_of o) true) (sym is)

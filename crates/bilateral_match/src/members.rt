@@ -145,5 +145,6 @@ fn is_won<F: Ledger, E: Ledger, T: Ledger>(
     };
     let upto = holder.port as usize + 1;
     let world = slots_world(store, holder.request, &holder.slots[..upto], moment, touch);
-    Ok(rank(alloc, &world, world.resource_place(), tops, entry)? < regard)
+    let given = rank(alloc, &world, world.resource_place(), tops, entry)?;
+    Ok(given < regard)
 }

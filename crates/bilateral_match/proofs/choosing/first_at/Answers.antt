@@ -27,7 +27,7 @@ loop-place-preserved g c =
     let request = ad_frames c.args.request.now.ad in
     record {
       first = first-grows (member_at pool request) c.as_slice-place-items.result.now c.loop-place.place-index
-          c.loop-place.first c.earlier.result c.in_ok-next.next c.loop-place-test.true c.loop-place.invariant.first c.in_ok-next.ensures.member c.earlier.ensures;
+          c.loop-place.first c.earlier-first.result c.in_ok-next.next c.loop-place-test.true c.loop-place.invariant.first c.in_ok-next.ensures.member c.earlier-first.ensures;
       evaluations = grows (evaluations_for pool request) c.as_slice-place-items.result.now c.args.places.now c.as_slice-place-items.ensures
           c.loop-place.place-index c.args.tops.now c.loop-place.tops c.member_at.new.tops c.loop-place.invariant.evaluations c.loop-place-test.true c.member_at.ensures.evaluations;
       entries = grows (attributes_for pool request) c.as_slice-place-items.result.now c.args.places.now c.as_slice-place-items.ensures

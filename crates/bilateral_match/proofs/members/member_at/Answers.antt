@@ -24,17 +24,13 @@ pub returns-in_err-met-clause-entries : goal.returns-in_err-met-clause-entries
 returns-in_err-met-clause-entries g c =
     omega (arith, c.ranks.ensures.entries, attributes-of-dock (pool_of c.args.moment (stock_of c.args.store.now) (g.H.Holdings.is_offered c.args.held.now) (g.H.Holdings.holding c.args.held.now)) (ad_frames c.args.request.now.ad) c.args.place c.at-slot.result c.at-slot.ensures.place (ad_frames c.look-ad.result.now) (sym c.offered.ensures ∙ c.if-offered.false) (slice_get (stock_of c.args.store.now).ads c.args.place) (c.look-ad.ensures.ad c.args.place c.at-slot.ensures.place))
 
-pub returns-in-None-clause-evaluations : goal.returns-in-None-clause-evaluations
-returns-in-None-clause-evaluations g c =
+pub returns-in_default-clause-evaluations : goal.returns-in_default-clause-evaluations
+returns-in_default-clause-evaluations g c =
     omega (arith, c.ranks.ensures.evaluations, four-of-five (pool_of c.args.moment (stock_of c.args.store.now) (g.H.Holdings.is_offered c.args.held.now) (g.H.Holdings.holding c.args.held.now)) (ad_frames c.args.request.now.ad) c.args.place c.at-slot.result c.at-slot.ensures.place (ad_frames c.look-ad.result.now) (sym c.offered.ensures ∙ c.if-offered.false) (slice_get (stock_of c.args.store.now).ads c.args.place) (c.look-ad.ensures.ad c.args.place c.at-slot.ensures.place))
 
-pub returns-in-None-clause-entries : goal.returns-in-None-clause-entries
-returns-in-None-clause-entries g c =
+pub returns-in_default-clause-entries : goal.returns-in_default-clause-entries
+returns-in_default-clause-entries g c =
     omega (arith, c.ranks.ensures.entries, attributes-of-dock (pool_of c.args.moment (stock_of c.args.store.now) (g.H.Holdings.is_offered c.args.held.now) (g.H.Holdings.holding c.args.held.now)) (ad_frames c.args.request.now.ad) c.args.place c.at-slot.result c.at-slot.ensures.place (ad_frames c.look-ad.result.now) (sym c.offered.ensures ∙ c.if-offered.false) (slice_get (stock_of c.args.store.now).ads c.args.place) (c.look-ad.ensures.ad c.args.place c.at-slot.ensures.place))
-
-pub returns-in-None-clause-member : goal.returns-in-None-clause-member
-returns-in-None-clause-member g c =
-    none-undocked (pool_of c.args.moment (stock_of c.args.store.now) (g.H.Holdings.is_offered c.args.held.now) (g.H.Holdings.holding c.args.held.now)) (ad_frames c.args.request.now.ad) c.args.place c.at-slot.result c.at-slot.ensures.place (ad_frames c.look-ad.result.now) (slice_get (stock_of c.args.store.now).ads c.args.place) (c.look-ad.ensures.ad c.args.place c.at-slot.ensures.place) (sym c.in-None.is ∙ c.in_ok-met.ensures.ranks)
 
 pub returns-in_err-won-clause-evaluations : goal.returns-in_err-won-clause-evaluations
 returns-in_err-won-clause-evaluations g c =
@@ -65,11 +61,11 @@ returns-clause-entries g c =
 
 pub returns-then-not-won-clause-member : goal.returns-then-not-won-clause-member
 returns-then-not-won-clause-member g c =
-    none-lost (pool_of c.args.moment (stock_of c.args.store.now) (g.H.Holdings.is_offered c.args.held.now) (g.H.Holdings.holding c.args.held.now)) (ad_frames c.args.request.now.ad) c.args.place c.at-slot.result c.at-slot.ensures.place (ad_frames c.look-ad.result.now) (slice_get (stock_of c.args.store.now).ads c.args.place) (c.look-ad.ensures.ad c.args.place c.at-slot.ensures.place) (won-by (pool_of c.args.moment (stock_of c.args.store.now) (g.H.Holdings.is_offered c.args.held.now) (g.H.Holdings.holding c.args.held.now)) (ad_frames c.args.request.now.ad) c.at-slot.result (ad_frames c.look-ad.result.now) c.in-Some.ranks.regard (option_map holding_of c.holder-holder.result) c.in_ok-won.won (are-ranks c.args.moment (ad_frames c.args.request.now.ad) (ad_frames c.look-ad.result.now) c.in-Some.ranks (sym (sym c.in-Some.is ∙ c.in_ok-met.ensures.ranks))).1.1 (c.holder-holder.ensures.who) c.in_ok-won.ensures.won ∙ c.if-not-won.true)
+    none-lost (pool_of c.args.moment (stock_of c.args.store.now) (g.H.Holdings.is_offered c.args.held.now) (g.H.Holdings.holding c.args.held.now)) (ad_frames c.args.request.now.ad) c.args.place c.at-slot.result c.at-slot.ensures.place (ad_frames c.look-ad.result.now) (slice_get (stock_of c.args.store.now).ads c.args.place) (c.look-ad.ensures.ad c.args.place c.at-slot.ensures.place) (won-by (pool_of c.args.moment (stock_of c.args.store.now) (g.H.Holdings.is_offered c.args.held.now) (g.H.Holdings.holding c.args.held.now)) (ad_frames c.args.request.now.ad) c.at-slot.result (ad_frames c.look-ad.result.now) c.in-Some.ranks.regard (option_map holding_of c.holder-holder.result) c.in_ok-won.won (are-ranks c.args.moment (ad_frames c.args.request.now.ad) (ad_frames c.look-ad.result.now) c.in-Some.ranks (sym (sym c.in-Some.is ∙ c.in_ok-met.ensures.ranks))).2 (c.holder-holder.ensures.who) c.in_ok-won.ensures.won ∙ c.if-not-won.true)
 
 pub returns-clause-member : goal.returns-clause-member
 returns-clause-member g c =
-    some-won (pool_of c.args.moment (stock_of c.args.store.now) (g.H.Holdings.is_offered c.args.held.now) (g.H.Holdings.holding c.args.held.now)) (ad_frames c.args.request.now.ad) c.args.place c.at-slot.result c.at-slot.ensures.place (ad_frames c.look-ad.result.now) (slice_get (stock_of c.args.store.now).ads c.args.place) c.in-Some.ranks (c.look-ad.ensures.ad c.args.place c.at-slot.ensures.place) (c.is_live.ensures c.args.place c.at-slot.ensures.place ∙ ap Some c.if-not-is_live.false) (sym c.offered.ensures ∙ c.if-offered.false) (sym c.in-Some.is ∙ c.in_ok-met.ensures.ranks) (won-by (pool_of c.args.moment (stock_of c.args.store.now) (g.H.Holdings.is_offered c.args.held.now) (g.H.Holdings.holding c.args.held.now)) (ad_frames c.args.request.now.ad) c.at-slot.result (ad_frames c.look-ad.result.now) c.in-Some.ranks.regard (option_map holding_of c.holder-holder.result) c.in_ok-won.won (are-ranks c.args.moment (ad_frames c.args.request.now.ad) (ad_frames c.look-ad.result.now) c.in-Some.ranks (sym (sym c.in-Some.is ∙ c.in_ok-met.ensures.ranks))).1.1 (c.holder-holder.ensures.who) c.in_ok-won.ensures.won ∙ c.if-not-won.false)
+    some-won (pool_of c.args.moment (stock_of c.args.store.now) (g.H.Holdings.is_offered c.args.held.now) (g.H.Holdings.holding c.args.held.now)) (ad_frames c.args.request.now.ad) c.args.place c.at-slot.result c.at-slot.ensures.place (ad_frames c.look-ad.result.now) (slice_get (stock_of c.args.store.now).ads c.args.place) c.in-Some.ranks (c.look-ad.ensures.ad c.args.place c.at-slot.ensures.place) (c.is_live.ensures c.args.place c.at-slot.ensures.place ∙ ap Some c.if-not-is_live.false) (sym c.offered.ensures ∙ c.if-offered.false) (sym c.in-Some.is ∙ c.in_ok-met.ensures.ranks) (won-by (pool_of c.args.moment (stock_of c.args.store.now) (g.H.Holdings.is_offered c.args.held.now) (g.H.Holdings.holding c.args.held.now)) (ad_frames c.args.request.now.ad) c.at-slot.result (ad_frames c.look-ad.result.now) c.in-Some.ranks.regard (option_map holding_of c.holder-holder.result) c.in_ok-won.won (are-ranks c.args.moment (ad_frames c.args.request.now.ad) (ad_frames c.look-ad.result.now) c.in-Some.ranks (sym (sym c.in-Some.is ∙ c.in_ok-met.ensures.ranks))).2 (c.holder-holder.ensures.who) c.in_ok-won.ensures.won ∙ c.if-not-won.false)
 
 pub is_won-requires-clause-stored : goal.is_won-requires-clause-stored
 is_won-requires-clause-stored g c =

@@ -1,4 +1,5 @@
-use Rattle.std.proofs.Common.{All, Contains, ◌+◌}
+use Rattle.std.proofs.Common.{All, Contains, ap, ◌+◌, ◌∙◌}
+use Rattle.ad_eval.specs.Dock.{rank_by}
 use Rattle.std.proofs.lemmas.List.Elements.{All-take}
 use Rattle.ad_store.specs.Store.{stock_of}
 use Rattle.eval_scope.specs.Shown.{world_of}
@@ -12,4 +13,4 @@ slots_world-world-requires-clause-stored g c =
 
 pub returns-clause-won : goal.returns-clause-won
 returns-clause-won g c =
-    rank-of-holder c.args.moment (stock_of c.args.store.now) c.args.holder c.in-Some.holder (world_of c.slots_world-world.result) c.in_ok-given.given c.args.regard c.in-Some.is c.slots_world-world.ensures.world c.in_ok-given.ensures.value
+    rank-of-holder c.args.moment (stock_of c.args.store.now) c.args.holder c.in-Some.holder (world_of c.slots_world-world.result) c.in_ok-given.given c.args.ranks.regard c.in-Some.is c.slots_world-world.ensures.world (c.in_ok-given.ensures.value ∙ ap (rank_by (world_of c.slots_world-world.result)) c.resource_place.ensures)

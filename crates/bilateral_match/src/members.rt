@@ -55,16 +55,7 @@ pub fn member_at<H: Holdings, F: Ledger, E: Ledger, T: Ledger>(
         return Ok(None);
     };
     let holder = held.holder(slot);
-    let won = is_won(
-        alloc,
-        store,
-        holder,
-        ranks.regard,
-        moment,
-        tops,
-        entry,
-        touch,
-    )?;
+    let won = is_won(alloc, store, holder, ranks, moment, tops, entry, touch)?;
     if !won {
         return Ok(None);
     }

@@ -7,7 +7,7 @@ use Rattle.bilateral_match.proofs.DockingLemmas.{ad-looked, pair-world}
 use Rattle.bilateral_match.proofs.docking.+docking.Goals as goal
 
 pub returns-clause-world : goal.returns-clause-world
-returns-clause-world g c = ?
+returns-clause-world g t c = ?
 
 pub slots_world-before-requires : goal.slots_world-before-requires
-slots_world-before-requires g c = ?
+slots_world-before-requires g t c κs within = ?

@@ -10,6 +10,8 @@ mod operands;
 mod outcome;
 mod reference;
 mod scene;
+#[cfg(test)]
+mod tests;
 mod top;
 
 pub use laws::{

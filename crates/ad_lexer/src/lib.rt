@@ -9,8 +9,6 @@ mod next;
 mod number;
 mod quoted;
 mod symbol;
-#[cfg(test)]
-mod tests;
 mod token;
 
 pub use fault::{LexFault, LexKind};

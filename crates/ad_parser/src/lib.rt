@@ -12,8 +12,6 @@ mod laws;
 mod mark;
 mod nesting;
 mod node;
-#[cfg(test)]
-mod notation;
 mod number;
 mod operators;
 mod parse;
@@ -22,8 +20,6 @@ mod quoted;
 mod reader;
 mod stop;
 mod symbol;
-#[cfg(test)]
-mod tests;
 mod whole;
 mod word;
 

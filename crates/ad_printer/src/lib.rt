@@ -5,8 +5,6 @@ mod laws;
 mod operators;
 mod printing;
 mod quoting;
-#[cfg(test)]
-mod tests;
 mod value;
 mod writing;
 

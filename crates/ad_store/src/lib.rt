@@ -5,8 +5,6 @@ mod answers;
 mod entry;
 mod holdings;
 mod store;
-#[cfg(test)]
-mod tests;
 
 pub use answers::{NoName, Put, PutFault};
 pub use holdings::{Held, Holdings};

@@ -9,8 +9,6 @@ mod order;
 mod phrase;
 mod placing;
 mod request;
-#[cfg(test)]
-mod tests;
 mod tree;
 
 pub use ad::Ad;

@@ -1,6 +1,6 @@
 // Laws of the definitions, each on a function that does nothing.
-ghost use Rattle.std.specs.Prelude.{◌≡◌, ◌↔◌, IsTrue, true};
-ghost use Rattle.ad_value.specs.Plain.{Plain, boolean, plain, text};
+ghost use Rattle.std.specs.Prelude.{◌≡◌, ◌↔◌, IsTrue, List, true};
+ghost use Rattle.ad_value.specs.Plain.{Plain, Plains, boolean, elements, plain, plains_of, text};
 ghost use Rattle.pool_text.specs.Folding.{folded};
 ghost use Rattle.ad_value.specs.Logic.{and_is_decided, and_value, mirrored, or_is_decided, or_value};
 ghost use Rattle.ad_value.specs.Operators.{binary_value, is_same};
@@ -38,4 +38,10 @@ pub fn is_is_equality(a: &Value, b: &Value, c: &Value)
 pub fn equal_texts_fold_alike(a: &[u8], b: &[u8])
     ensures { (binary_value BinOp.Equal (text a.now) (text b.now) ≡ boolean true)
         ↔ (folded a.now ≡ folded b.now) }
+{}
+
+/// A list value and its elements say the same: each is had from the other.
+pub fn elements_are_those_listed()
+    ensures listed { (items : List Plain) → elements (plains_of items) ≡ items }
+    ensures again { (items : Plains) → plains_of (elements items) ≡ items }
 {}

@@ -9,8 +9,6 @@ mod laws;
 mod literal;
 mod logic;
 mod operators;
-#[cfg(test)]
-mod tests;
 mod value;
 mod weighing;
 
@@ -18,7 +16,8 @@ pub use comparison::binary_of_literals;
 pub use copying::copy;
 pub use identity::same;
 pub use laws::{
-    equal_texts_fold_alike, is_is_equality, or_mirrors_and, undemanded_side_makes_no_difference,
+    elements_are_those_listed, equal_texts_fold_alike, is_is_equality, or_mirrors_and,
+    undemanded_side_makes_no_difference,
 };
 pub use literal::from_lit;
 pub use logic::{and_ends, and_step, or_ends, or_step};

@@ -5,8 +5,6 @@ mod candidates;
 mod hit;
 mod laws;
 mod querying;
-#[cfg(test)]
-mod tests;
 mod weighing;
 
 pub use hit::{Hit, Hits, Match};

@@ -10,8 +10,6 @@ mod laws;
 mod lists;
 mod rows;
 mod string_lists;
-#[cfg(test)]
-mod tests;
 mod texts;
 
 pub use calls::{call, known};

@@ -10,5 +10,3 @@ pub use answers::{Freed, FreedList, JobFault, JobState, NoJob, SubmitFault};
 pub use job::{Job, Standing};
 pub use table::ClaimTable;
 
-#[cfg(test)]
-mod tests;

@@ -12,8 +12,6 @@ mod line;
 mod message;
 mod replies;
 mod resource;
-#[cfg(test)]
-mod tests;
 mod wire;
 
 pub use customer::{Customer, Phase};

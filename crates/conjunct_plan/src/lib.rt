@@ -8,8 +8,6 @@ mod probe;
 mod ruling;
 mod side;
 mod test;
-#[cfg(test)]
-mod tests;
 
 pub use planning::plan;
 pub use ruling::{decided, rules_out};

@@ -2,7 +2,5 @@
 #![tactic(auto)]
 
 mod guard;
-#[cfg(test)]
-mod tests;
 
 pub use guard::{Guard, Seen};

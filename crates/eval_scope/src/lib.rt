@@ -3,8 +3,6 @@
 
 mod found;
 mod look;
-#[cfg(test)]
-mod tests;
 mod world;
 
 pub use found::Found;

@@ -8,7 +8,5 @@ mod index;
 mod place;
 mod selection;
 mod span;
-#[cfg(test)]
-mod tests;
 
 pub use index::Index;

@@ -9,8 +9,6 @@ mod pool;
 mod query;
 mod run;
 mod session;
-#[cfg(test)]
-mod tests;
 
 pub use laws::the_first_reply_is_offered_at_once;
 pub use pool::Pool;

@@ -5,8 +5,6 @@ mod cycle;
 mod refusal;
 mod reply;
 mod rows;
-#[cfg(test)]
-mod tests;
 mod writing;
 
 pub use refusal::{Refusal, Room};

@@ -9,8 +9,6 @@ mod names;
 mod parse;
 mod reader;
 mod script;
-#[cfg(test)]
-mod tests;
 
 pub use command::Command;
 pub use laws::{

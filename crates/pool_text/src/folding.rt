@@ -10,11 +10,8 @@ use std::cmp::Ordering;
 pub fn fold(alloc: Global, bytes: &[u8]) -> Result<Text, OutOfMemory>
     ensures { IfOk result (λ t. t ≡ folded bytes.now) }
 {
-    let mut text = Text::new(alloc);
-    for byte in bytes {
-        text.append(&[byte.to_ascii_lowercase()])?;
-    }
-    Ok(text)
+    let small = bytes.to_ascii_lowercase(alloc)?;
+    Text::from_bytes(alloc, &small)
 }
 
 /// Whether the bytes are equal after folding.

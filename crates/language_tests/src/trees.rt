@@ -1,0 +1,272 @@
+use ad_tree::*;
+use pool_text::{BinOp, Lit, OutOfMemory, Text, UnOp};
+use std::alloc::Global;
+use std::process::Abort;
+use std::test::Fail;
+
+#[derive(Clone, Copy)]
+enum Given {
+    Integer(i64),
+    Frame(u32),
+}
+
+use Given::{Frame, Integer};
+
+// An attribute that is to be defined, or to be found at this place.
+#[derive(Clone, Copy)]
+struct Definition {
+    frame: u32,
+    place: u32,
+    name: &'static [u8],
+    given: Given,
+}
+
+fn row(frame: u32, place: u32, name: &'static [u8], given: Given) -> Definition {
+    Definition {
+        frame,
+        place,
+        name,
+        given,
+    }
+}
+
+fn expression(given: Given) -> Expr {
+    match given {
+        Integer(n) => Expr::Literal(Lit::Integer(n)),
+        Frame(inner) => Expr::Frame(inner),
+    }
+}
+
+// A draft with frames of these parents, and with the rows defined one after another.
+fn draft_of(
+    rt: &impl Abort,
+    alloc: Global,
+    parents: &[u32],
+    rows: &[Definition],
+) -> Result<Draft, OutOfMemory> {
+    let mut draft = Draft::new(alloc);
+    for parent in parents {
+        assert!(rt; (*parent as usize) < draft.count());
+        draft.frame(*parent)?;
+    }
+    for row in rows {
+        assert!(rt; (row.frame as usize) < draft.count());
+        let name = Text::from_bytes(alloc, row.name)?;
+        draft.define(row.frame, name, expression(row.given))?;
+    }
+    Ok(draft)
+}
+
+fn assert_row(rt: &impl Abort, ad: &Ad, row: &Definition) {
+    assert!(rt; row.frame < ad.frames());
+    assert!(rt; row.place < ad.count(row.frame));
+    assert_eq!(rt; ad.name(row.frame, row.place).bytes(), row.name);
+    assert_eq!(rt; ad.position(row.frame, row.name), Some(row.place));
+    match (ad.expr(row.frame, row.place), row.given) {
+        (Expr::Literal(Lit::Integer(n)), Integer(expected)) => assert_eq!(rt; *n, expected),
+        (Expr::Frame(inner), Frame(expected)) => assert_eq!(rt; *inner, expected),
+        _ => assert!(rt; false),
+    }
+}
+
+// The ad has these frames: the parent and the number of attributes of each, and the rows.
+fn assert_ad(rt: &impl Abort, ad: &Ad, frames: &[(Option<u32>, u32)], rows: &[Definition]) {
+    assert_eq!(rt; ad.frames() as usize, frames.len());
+    let mut frame = 0;
+    for (parent, count) in frames {
+        assert!(rt; frame < ad.frames());
+        assert_eq!(rt; ad.parent(frame), *parent);
+        assert_eq!(rt; ad.count(frame), *count);
+        assert_eq!(rt; ad.position(frame, b"absent"), None);
+        frame += 1;
+    }
+    for row in rows {
+        assert_row(rt, ad, row);
+    }
+}
+
+// [ Machine = [ Disk = [ Size = 7 ] ]; Owner = [ Name = 8 ] ], with the frames made in another order
+#[test]
+fn frames_are_numbered_by_brackets(rt: HostRuntime) -> Result<(), Fail> {
+    let definitions = [
+        row(0, 0, b"Machine", Frame(2)),
+        row(0, 1, b"Owner", Frame(1)),
+        row(2, 0, b"Disk", Frame(3)),
+        row(3, 0, b"Size", Integer(7)),
+        row(1, 0, b"Name", Integer(8)),
+    ];
+    let found = [
+        row(0, 0, b"Machine", Frame(1)),
+        row(0, 1, b"Owner", Frame(3)),
+        row(1, 0, b"Disk", Frame(2)),
+        row(2, 0, b"Size", Integer(7)),
+        row(3, 0, b"Name", Integer(8)),
+    ];
+    let ad = draft_of(&rt, rt.alloc(), &[0, 0, 2], &definitions)?.finish()?;
+    assert_ad(
+        &rt,
+        &ad,
+        &[(None, 2), (Some(0), 1), (Some(1), 1), (Some(0), 1)],
+        &found,
+    );
+    Ok(())
+}
+
+// [ a = [ x = [ ]; X = 1 ]; b = [ Y = [ ]; y = [ z = 2 ] ]; A = 3 ]
+#[test]
+fn repeated_names_replace_what_stood_there(rt: HostRuntime) -> Result<(), Fail> {
+    let definitions = [
+        row(1, 0, b"x", Frame(2)),
+        row(1, 0, b"X", Integer(1)),
+        row(0, 0, b"a", Frame(1)),
+        row(3, 0, b"Y", Frame(4)),
+        row(5, 0, b"z", Integer(2)),
+        row(3, 0, b"y", Frame(5)),
+        row(0, 1, b"b", Frame(3)),
+        row(0, 0, b"A", Integer(3)),
+    ];
+    let found = [
+        row(0, 0, b"A", Integer(3)),
+        row(0, 1, b"b", Frame(1)),
+        row(1, 0, b"y", Frame(2)),
+        row(2, 0, b"z", Integer(2)),
+    ];
+    let ad = draft_of(&rt, rt.alloc(), &[0, 1, 0, 3, 3], &definitions)?.finish()?;
+    assert_ad(&rt, &ad, &[(None, 2), (Some(0), 1), (Some(1), 1)], &found);
+    assert!(rt; ad.frames() > 0);
+    assert_eq!(rt; ad.position(0, b"B"), Some(1));
+    Ok(())
+}
+
+// [ s = [ ] ] in a draft whose root has a definition, and with a frame that nothing cites
+#[test]
+fn phrases_have_an_empty_root(rt: HostRuntime) -> Result<(), Fail> {
+    let definitions = [row(0, 0, b"r", Integer(2)), row(2, 0, b"s", Frame(3))];
+    let draft = draft_of(&rt, rt.alloc(), &[0, 0, 2], &definitions)?;
+    let phrase = draft.finish_phrase(Expr::Frame(2))?;
+    let frames = [(None, 0), (Some(0), 1), (Some(1), 0)];
+    assert_ad(&rt, &phrase.ad, &frames, &[row(1, 0, b"s", Frame(2))]);
+    Ok(())
+}
+
+// The same where the frames are numbered already.
+#[test]
+fn phrases_in_order_have_an_empty_root(rt: HostRuntime) -> Result<(), Fail> {
+    let definitions = [row(0, 0, b"r", Integer(2)), row(1, 0, b"s", Frame(2))];
+    let draft = draft_of(&rt, rt.alloc(), &[0, 1], &definitions)?;
+    let phrase = draft.finish_phrase(Expr::Frame(1))?;
+    let frames = [(None, 0), (Some(0), 1), (Some(1), 0)];
+    assert_ad(&rt, &phrase.ad, &frames, &[row(1, 0, b"s", Frame(2))]);
+    assert!(rt; matches!(phrase.expr, Expr::Frame(1)));
+    Ok(())
+}
+
+#[test]
+fn high_trees_are_walked_and_dropped(rt: HostRuntime) -> Result<(), Fail> {
+    let mut draft = Draft::new(rt.alloc());
+    for outer in 0..63 {
+        assert!(rt; (outer as usize) < draft.count());
+        let inner = draft.frame(outer)?;
+        let name = Text::from_bytes(rt.alloc(), b"inner")?;
+        assert!(rt; (outer as usize) < draft.count());
+        draft.define(outer, name, Expr::Frame(inner))?;
+    }
+    let mut expr = Expr::Literal(Lit::Integer(1));
+    for _ in 0..63 {
+        let operand = Box::new(rt.alloc(), expr)?;
+        expr = Expr::Unary(UnOp::Not, operand);
+    }
+    assert!(rt; 63 < draft.count());
+    draft.define(63, Text::from_bytes(rt.alloc(), b"high")?, expr)?;
+    let ad = draft.finish()?;
+    assert_eq!(rt; ad.frames(), 64);
+    assert_eq!(rt; ad.position(63, b"HIGH"), Some(0));
+    Ok(())
+}
+
+// f([ ], MY.n), where the ad literal is frame 2
+fn call(alloc: Global) -> Result<Expr, OutOfMemory> {
+    let mut items = Exprs::new(alloc);
+    items.push(Expr::Frame(2))?;
+    let name = Text::from_bytes(alloc, b"n")?;
+    items.push(Expr::Name(Scope::My, name))?;
+    let name = Text::from_bytes(alloc, b"f")?;
+    Ok(Expr::Call(name, items))
+}
+
+fn assert_call(rt: &impl Abort, expr: &Expr) {
+    match expr {
+        Expr::Call(name, items) => {
+            assert_eq!(rt; name.bytes(), b"f".as_slice());
+            assert_eq!(rt; items.len(), 2);
+            assert!(rt; matches!(items.at(0), Expr::Frame(1)));
+            assert!(rt; matches!(items.at(1), Expr::Name(Scope::My, _)));
+        }
+        _ => assert!(rt; false),
+    }
+}
+
+// f([ ], MY.n) is [ ]
+#[test]
+fn expressions_are_kept(rt: HostRuntime) -> Result<(), Fail> {
+    let draft = draft_of(&rt, rt.alloc(), &[0, 0], &[])?;
+    let first = Box::new(rt.alloc(), call(rt.alloc())?)?;
+    let second = Box::new(rt.alloc(), Expr::Frame(1))?;
+    let phrase = draft.finish_phrase(Expr::Binary(BinOp::Same, first, second))?;
+    assert_eq!(rt; phrase.ad.frames(), 3);
+    match &phrase.expr {
+        Expr::Binary(BinOp::Same, first, second) => {
+            assert_call(&rt, first);
+            assert!(rt; matches!(&**second, Expr::Frame(2)));
+        }
+        _ => assert!(rt; false),
+    }
+    Ok(())
+}
+
+#[test]
+fn long_names_are_found(rt: HostRuntime) -> Result<(), Fail> {
+    let definitions = [
+        row(0, 0, &[b'x'; 64], Integer(1)),
+        row(0, 1, &[b'x'; 65], Integer(2)),
+    ];
+    let ad = draft_of(&rt, rt.alloc(), &[], &definitions)?.finish()?;
+    assert_ad(&rt, &ad, &[(None, 2)], &definitions);
+    assert!(rt; ad.frames() > 0);
+    assert_eq!(rt; ad.position(0, &[b'X'; 65]), Some(1));
+    assert_eq!(rt; ad.position(0, &[b'X'; 66]), None);
+    Ok(())
+}
+
+#[test]
+fn frames_with_room_take_definitions(rt: HostRuntime) -> Result<(), Fail> {
+    let mut draft = Draft::new(rt.alloc());
+    let frame = draft.frame(0)?;
+    draft.define(0, Text::from_bytes(rt.alloc(), b"a")?, Expr::Frame(frame))?;
+    draft.reserve(frame, 2)?;
+    for n in 0..3 {
+        assert!(rt; (frame as usize) < draft.count());
+        let name = Text::from_bytes(rt.alloc(), &[b'a', n])?;
+        draft.define(frame, name, expression(Integer(i64::from(n))))?;
+    }
+    let found = [
+        row(1, 0, &[b'a', 0], Integer(0)),
+        row(1, 1, &[b'a', 1], Integer(1)),
+        row(1, 2, &[b'a', 2], Integer(2)),
+    ];
+    assert_ad(&rt, &draft.finish()?, &[(None, 1), (Some(0), 3)], &found);
+    Ok(())
+}
+
+#[test]
+fn ports_stand_in_their_order(rt: HostRuntime) -> Result<(), Fail> {
+    let mut ports = Ports::new(rt.alloc());
+    for frame in [2, 1] {
+        let label = Text::from_bytes(rt.alloc(), b"cpu")?;
+        ports.push(Port { label, frame })?;
+    }
+    assert_eq!(rt; ports.len(), 2);
+    assert_eq!(rt; ports.at(0).frame, 2);
+    assert_eq!(rt; ports.at(1).frame, 1);
+    Ok(())
+}

@@ -9,4 +9,3 @@ mod table;
 pub use answers::{Freed, FreedList, JobFault, JobState, NoJob, SubmitFault};
 pub use job::{Job, Standing};
 pub use table::ClaimTable;
-

@@ -1,6 +1,6 @@
 // Rows of the table, worked by hand from the rules.
-use builtin_funcs::*;
 use ad_value::{Value, Values, same};
+use builtin_funcs::*;
 use pool_text::{AdPlace, Text};
 use std::alloc::Global;
 use std::test::Fail;

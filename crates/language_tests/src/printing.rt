@@ -6,8 +6,8 @@ ghost use Rattle.ad_tree.specs.Tree.{tree};
 ghost use Rattle.ad_printer.specs.Printed.{printed};
 ghost use Rattle.ad_printer.specs.Values.{printed_frame};
 
-use ad_printer::{print_ad, print_expr, print_value};
 use ad_parser::{ParseFault, parse_ad, parse_expr};
+use ad_printer::{print_ad, print_expr, print_value};
 use ad_tree::{Ad, Phrase};
 use ad_value::{Value, Values};
 use pool_text::{AdPlace, OutOfMemory, Text};

@@ -3,9 +3,9 @@ ghost use Rattle.std.specs.Prelude.{◌≡◌, [], ◌∷◌, IfOk, length};
 ghost use Rattle.claim_table.specs.Table.{jobs_of};
 ghost use Rattle.claim_table.specs.declared.job.Standing.{Standing};
 
-use claim_table::*;
 use ad_store::Holdings;
 use ad_tree::{Draft, Port, Ports, Request};
+use claim_table::*;
 use pool_text::{OutOfMemory, Slots, Text};
 use std::alloc::Global;
 use std::convert::AsSlice;

@@ -1,5 +1,5 @@
-use cycle_guard::{Guard, Seen};
 use ad_value::Value;
+use cycle_guard::{Guard, Seen};
 use pool_text::{OutOfMemory, Pos};
 use std::test::Fail;
 

@@ -1,7 +1,7 @@
 // Hits of an index, worked out by hand.
-use literal_index::*;
 use ad_tree::{Ad, Draft, Expr};
 use conjunct_plan::Test;
+use literal_index::*;
 use pool_text::{BinOp, Lit, OutOfMemory, Text};
 use std::alloc::Global;
 use std::convert::AsSlice;

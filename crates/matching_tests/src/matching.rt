@@ -4,9 +4,9 @@ ghost use Rattle.ad_store.specs.Store.{stock_of};
 ghost use Rattle.literal_index.specs.Shown.{IsIndex};
 ghost use Rattle.bilateral_match.specs.Rows.{rows_of};
 
-use bilateral_match::*;
 use ad_store::Store;
 use ad_tree::{Ad, Draft, Expr, Ports, Request, Scope};
+use bilateral_match::*;
 use literal_index::Index;
 use pool_steps::Steps;
 use pool_text::{BinOp, Lit, OutOfMemory, Text};

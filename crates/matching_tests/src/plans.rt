@@ -1,6 +1,6 @@
 // Tests and what decides them, worked out by hand.
-use conjunct_plan::*;
 use ad_tree::{Ad, Draft, Expr, Exprs, Ports, Scope};
+use conjunct_plan::*;
 use pool_text::{BinOp, Lit, OutOfMemory, Text};
 use std::alloc::Global;
 use std::test::Fail;

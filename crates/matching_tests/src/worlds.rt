@@ -2,8 +2,8 @@
 ghost use Rattle.std.specs.Prelude.{◌≡◌, ◌<◌, ◌≤◌, length};
 ghost use Rattle.ad_tree.specs.Draft.{draft_frames};
 
-use eval_scope::{Found, World};
 use ad_tree::{Ad, Draft, Expr, Port, Ports, Scope};
+use eval_scope::{Found, World};
 use pool_text::{AdPlace, Lit, OutOfMemory, Text};
 use std::alloc::Global;
 use std::test::Fail;

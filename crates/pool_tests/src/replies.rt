@@ -1,9 +1,9 @@
 // Replies and refusals with their text.
 #![tactic(auto, unfolding(pool_replies::specs::Replies::is_printable, pool_replies::specs::Refusals::is_printable_refusal))]
 
-use pool_replies::*;
 use ad_lexer::LexKind;
 use ad_parser::ParseFault;
+use pool_replies::*;
 use pool_text::{Items, Names, OutOfMemory, Text};
 use std::alloc::Global;
 use std::test::Fail;

@@ -102,48 +102,164 @@ fn finds(
     Ok(())
 }
 
+/// The operators of tests.
+const OPERATORS: [BinOp; 8] = [
+    BinOp::Equal,
+    BinOp::Unequal,
+    BinOp::Same,
+    BinOp::NotSame,
+    BinOp::Less,
+    BinOp::AtMost,
+    BinOp::Greater,
+    BinOp::AtLeast,
+];
+
+/// A literal, by its kind.
+#[derive(Clone, Copy)]
+enum Given {
+    Undefined,
+    Error,
+    Boolean(bool),
+    Integer(i64),
+    Bytes(&'static [u8]),
+}
+
+impl Given {
+    fn lit(self, alloc: Global) -> Result<Lit, OutOfMemory> {
+        match self {
+            Given::Undefined => Ok(Lit::Undefined),
+            Given::Error => Ok(Lit::Error),
+            Given::Boolean(b) => Ok(Lit::Boolean(b)),
+            Given::Integer(n) => Ok(Lit::Integer(n)),
+            Given::Bytes(bytes) => string(alloc, bytes),
+        }
+    }
+}
+
+/// For each literal and each operator, the slots that `A op literal` finds, and those that `literal op A` finds.
+const TABLES: [(Given, [(&[usize], &[usize]); 8]); 6] = [
+    (
+        Given::Integer(1),
+        [
+            (&[1, 2, 8], &[1, 2, 8]),
+            (&[3, 8, 10], &[3, 8, 10]),
+            (&[1, 8], &[1, 8]),
+            (
+                &[2, 3, 4, 5, 6, 7, 8, 9, 10, 11],
+                &[2, 3, 4, 5, 6, 7, 8, 9, 10, 11],
+            ),
+            (&[8, 10], &[3, 8]),
+            (&[1, 2, 8, 10], &[1, 2, 3, 8]),
+            (&[3, 8], &[8, 10]),
+            (&[1, 2, 3, 8], &[1, 2, 8, 10]),
+        ],
+    ),
+    (
+        Given::Boolean(true),
+        [
+            (&[1, 2, 8], &[1, 2, 8]),
+            (&[3, 8, 10], &[3, 8, 10]),
+            (&[2, 8], &[2, 8]),
+            (
+                &[1, 3, 4, 5, 6, 7, 8, 9, 10, 11],
+                &[1, 3, 4, 5, 6, 7, 8, 9, 10, 11],
+            ),
+            (&[8, 10], &[3, 8]),
+            (&[1, 2, 8, 10], &[1, 2, 3, 8]),
+            (&[3, 8], &[8, 10]),
+            (&[1, 2, 3, 8], &[1, 2, 8, 10]),
+        ],
+    ),
+    (
+        Given::Boolean(false),
+        [
+            (&[8, 10], &[8, 10]),
+            (&[1, 2, 3, 8], &[1, 2, 3, 8]),
+            (&[8, 10], &[8, 10]),
+            (
+                &[1, 2, 3, 4, 5, 6, 7, 8, 9, 11],
+                &[1, 2, 3, 4, 5, 6, 7, 8, 9, 11],
+            ),
+            (&[8], &[1, 2, 3, 8]),
+            (&[8, 10], &[1, 2, 3, 8, 10]),
+            (&[1, 2, 3, 8], &[8]),
+            (&[1, 2, 3, 8, 10], &[8, 10]),
+        ],
+    ),
+    (
+        Given::Bytes(b"INTEL"),
+        [
+            (&[4, 5, 8], &[4, 5, 8]),
+            (&[8, 11], &[8, 11]),
+            (&[8], &[8]),
+            (
+                &[1, 2, 3, 4, 5, 6, 7, 8, 9, 10, 11],
+                &[1, 2, 3, 4, 5, 6, 7, 8, 9, 10, 11],
+            ),
+            (&[8, 11], &[8]),
+            (&[4, 5, 8, 11], &[4, 5, 8]),
+            (&[8], &[8, 11]),
+            (&[4, 5, 8], &[4, 5, 8, 11]),
+        ],
+    ),
+    (
+        Given::Undefined,
+        [
+            (&[8], &[8]),
+            (&[8], &[8]),
+            (&[6, 8, 9], &[6, 8, 9]),
+            (
+                &[1, 2, 3, 4, 5, 7, 8, 10, 11],
+                &[1, 2, 3, 4, 5, 7, 8, 10, 11],
+            ),
+            (&[8], &[8]),
+            (&[8], &[8]),
+            (&[8], &[8]),
+            (&[8], &[8]),
+        ],
+    ),
+    (
+        Given::Error,
+        [
+            (&[8], &[8]),
+            (&[8], &[8]),
+            (&[7, 8], &[7, 8]),
+            (
+                &[1, 2, 3, 4, 5, 6, 8, 9, 10, 11],
+                &[1, 2, 3, 4, 5, 6, 8, 9, 10, 11],
+            ),
+            (&[8], &[8]),
+            (&[8], &[8]),
+            (&[8], &[8]),
+            (&[8], &[8]),
+        ],
+    ),
+];
+
+// What one literal finds with each operator, on either side.
+fn finds_by_table(
+    rt: &impl Abort,
+    alloc: Global,
+    index: &Index,
+    given: Given,
+    rows: &[(&[usize], &[usize]); 8],
+) -> Result<(), OutOfMemory> {
+    for (i, op) in OPERATORS.iter().enumerate() {
+        let (left, right) = rows[i];
+        let behind = comparison(alloc, b"a", *op, given.lit(alloc)?, true)?;
+        finds(rt, index, &behind, left)?;
+        let before = comparison(alloc, b"A", *op, given.lit(alloc)?, false)?;
+        finds(rt, index, &before, right)?;
+    }
+    Ok(())
+}
+
 #[test]
 fn literals_are_found_by_the_tables(rt: HostRuntime) -> Result<(), Fail> {
     let alloc = rt.alloc();
     let index = machines(alloc)?;
-    // `A op 1`, or `1 op A`
-    let numbers: [(BinOp, bool, &[usize]); 16] = [
-        (BinOp::Equal, true, &[1, 2, 8]),
-        (BinOp::Equal, false, &[1, 2, 8]),
-        (BinOp::Unequal, true, &[3, 8, 10]),
-        (BinOp::Unequal, false, &[3, 8, 10]),
-        (BinOp::Same, true, &[1, 8]),
-        (BinOp::Same, false, &[1, 8]),
-        (BinOp::NotSame, true, &[2, 3, 4, 5, 6, 7, 8, 9, 10, 11]),
-        (BinOp::NotSame, false, &[2, 3, 4, 5, 6, 7, 8, 9, 10, 11]),
-        (BinOp::Less, true, &[8, 10]),
-        (BinOp::Less, false, &[3, 8]),
-        (BinOp::AtMost, true, &[1, 2, 8, 10]),
-        (BinOp::AtMost, false, &[1, 2, 3, 8]),
-        (BinOp::Greater, true, &[3, 8]),
-        (BinOp::Greater, false, &[8, 10]),
-        (BinOp::AtLeast, true, &[1, 2, 3, 8]),
-        (BinOp::AtLeast, false, &[1, 2, 8, 10]),
-    ];
-    for (op, attr_left, expected) in numbers {
-        let test = comparison(alloc, b"a", op, Lit::Integer(1), attr_left)?;
-        finds(&rt, &index, &test, expected)?;
-    }
-    // `A op "INTEL"`, or `"INTEL" op A`
-    let texts: [(BinOp, bool, &[usize]); 9] = [
-        (BinOp::Equal, true, &[4, 5, 8]),
-        (BinOp::Unequal, false, &[8, 11]),
-        (BinOp::Same, true, &[8]),
-        (BinOp::NotSame, false, &[1, 2, 3, 4, 5, 6, 7, 8, 9, 10, 11]),
-        (BinOp::Less, true, &[8, 11]),
-        (BinOp::Less, false, &[8]),
-        (BinOp::AtMost, true, &[4, 5, 8, 11]),
-        (BinOp::Greater, false, &[8, 11]),
-        (BinOp::AtLeast, true, &[4, 5, 8]),
-    ];
-    for (op, attr_left, expected) in texts {
-        let test = comparison(alloc, b"A", op, string(alloc, b"INTEL")?, attr_left)?;
-        finds(&rt, &index, &test, expected)?;
+    for (given, rows) in TABLES {
+        finds_by_table(&rt, alloc, &index, given, &rows)?;
     }
     Ok(())
 }
@@ -158,17 +274,6 @@ fn words_are_found_by_the_tables(rt: HostRuntime) -> Result<(), Fail> {
     finds(&rt, &index, &test, &[2, 8])?;
     let exact = comparison(alloc, b"A", BinOp::Same, string(alloc, b"Intel")?, true)?;
     finds(&rt, &index, &exact, &[4, 8])?;
-    let wanted = comparison(alloc, b"A", BinOp::Equal, Lit::Boolean(true), true)?;
-    finds(&rt, &index, &wanted, &[1, 2, 8])?;
-    // An absent attribute counts as Undefined.
-    let undefined = comparison(alloc, b"A", BinOp::Same, Lit::Undefined, true)?;
-    finds(&rt, &index, &undefined, &[6, 8, 9])?;
-    let defined = comparison(alloc, b"A", BinOp::NotSame, Lit::Undefined, false)?;
-    finds(&rt, &index, &defined, &[1, 2, 3, 4, 5, 7, 8, 10, 11])?;
-    let equal = comparison(alloc, b"A", BinOp::Equal, Lit::Undefined, true)?;
-    finds(&rt, &index, &equal, &[8])?;
-    let failed = comparison(alloc, b"A", BinOp::Same, Lit::Error, true)?;
-    finds(&rt, &index, &failed, &[7, 8])?;
     let absent = comparison(alloc, b"C", BinOp::Equal, Lit::Integer(1), true)?;
     finds(&rt, &index, &absent, &[])?;
     Ok(())

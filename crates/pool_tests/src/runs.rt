@@ -24,7 +24,7 @@ fn calls(alloc: Global, number: usize) -> Result<Slots, OutOfMemory> {
 }
 
 // How a run ends over a source and a sink that take so many bytes a call and fail at one call each, and what was written.
-fn run(
+pub(crate) fn run(
     alloc: Global,
     script: &[u8],
     most: (usize, usize),

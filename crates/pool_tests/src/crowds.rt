@@ -1,0 +1,108 @@
+// Pools with as many ads, as much text and as many faults as there may be.
+#![tactic(auto, unfolding(pool_script::specs::Form::is_within_form))]
+
+use crate::runs::run;
+use pool_engine::RunEnd;
+use pool_text::{OutOfMemory, Text, append_count};
+use std::alloc::Global;
+use std::test::Fail;
+
+// Ads `m0`, `m1` and so on, where that of number i has the attribute `A` with the last three digits of i behind it, which is i.
+fn machines(alloc: Global, count: u64) -> Result<Text, OutOfMemory> {
+    let mut script = Text::new(alloc);
+    for i in 0..count {
+        script.append(b"advertise m")?;
+        append_count(&mut script, i)?;
+        script.append(b" 600\n[ A")?;
+        append_count(&mut script, i % 1000)?;
+        script.append(b" = ")?;
+        append_count(&mut script, i)?;
+        script.append(b"; Requirements = true ]\n.\n")?;
+    }
+    Ok(script)
+}
+
+#[test]
+fn ten_thousand_ads_of_a_thousand_names(rt: HostRuntime) -> Result<(), Fail> {
+    let alloc = rt.alloc();
+    let mut script = machines(alloc, 10_000)?;
+    script.append(b"query\n[ Requirements = TARGET.A7 >= 5007; Rank = TARGET.A7 ]\n.\n")?;
+    script.append(b"query\n[ Requirements = TARGET.A12 == 12 || TARGET.A999 is 9999 ]\n.\n")?;
+    script.append(
+        b"advertise one_more 600\n[ ]\n.\nwithdraw m7\nadvertise one_more 600\n[ ]\n.\nclock 600\n",
+    )?;
+    let ended = run(alloc, script.bytes(), (4096, 4096), 0, 0)?;
+    assert!(rt; ended.0 == RunEnd::Done { refused: 1 });
+    assert!(rt;
+        ended.1.bytes().ends_with(
+            b"advertised m9999\nhits 5\nm9007 9007\nm8007 8007\nm7007 7007\nm6007 6007\nm5007 5007\nhits 2\nm12 0\nm9999 0\nrefused 10 too many ads\nwithdrawn m7\nadvertised one_more\nclock 600 expired 10000\n"
+        )
+    );
+    Ok(())
+}
+
+// The text of an ad with no attributes that is as long as a block may be.
+fn longest_block(alloc: Global) -> Result<Text, OutOfMemory> {
+    let mut block = Text::from_bytes(alloc, b"[")?;
+    for _ in 0..4095 {
+        block.append(b"                ")?;
+    }
+    block.append(b"             ]\n")?;
+    Ok(block)
+}
+
+// So many ads of that text.
+fn long_texts(alloc: Global, count: u64) -> Result<Text, OutOfMemory> {
+    let block = longest_block(alloc)?;
+    let mut script = Text::new(alloc);
+    for i in 0..count {
+        script.append(b"advertise m")?;
+        append_count(&mut script, i)?;
+        script.append(b" 600\n")?;
+        script.append(block.bytes())?;
+        script.append(b".\n")?;
+    }
+    Ok(script)
+}
+
+#[test]
+fn ads_have_32_mebibytes_of_text_together(rt: HostRuntime) -> Result<(), Fail> {
+    let alloc = rt.alloc();
+    let mut script = long_texts(alloc, 512)?;
+    script.append(
+        b"advertise one_more 600\n[]\n.\nadvertise m0 600\n[]\n.\nadvertise one_more 600\n[]\n.\n",
+    )?;
+    let ended = run(alloc, script.bytes(), (65536, 4096), 0, 0)?;
+    assert!(rt; ended.0 == RunEnd::Done { refused: 1 });
+    assert!(rt;
+        ended.1.bytes().ends_with(
+            b"advertised m511\nrefused 10 too much ad text\nreplaced m0\nadvertised one_more\n"
+        )
+    );
+    Ok(())
+}
+
+/// A script with each command that reads or changes the pool, and its replies.
+const ALL: &[u8] =
+    b"advertise a 9\n[ X = 1; Requirements = true ]\n.\nshow a\nlist\neval 1 + 1\nevalin a X\nquery\n[ Requirements = TARGET.X == 1 ]\n.\nwithdraw a\nclock 5\nfly\n";
+
+const ALL_REPLIES: &[u8] =
+    b"advertised a\n[ X = 1; Requirements = true ]\nads 1\na 0 9 free\n2\n1\nhits 1\na 0\nwithdrawn a\nclock 5 expired 0\nrefused 2 unknown command\n";
+
+#[test]
+fn each_read_and_each_write_may_fail_among_all_commands(rt: HostRuntime) -> Result<(), Fail> {
+    let alloc = rt.alloc();
+    let whole = run(alloc, ALL, (16, 16), 0, 0)?;
+    assert_eq!(rt; whole.1.bytes(), ALL_REPLIES);
+    for call in 1..=ALL.len() / 16 + 1 {
+        let ended = run(alloc, ALL, (16, 16), call, 0)?;
+        assert!(rt; ended.0 == RunEnd::ReadFault);
+        assert!(rt; ALL_REPLIES.starts_with(ended.1.bytes()));
+    }
+    for call in 1..=ALL_REPLIES.len() / 16 + 1 {
+        let ended = run(alloc, ALL, (16, 16), 0, call)?;
+        assert!(rt; ended.0 == RunEnd::WriteFault);
+        assert!(rt; ALL_REPLIES.starts_with(ended.1.bytes()));
+    }
+    Ok(())
+}

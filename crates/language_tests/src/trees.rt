@@ -1,3 +1,7 @@
+// Drafts, and the ads that they make.
+ghost use Rattle.std.specs.Prelude.{◌≡◌, length};
+ghost use Rattle.ad_tree.specs.Draft.{draft_frames};
+
 use ad_tree::*;
 use pool_text::{BinOp, Lit, OutOfMemory, Text, UnOp};
 use std::alloc::Global;
@@ -37,6 +41,46 @@ fn expression(given: Given) -> Expr {
     }
 }
 
+// A draft with the number of its frames.
+#[derive(Drop)]
+struct Counted {
+    draft: Draft,
+    frames: usize,
+    ghost counted: { frames ≡ length (draft_frames draft) },
+}
+
+impl Counted {
+    fn new(alloc: Global) -> Counted {
+        Counted {
+            draft: Draft::new(alloc),
+            frames: 1,
+        }
+    }
+
+    fn frame(&mut self, rt: &impl Abort, parent: u32) -> Result<u32, OutOfMemory> {
+        assert!(rt; (parent as usize) < self.frames);
+        let frame = self.draft.frame(parent)?;
+        self.frames = frame as usize + 1;
+        Ok(frame)
+    }
+
+    fn reserve(&mut self, rt: &impl Abort, frame: u32, more: usize) -> Result<(), OutOfMemory> {
+        assert!(rt; (frame as usize) < self.frames);
+        self.draft.reserve(frame, more)
+    }
+
+    fn define(
+        &mut self,
+        rt: &impl Abort,
+        frame: u32,
+        name: Text,
+        expr: Expr,
+    ) -> Result<(), OutOfMemory> {
+        assert!(rt; (frame as usize) < self.frames);
+        self.draft.define(frame, name, expr)
+    }
+}
+
 // A draft with frames of these parents, and with the rows defined one after another.
 fn draft_of(
     rt: &impl Abort,
@@ -44,17 +88,15 @@ fn draft_of(
     parents: &[u32],
     rows: &[Definition],
 ) -> Result<Draft, OutOfMemory> {
-    let mut draft = Draft::new(alloc);
+    let mut counted = Counted::new(alloc);
     for parent in parents {
-        assert!(rt; (*parent as usize) < draft.count());
-        draft.frame(*parent)?;
+        counted.frame(rt, *parent)?;
     }
     for row in rows {
-        assert!(rt; (row.frame as usize) < draft.count());
         let name = Text::from_bytes(alloc, row.name)?;
-        draft.define(row.frame, name, expression(row.given))?;
+        counted.define(rt, row.frame, name, expression(row.given))?;
     }
-    Ok(draft)
+    Ok(counted.draft)
 }
 
 fn assert_row(rt: &impl Abort, ad: &Ad, row: &Definition) {
@@ -163,22 +205,19 @@ fn phrases_in_order_have_an_empty_root(rt: HostRuntime) -> Result<(), Fail> {
 
 #[test]
 fn high_trees_are_walked_and_dropped(rt: HostRuntime) -> Result<(), Fail> {
-    let mut draft = Draft::new(rt.alloc());
+    let mut counted = Counted::new(rt.alloc());
     for outer in 0..63 {
-        assert!(rt; (outer as usize) < draft.count());
-        let inner = draft.frame(outer)?;
+        let inner = counted.frame(&rt, outer)?;
         let name = Text::from_bytes(rt.alloc(), b"inner")?;
-        assert!(rt; (outer as usize) < draft.count());
-        draft.define(outer, name, Expr::Frame(inner))?;
+        counted.define(&rt, outer, name, Expr::Frame(inner))?;
     }
     let mut expr = Expr::Literal(Lit::Integer(1));
     for _ in 0..63 {
         let operand = Box::new(rt.alloc(), expr)?;
         expr = Expr::Unary(UnOp::Not, operand);
     }
-    assert!(rt; 63 < draft.count());
-    draft.define(63, Text::from_bytes(rt.alloc(), b"high")?, expr)?;
-    let ad = draft.finish()?;
+    counted.define(&rt, 63, Text::from_bytes(rt.alloc(), b"high")?, expr)?;
+    let ad = counted.draft.finish()?;
     assert_eq!(rt; ad.frames(), 64);
     assert_eq!(rt; ad.position(63, b"HIGH"), Some(0));
     Ok(())
@@ -240,21 +279,30 @@ fn long_names_are_found(rt: HostRuntime) -> Result<(), Fail> {
 
 #[test]
 fn frames_with_room_take_definitions(rt: HostRuntime) -> Result<(), Fail> {
-    let mut draft = Draft::new(rt.alloc());
-    let frame = draft.frame(0)?;
-    draft.define(0, Text::from_bytes(rt.alloc(), b"a")?, Expr::Frame(frame))?;
-    draft.reserve(frame, 2)?;
+    let mut counted = Counted::new(rt.alloc());
+    let frame = counted.frame(&rt, 0)?;
+    counted.define(
+        &rt,
+        0,
+        Text::from_bytes(rt.alloc(), b"a")?,
+        Expr::Frame(frame),
+    )?;
+    counted.reserve(&rt, frame, 2)?;
     for n in 0..3 {
-        assert!(rt; (frame as usize) < draft.count());
         let name = Text::from_bytes(rt.alloc(), &[b'a', n])?;
-        draft.define(frame, name, expression(Integer(i64::from(n))))?;
+        counted.define(&rt, frame, name, expression(Integer(i64::from(n))))?;
     }
     let found = [
         row(1, 0, &[b'a', 0], Integer(0)),
         row(1, 1, &[b'a', 1], Integer(1)),
         row(1, 2, &[b'a', 2], Integer(2)),
     ];
-    assert_ad(&rt, &draft.finish()?, &[(None, 1), (Some(0), 3)], &found);
+    assert_ad(
+        &rt,
+        &counted.draft.finish()?,
+        &[(None, 1), (Some(0), 3)],
+        &found,
+    );
     Ok(())
 }
 

@@ -1,8 +1,13 @@
 mod ConjunctLemmas
 mod DecidedLemmas
+mod DockingLemmas
 mod FindLemmas
 mod LoopLemmas
+mod MemberLemmas
+mod MemberScanLemmas
+mod MemberWeighLemmas
 mod NarrowLemmas
+mod OfferLemmas
 mod OrderLemmas
 pub mod PlaceLemmas
 pub mod RowLemmas

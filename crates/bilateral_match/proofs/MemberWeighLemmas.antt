@@ -1,0 +1,240 @@
+-- What one resource is for a job, and what it takes to tell.
+use Rattle.std.proofs.Common.{◌≡◌, ◌<◌, ◌≤◌, ◌+◌, ◌*◌, ℕ, ℤ, zero, suc, Bool, true, false, not, ◌&&◌, int_lt, refl, List, [], ◌∷◌, slice_get, slice_index, length, All, Contains, IfSome, Option, None, Some, is_some, option_map, if◌then◌else◌, ap, sym, ◌∙◌, subst, arith, add-one, take, zero-le}
+use Rattle.std.specs.Option.{option_and_then, option_map_or}
+use Rattle.ad_tree.specs.Frames.{Frame}
+use Rattle.ad_store.specs.declared.holdings.Held.{Held}
+use Rattle.ad_store.specs.Holdings.{Holding, holding_of}
+use Rattle.ad_store.specs.Stock.{Advert, Stock, is_live}
+use Rattle.eval_scope.specs.World.{PlainWorld, attribute_count, resource_side}
+use Rattle.ad_eval.specs.Dock.{rank_by}
+use Rattle.conjunct_plan.specs.Decided.{is_dock_decided}
+use Rattle.bilateral_match.specs.declared.member.Member.{Member}
+use Rattle.bilateral_match.specs.declared.member.Ranks.{Ranks}
+use Rattle.bilateral_match.specs.Counts.{attributes_weighed, is_open}
+use Rattle.bilateral_match.specs.Docks.{docks, is_undecided, pair_world, rank_of_dock}
+use Rattle.bilateral_match.specs.Members.{as_member, is_won, member_with, regard}
+use Rattle.bilateral_match.specs.Pool.{AreStored, Pool, holder_regard, holder_world, slot_at, slots_world}
+use Rattle.bilateral_match.specs.Scan.{ranks_of_dock}
+use Rattle.bilateral_match.proofs.ScanLemmas.{decided-docks}
+
+-- ---- the dock
+
+module _ (moment : ℕ) (request ad : List Frame) where
+  abbrev ranks-there : Ranks
+  ranks-there = record { rank = rank_of_dock moment request ad; regard = regard moment request ad }
+
+  pub ranks-decided : is_dock_decided request 0 [] ad ≡ true → None ≡ ranks_of_dock moment request ad
+  ranks-decided decided =
+      sym (ap (λ (b : Bool). if b then Some ranks-there else None) (decided-docks moment request ad (ap not decided)))
+
+  none-docked : ranks_of_dock moment request ad ≡ None → docks moment request ad ≡ false
+  none-docked e = by (docks moment request ad) e
+    where
+      by : (b : Bool) → (if b then Some ranks-there else None) ≡ None → b ≡ false
+      by true e = absurd (cc)
+      by false e = refl
+
+  -- where they dock, the ranks are those of both sides
+  abbrev pub AreRanks : Ranks → Type 0
+  AreRanks r = (docks moment request ad ≡ true) × (r.rank ≡ rank_of_dock moment request ad) × (r.regard ≡ regard moment request ad)
+
+  pub are-ranks : (r : Ranks) → ranks_of_dock moment request ad ≡ Some r → AreRanks r
+  are-ranks r e = by (docks moment request ad) e
+    where
+      by : (b : Bool) → (if b then Some ranks-there else None) ≡ Some r
+          → (b ≡ true) × (r.rank ≡ rank_of_dock moment request ad) × (r.regard ≡ regard moment request ad)
+      by true e = let same : ranks-there ≡ r = cc in (refl, ap (λ (x : Ranks). x.rank) (sym same), ap (λ (x : Ranks). x.regard) (sym same))
+      by false e = absurd (cc)
+
+  docked-open : docks moment request ad ≡ true → is_undecided request ad ≡ true
+  docked-open docked = by (is_undecided request ad) refl
+    where
+      by : (b : Bool) → is_undecided request ad ≡ b → is_undecided request ad ≡ true
+      by true e = e
+      by false e = let not_docked = decided-docks moment request ad e in absurd (cc)
+
+-- ---- the slot at a place
+
+pub read-at : (xs : List ℕ) (i x : ℕ) → slice_get xs i ≡ Some x → slice_index xs i ≡ x
+read-at [] i x e = absurd (cc)
+read-at (y ∷ ys) zero x e = cc
+read-at (y ∷ ys) (suc i) x e = read-at ys i x e
+
+-- ---- a resource
+
+module _ (pool : Pool) (request : List Frame) (place slot : ℕ) (at : slice_get pool.stock.slots place ≡ Some slot) where
+  here : slot_at pool place ≡ slot
+  here = read-at pool.stock.slots place slot at
+
+  abbrev member_of : Option Advert → Option Member
+  member_of o = option_and_then (member_with pool request place) o
+
+  pub none-offered : pool.is_offered slot ≡ true → (o : Option Advert) → None ≡ member_of o
+  none-offered offered None = refl
+  none-offered offered (Some a) = sym (by (is_live pool.moment a) (pool.is_offered (slot_at pool place)) (docks pool.moment request a.ad && is_won pool request (slot_at pool place) a.ad) (ap pool.is_offered here ∙ offered))
+    where
+      by : (live off rest : Bool) → off ≡ true → (if live && (not off && rest) then Some (as_member pool request place a) else None) ≡ None
+      by true true rest e = refl
+      by false true rest e = refl
+      by live false rest e = absurd (cc)
+
+  pub none-dead : (o : Option Advert) → option_map (is_live pool.moment) o ≡ Some false → None ≡ member_of o
+  none-dead None e = refl
+  none-dead (Some a) e = let dead : is_live pool.moment a ≡ false = cc in sym (ap (λ (b : Bool). if b && (not (pool.is_offered (slot_at pool place)) && (docks pool.moment request a.ad && is_won pool request (slot_at pool place) a.ad)) then Some (as_member pool request place a) else None) dead)
+
+  module _ (fs : List Frame) where
+    pub none-undocked : (o : Option Advert) → option_map (λ a. a.ad) o ≡ Some fs → None ≡ ranks_of_dock pool.moment request fs → None ≡ member_of o
+    none-undocked None is none = refl
+    none-undocked (Some a) is none =
+        let same : a.ad ≡ fs = cc in
+        sym (by (is_live pool.moment a) (not (pool.is_offered (slot_at pool place))) (docks pool.moment request a.ad) (is_won pool request (slot_at pool place) a.ad) (ap (docks pool.moment request) same ∙ none-docked pool.moment request fs (sym none)))
+      where
+        by : (live free docked won : Bool) → docked ≡ false → (if live && (free && (docked && won)) then Some (as_member pool request place a) else None) ≡ None
+        by true true false won e = refl
+        by true false false won e = refl
+        by false free false won e = refl
+        by live free true won e = absurd (cc)
+
+    pub none-lost : (o : Option Advert) → option_map (λ a. a.ad) o ≡ Some fs → is_won pool request slot fs ≡ false → None ≡ member_of o
+    none-lost None is lost = refl
+    none-lost (Some a) is lost =
+        let same : a.ad ≡ fs = cc in
+        sym (by (is_live pool.moment a) (not (pool.is_offered (slot_at pool place))) (docks pool.moment request a.ad) (is_won pool request (slot_at pool place) a.ad) (ap (λ s. is_won pool request s a.ad) here ∙ ap (is_won pool request slot) same ∙ lost))
+      where
+        by : (live free docked won : Bool) → won ≡ false → (if live && (free && (docked && won)) then Some (as_member pool request place a) else None) ≡ None
+        by true true true false e = refl
+        by true true false false e = refl
+        by true false docked false e = refl
+        by false free docked false e = refl
+        by live free docked true e = absurd (cc)
+
+    pub some-won : (o : Option Advert) (r : Ranks) (claimed : Bool) (m : Member) → option_map (λ a. a.ad) o ≡ Some fs → option_map (is_live pool.moment) o ≡ Some true → pool.is_offered slot ≡ false
+        → Some r ≡ ranks_of_dock pool.moment request fs → is_won pool request slot fs ≡ true → claimed ≡ is_some (pool.holding slot)
+        → m ≡ record { rank = r.rank; claimed = claimed; regard = r.regard; place = place } → Some m ≡ member_of o
+    some-won None r claimed m is live free ranks won holds made = absurd (cc)
+    some-won (Some a) r claimed m is live free ranks won holds made =
+        let same : a.ad ≡ fs = cc in
+        let lives : is_live pool.moment a ≡ true = cc in
+        let both = are-ranks pool.moment request fs r (sym ranks) in
+        sym (by (is_live pool.moment a) (pool.is_offered (slot_at pool place)) (docks pool.moment request a.ad) (is_won pool request (slot_at pool place) a.ad)
+        lives (ap pool.is_offered here ∙ free) (ap (docks pool.moment request) same ∙ both.0) (ap (λ s. is_won pool request s a.ad) here ∙ ap (is_won pool request slot) same ∙ won)
+        ∙ ap Some (parts (ap (rank_of_dock pool.moment request) same ∙ sym both.1) (ap (λ s. is_some (pool.holding s)) here ∙ sym holds) (ap (regard pool.moment request) same ∙ sym both.2) ∙ sym made))
+      where
+        by : (live off docked won : Bool) → live ≡ true → off ≡ false → docked ≡ true → won ≡ true → (if live && (not off && (docked && won)) then Some (as_member pool request place a) else None) ≡ Some (as_member pool request place a)
+        by true false true true e f g h = refl
+        by true false true false e f g h = absurd (cc)
+        by true false false won e f g h = absurd (cc)
+        by true true docked won e f g h = absurd (cc)
+        by false off docked won e f g h = absurd (cc)
+
+        parts : rank_of_dock pool.moment request a.ad ≡ r.rank → is_some (pool.holding (slot_at pool place)) ≡ claimed → regard pool.moment request a.ad ≡ r.regard
+            → as_member pool request place a ≡ record { rank = r.rank; claimed = claimed; regard = r.regard; place = place }
+        parts e f g =
+            ap (λ (n : ℤ). let m : Member = record { rank = n; claimed = is_some (pool.holding (slot_at pool place)); regard = regard pool.moment request a.ad; place = place } in m) e
+            ∙ ap (λ (b : Bool). let m : Member = record { rank = r.rank; claimed = b; regard = regard pool.moment request a.ad; place = place } in m) f
+            ∙ ap (λ (n : ℤ). let m : Member = record { rank = r.rank; claimed = claimed; regard = n; place = place } in m) g
+
+    -- what it takes
+    module _ (free : pool.is_offered slot ≡ false) where
+      open-here : (a : Advert) → a.ad ≡ fs → is_undecided request fs ≡ true → is_open pool request place a ≡ true
+      open-here a same left = both (is_undecided request a.ad) (pool.is_offered (slot_at pool place)) (ap (is_undecided request) same ∙ left) (ap pool.is_offered here ∙ free)
+        where
+          both : (u off : Bool) → u ≡ true → off ≡ false → (u && not off) ≡ true
+          both true false e f = refl
+          both true true e f = absurd (cc)
+          both false off e f = absurd (cc)
+
+      -- up to four evaluations leave one of five
+      pub four-of-five : (o : Option Advert) → option_map (λ a. a.ad) o ≡ Some fs → (if is_undecided request fs then 4 else 0) ≤ option_map_or (λ a. if is_open pool request place a then 5 else 0) o 0
+      four-of-five None is = absurd (cc)
+      four-of-five (Some a) is = let same : a.ad ≡ fs = cc in by (is_undecided request fs) refl same
+        where
+          by : (b : Bool) → is_undecided request fs ≡ b → a.ad ≡ fs → (if b then 4 else 0) ≤ (if is_open pool request place a then 5 else 0)
+          by false e same = zero-le
+          by true e same = let five = ap {B = ℕ} (λ (b : Bool). if b then 5 else 0) (open-here a same e) in omega (arith, five)
+
+      pub five-in-all : (o : Option Advert) (r : Ranks) → option_map (λ a. a.ad) o ≡ Some fs → Some r ≡ ranks_of_dock pool.moment request fs
+          → (if is_undecided request fs then 4 else 0) + 1 ≤ option_map_or (λ a. if is_open pool request place a then 5 else 0) o 0
+      five-in-all None r is ranks = absurd (cc)
+      five-in-all (Some a) r is ranks =
+          let same : a.ad ≡ fs = cc in
+          let left = docked-open pool.moment request fs (are-ranks pool.moment request fs r (sym ranks)).0 in
+          let five = ap {B = ℕ} (λ (b : Bool). if b then 5 else 0) (open-here a same left) in
+          let four = ap {B = ℕ} (λ (b : Bool). if b then 4 else 0) left in
+          omega (arith, five, four)
+
+      abbrev job_attributes : ℕ
+      job_attributes = 4 * attribute_count (pair_world pool.moment request fs)
+
+      abbrev holder_attributes : ℕ
+      holder_attributes = option_map_or (λ h. attribute_count (holder_world pool.moment pool.stock h)) (pool.holding slot) 0
+
+      weighed : (a : Advert) → a.ad ≡ fs → is_undecided request fs ≡ true → (if is_open pool request place a then attributes_weighed pool request place a else 0) ≡ job_attributes + holder_attributes
+      weighed a same left =
+          ap {B = ℕ} (λ (b : Bool). if b then attributes_weighed pool request place a else 0) (open-here a same left)
+          ∙ ap (λ (ad : List Frame). 4 * attribute_count (pair_world pool.moment request ad) + option_map_or (λ h. attribute_count (holder_world pool.moment pool.stock h)) (pool.holding (slot_at pool place)) 0) same
+          ∙ ap (λ s. job_attributes + option_map_or (λ h. attribute_count (holder_world pool.moment pool.stock h)) (pool.holding s) 0) here
+
+      pub attributes-of-dock : (o : Option Advert) → option_map (λ a. a.ad) o ≡ Some fs
+          → (if is_undecided request fs then job_attributes else 0) ≤ option_map_or (λ a. if is_open pool request place a then attributes_weighed pool request place a else 0) o 0
+      attributes-of-dock None is = absurd (cc)
+      attributes-of-dock (Some a) is = let same : a.ad ≡ fs = cc in by (is_undecided request fs) refl same
+        where
+          by : (b : Bool) → is_undecided request fs ≡ b → a.ad ≡ fs → (if b then job_attributes else 0) ≤ (if is_open pool request place a then attributes_weighed pool request place a else 0)
+          by false e same = zero-le
+          by true e same = let all = weighed a same e in omega (arith, all)
+
+      pub attributes-in-all : (o : Option Advert) (r : Ranks) → option_map (λ a. a.ad) o ≡ Some fs → Some r ≡ ranks_of_dock pool.moment request fs
+          → (if is_undecided request fs then job_attributes else 0) + holder_attributes ≤ option_map_or (λ a. if is_open pool request place a then attributes_weighed pool request place a else 0) o 0
+      attributes-in-all None r is ranks = absurd (cc)
+      attributes-in-all (Some a) r is ranks =
+          let same : a.ad ≡ fs = cc in
+          let left = docked-open pool.moment request fs (are-ranks pool.moment request fs r (sym ranks)).0 in
+          let all = weighed a same left in
+          let job = ap {B = ℕ} (λ (b : Bool). if b then job_attributes else 0) left in
+          omega (arith, all, job)
+
+-- ---- the holder
+
+module _ (stock : Stock) (holding : ℕ → Option Holding) (slot : ℕ) where
+  -- what the holder holds is in the store
+  pub holder-stored : (holder : Option Held) → AreStored stock holding → option_map holding_of holder ≡ holding slot → IfSome holder (λ h. All (Contains stock.slots) h.slots.now)
+  holder-stored None stored who = tt
+  holder-stored (Some h) stored who = stored slot (holding_of h) (sym who)
+
+  -- it is claimed as its holder is there
+  pub holder-there : (holder : Option Held) → option_map holding_of holder ≡ holding slot → is_some holder ≡ is_some (holding slot)
+  holder-there holder who = by holder ∙ ap is_some who
+    where
+      by : (o : Option Held) → is_some o ≡ is_some (option_map holding_of o)
+      by None = refl
+      by (Some h) = refl
+
+  pub holder-stands : (holder : Option Held) → IfSome holder (λ h. slice_get h.slots.now h.port ≡ Some slot) → IfSome holder (λ h. h.port < length h.slots.now)
+  holder-stands None stands = tt
+  holder-stands (Some h) stands = within h.slots.now h.port stands
+    where
+      within : (xs : List ℕ) (i : ℕ) → slice_get xs i ≡ Some slot → i < length xs
+      within [] i e = absurd (cc)
+      within (x ∷ xs) zero e = omega arith
+      within (x ∷ xs) (suc i) e = let rest = within xs i e in omega (arith, rest)
+
+-- the claim is won as the contract of the look at the holder says it
+pub won-by : (pool : Pool) (request : List Frame) (slot : ℕ) (ad : List Frame) (n : ℤ) (held : Option Holding) (won : Bool) → n ≡ regard pool.moment request ad → held ≡ pool.holding slot
+    → won ≡ option_map_or (λ h. int_lt (holder_regard pool.moment pool.stock h) n) held true → is_won pool request slot ad ≡ won
+won-by pool request slot ad n held won regards who is =
+    ap (λ (o : Option Holding). option_map_or (λ h. int_lt (holder_regard pool.moment pool.stock h) (regard pool.moment request ad)) o true) (sym who)
+    ∙ ap (λ (k : ℤ). option_map_or (λ h. int_lt (holder_regard pool.moment pool.stock h) k) held true) (sym regards)
+    ∙ sym is
+
+-- what holds of a value that is there holds of that value
+pub some-of : (holder : Option Held) (h : Held) (P : Held → Type 0) → holder ≡ Some h → IfSome holder P → P h
+some-of holder h P is all = let Q : Option Held → Type 0 = λ o. IfSome o P in subst Q is all
+
+-- the rank of the holder is that of the world up to its port
+pub rank-of-holder : (moment : ℕ) (stock : Stock) (holder : Option Held) (h : Held) (w : PlainWorld) (k : ℤ) → holder ≡ Some h
+    → w ≡ slots_world moment stock h.request.now (take (h.port + 1) h.slots.now)
+    → int_lt (rank_by w (resource_side w)) k ≡ option_map_or (λ g. int_lt (holder_regard moment stock g) k) (option_map holding_of holder) true
+rank-of-holder moment stock holder h w k is world =
+    ap (λ (u : PlainWorld). int_lt (rank_by u (resource_side u)) k) (world ∙ ap (λ i. slots_world moment stock h.request.now (take i h.slots.now)) (add-one h.port))
+    ∙ ap (λ o. option_map_or (λ g. int_lt (holder_regard moment stock g) k) (option_map holding_of o) true) (sym is)

@@ -1,0 +1,17 @@
+use Rattle.std.proofs.Common.{◌≡◌, ◌+◌, All, Bool, Contains, IfOk, subst}
+use Rattle.std.proofs.lemmas.List.Elements.{All-take}
+use Rattle.ad_store.specs.Store.{stock_of}
+use Rattle.eval_scope.specs.Shown.{world_of}
+use Rattle.bilateral_match.proofs.MemberWeighLemmas.{rank-of-holder, some-of}
+use Rattle.bilateral_match.proofs.members.is_won.Goals as goal
+
+pub slots_world-world-requires-clause-stored : goal.slots_world-world-requires-clause-stored
+slots_world-world-requires-clause-stored g c =
+    All-take (Contains (stock_of c.args.store.now).slots) (c.in-Some.holder.port + 1) c.in-Some.holder.slots.now
+    (some-of c.args.holder c.in-Some.holder (λ h. All (Contains (stock_of c.args.store.now).slots) h.slots.now) c.in-Some.is c.requires.stored)
+
+pub returns-clause-won : goal.returns-clause-won
+returns-clause-won g c =
+    subst (λ (won : Bool). IfOk c.is_ranked_lower.result (λ b. b ≡ won))
+    (rank-of-holder c.args.moment (stock_of c.args.store.now) c.args.holder c.in-Some.holder (world_of c.slots_world-world.result) c.args.ranks.regard c.in-Some.is c.slots_world-world.ensures.world)
+    c.is_ranked_lower.ensures.lower

@@ -1,0 +1,165 @@
+// Which resources are members for a job.
+ghost use Rattle.std.specs.Prelude.{◌≡◌, ◌≤◌, ◌<◌, ◌+◌, ◌*◌, ℕ, [], true, int_lt, nat_lt, length, slice_get, max, option_map, All, Contains, IfOk, IfSome, Some, if◌then◌else◌};
+ghost use Rattle.std.specs.Option.{option_map_or};
+ghost use Rattle.ad_tree.specs.Ad.{ad_frames};
+ghost use Rattle.ad_store.specs.Holdings.{holding_of};
+ghost use Rattle.ad_store.specs.Stock as stock;
+ghost use Rattle.ad_store.specs.Store.{stock_of};
+ghost use Rattle.ad_eval.specs.Dock.{rank_by};
+ghost use Rattle.eval_scope.specs.Shown.{world_of};
+ghost use Rattle.eval_scope.specs.World.{attribute_count, resource_side};
+ghost use Rattle.bilateral_match.specs.Docks.{is_undecided, pair_world};
+ghost use Rattle.bilateral_match.specs.Members as members;
+ghost use Rattle.bilateral_match.specs.Pool as pool;
+ghost use Rattle.bilateral_match.specs.Scan as scan;
+
+use crate::docking::{is_decided, slots_world};
+use crate::member::{Member, Ranks};
+use ad_eval::{dock, rank};
+use ad_store::{Held, Holdings, Store};
+use ad_tree::{Ad, Request};
+use eval_scope::World;
+use pool_steps::Steps;
+use pool_text::OutOfMemory;
+use std::alloc::Global;
+use std::sync::ledger::Ledger;
+
+/// The resource at a place, if it is a member for the job.
+pub fn member_at<H: Holdings, F: Ledger, E: Ledger, T: Ledger>(
+    alloc: Global,
+    store: &Store,
+    held: &H,
+    request: &Request,
+    moment: u64,
+    place: usize,
+    tops: &mut Steps<F>,
+    entry: &mut Steps<E>,
+    touch: &mut Steps<T>,
+) -> Result<Option<Member>, OutOfMemory>
+    requires stored { pool.AreStored (stock_of store.now) (H.holding held.now) }
+    requires single { request.now.ports ≡ [] }
+    requires place { place < length (stock_of store.now).slots }
+    ensures member { IfOk result (λ member. member ≡ scan.member_at (pool.pool_of moment (stock_of store.now) (H.is_offered held.now) (H.holding held.now)) (ad_frames request.now.ad) place) }
+    ensures evaluations { tops.new ≤ tops.old + scan.evaluations_for (pool.pool_of moment (stock_of store.now) (H.is_offered held.now) (H.holding held.now)) (ad_frames request.now.ad) place }
+    ensures entries { entry.new ≤ entry.old + scan.attributes_for (pool.pool_of moment (stock_of store.now) (H.is_offered held.now) (H.holding held.now)) (ad_frames request.now.ad) place }
+    ensures looks { touch.new ≤ touch.old + 9 }
+{
+    let slot = store.at(place);
+    if held.offered(slot) {
+        return Ok(None);
+    }
+    if !is_live(store, slot, moment) {
+        return Ok(None);
+    }
+    let ad = store.look(slot, touch);
+    let met = ranks(alloc, request, ad, moment, tops, entry)?;
+    let Some(ranks) = met else {
+        return Ok(None);
+    };
+    let holder = held.holder(slot);
+    let won = is_won(alloc, store, holder, ranks, moment, tops, entry, touch)?;
+    if !won {
+        return Ok(None);
+    }
+    Ok(Some(as_member(ranks, holder.is_some(), place)))
+}
+
+// A resource as members are compared.
+fn as_member(ranks: Ranks, claimed: bool, place: usize) -> Member
+    ensures { result ≡ record { rank = ranks.rank; claimed = claimed; regard = ranks.regard; place = place } }
+{
+    Member {
+        rank: ranks.rank,
+        claimed,
+        regard: ranks.regard,
+        place,
+    }
+}
+
+// Whether the ad in a slot is live.
+fn is_live(store: &Store, slot: usize, moment: u64) -> bool
+    requires { Contains (stock_of store.now).slots slot }
+    ensures { (i : ℕ) → slice_get (stock_of store.now).slots i ≡ Some slot
+        → option_map (stock.is_live moment) (slice_get (stock_of store.now).ads i) ≡ Some result }
+{
+    is_within(moment, store.born(slot), store.lifetime(slot))
+}
+
+// Whether a moment is before the end of a lifetime, which may be out of 64 bits.
+fn is_within(now: u64, born: u64, lifetime: u64) -> bool
+    ensures { result ≡ nat_lt now (born + lifetime) }
+{
+    now < born || now - born < lifetime
+}
+
+// What the sides rank each other, where their dock is true. Nothing is evaluated where a test decides it.
+fn ranks<F: Ledger, E: Ledger>(
+    alloc: Global,
+    request: &Request,
+    ad: &Ad,
+    moment: u64,
+    tops: &mut Steps<F>,
+    entry: &mut Steps<E>,
+) -> Result<Option<Ranks>, OutOfMemory>
+    requires { request.now.ports ≡ [] }
+    ensures ranks { IfOk result (λ ranks. ranks ≡ scan.ranks_of_dock moment (ad_frames request.now.ad) (ad_frames ad.now)) }
+    ensures evaluations { tops.new ≤ tops.old + (if is_undecided (ad_frames request.now.ad) (ad_frames ad.now) then 4 else 0) }
+    ensures entries { entry.new ≤ entry.old + (if is_undecided (ad_frames request.now.ad) (ad_frames ad.now)
+        then 4 * attribute_count (pair_world moment (ad_frames request.now.ad) (ad_frames ad.now)) else 0) }
+{
+    if is_decided(alloc, request, 0, ad) {
+        return Ok(None);
+    }
+    let world = World::new(moment, &request.ad, &request.ports).with(ad);
+    if !dock(alloc, &world, tops, entry)? {
+        return Ok(None);
+    }
+    Ok(Some(Ranks {
+        rank: rank(alloc, &world, world.request_place(), tops, entry)?,
+        regard: rank(alloc, &world, world.resource_place(), tops, entry)?,
+    }))
+}
+
+// Whether a resource that ranks a job so is unclaimed, or ranks its holder strictly lower.
+fn is_won<F: Ledger, E: Ledger, T: Ledger>(
+    alloc: Global,
+    store: &Store,
+    holder: Option<Held<'_>>,
+    ranks: Ranks,
+    moment: u64,
+    tops: &mut Steps<F>,
+    entry: &mut Steps<E>,
+    touch: &mut Steps<T>,
+) -> Result<bool, OutOfMemory>
+    requires stored { IfSome holder (λ h. All (Contains (stock_of store.now).slots) h.slots.now) }
+    requires stands { IfSome holder (λ h. h.port < length h.slots.now) }
+    requires fills { IfSome holder (λ h. length h.slots.now ≡ max 1 (length h.request.now.ports)) }
+    ensures won { IfOk result (λ won. won ≡ option_map_or (λ h. int_lt (pool.holder_regard moment (stock_of store.now) h) ranks.regard) (option_map holding_of holder.entry) true) }
+    ensures evaluations { tops.new ≤ tops.old + 1 }
+    ensures entries { entry.new ≤ entry.old
+        + option_map_or (λ h. attribute_count (pool.holder_world moment (stock_of store.now) h)) (option_map holding_of holder.entry) 0 }
+    ensures looks { touch.new ≤ touch.old + 8 }
+{
+    let Some(holder) = holder else {
+        return Ok(true);
+    };
+    let upto = holder.port as usize + 1;
+    let world = slots_world(store, holder.request, &holder.slots[..upto], moment, touch);
+    is_ranked_lower(alloc, &world, ranks, tops, entry)
+}
+
+// Whether the resource that was docked last ranks the other side strictly lower than so.
+fn is_ranked_lower<F: Ledger, E: Ledger>(
+    alloc: Global,
+    world: &World<'_>,
+    ranks: Ranks,
+    tops: &mut Steps<F>,
+    entry: &mut Steps<E>,
+) -> Result<bool, OutOfMemory>
+    ensures lower { IfOk result (λ lower. lower ≡ int_lt (rank_by (world_of world.now) (resource_side (world_of world.now))) ranks.regard) }
+    ensures evaluations { tops.new ≤ tops.old + 1 }
+    ensures entries { entry.new ≤ entry.old + attribute_count (world_of world.now) }
+{
+    let given = rank(alloc, world, world.resource_place(), tops, entry)?;
+    Ok(given < ranks.regard)
+}

@@ -7,9 +7,10 @@ mod MemberLemmas
 mod MemberScanLemmas
 mod MemberWeighLemmas
 mod NarrowLemmas
-mod OfferLemmas
+pub mod OfferLemmas
 mod OrderLemmas
 pub mod PlaceLemmas
+pub mod PoolLemmas
 pub mod RowLemmas
 mod ScanLemmas
 mod TestLemmas

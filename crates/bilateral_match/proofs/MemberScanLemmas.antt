@@ -5,7 +5,7 @@ use Rattle.std.specs.Option.{option_and_then, option_map_or}
 use Rattle.std.proofs.lemmas.List.Elements.{All-cons, All-contains, All-nil, All-tail}
 use Rattle.std.proofs.lemmas.List.Sums.{sum_by-cons}
 use Rattle.ad_tree.specs.Frames.{Frame}
-use Rattle.ad_store.specs.Stock.{Advert, is_live}
+use Rattle.ad_store.specs.Stock.{Advert, Stock, is_live}
 use Rattle.bilateral_match.specs.declared.member.Member.{Member}
 use Rattle.bilateral_match.specs.Candidates.{AreCandidates}
 use Rattle.bilateral_match.specs.Counts.{attributes_weighed, entered_for, is_open, open_count, sum_from}
@@ -28,11 +28,11 @@ module _ (pool : Pool) (request : List Frame) where
   no-member : (place : ℕ) (advert : Advert) → is_undecided request advert.ad ≡ false → member_with pool request place advert ≡ None
   no-member place advert decided =
       ap (λ (b : Bool). if b then Some (as_member pool request place advert) else None)
-      (ap (λ (d : Bool). is_live pool.moment advert && (not (pool.is_offered (slot_at pool place)) && (d && is_won pool request (slot_at pool place) advert.ad))) (decided-docks pool.moment request advert.ad decided)
-      ∙ nothing-won (is_live pool.moment advert) (not (pool.is_offered (slot_at pool place))) (is_won pool request (slot_at pool place) advert.ad))
+      (ap (λ (d : Bool). is_live pool.moment advert && (not (pool.is_offered place) && (d && is_won pool request place advert.ad))) (decided-docks pool.moment request advert.ad decided)
+      ∙ nothing-won (is_live pool.moment advert) (not (pool.is_offered place)) (is_won pool request place advert.ad))
 
   not-open : (place : ℕ) (advert : Advert) → is_undecided request advert.ad ≡ false → is_open pool request place advert ≡ false
-  not-open place advert decided = ap (λ (b : Bool). b && not (pool.is_offered (slot_at pool place))) decided
+  not-open place advert decided = ap (λ (b : Bool). b && not (pool.is_offered place)) decided
 
   -- ---- sums over all ads
 
@@ -58,15 +58,15 @@ module _ (pool : Pool) (request : List Frame) where
 
   -- ---- over the candidates
 
-  module _ (places : List ℕ) (some : AreCandidates request pool.stock.ads places) where
+  module _ (places : List ℕ) (some : AreCandidates request pool.ads places) where
     found-members : (f : Member → ℕ) → sum_by f (filter_map (member_at pool request) places) ≡ sum_by f (members pool request)
     found-members f =
         sum-filter_map f (member_at pool request) places
-        ∙ all-total pool.moment request pool.stock.ads places some
+        ∙ all-total pool.moment request pool.ads places some
         (λ place a. option_map_or f (member_with pool request place a) 0) (λ place. option_map_or f (member_at pool request place) 0)
         (λ place a e. ap (λ o. option_map_or f o 0) (no-member place a e))
         (λ place a is. ap (λ o. option_map_or f (option_and_then (member_with pool request place) o) 0) is)
-        ∙ sym (members-total f 0 pool.stock.ads)
+        ∙ sym (members-total f 0 pool.ads)
 
     -- the first of what is found is the best
     pub found-best : (first : Option Member) → IsBest (filter_map (member_at pool request) places) first → first ≡ best pool request
@@ -74,15 +74,15 @@ module _ (pool : Pool) (request : List Frame) where
 
     pub open-sum : sum_by (evaluations_for pool request) places ≡ 5 * open_count pool request
     open-sum =
-        all-total pool.moment request pool.stock.ads places some
+        all-total pool.moment request pool.ads places some
         (λ place a. if is_open pool request place a then 5 else 0) (evaluations_for pool request)
         (λ place a e. ap (λ (b : Bool). if b then 5 else 0) (not-open place a e))
         (λ place a is. ap (λ o. option_map_or (λ (advert : Advert). if is_open pool request place advert then 5 else 0) o 0) is)
-        ∙ five-times 0 pool.stock.ads
+        ∙ five-times 0 pool.ads
 
     pub entered-sum : sum_by (attributes_for pool request) places ≡ entered_for pool request
     entered-sum =
-        all-total pool.moment request pool.stock.ads places some
+        all-total pool.moment request pool.ads places some
         (λ place a. if is_open pool request place a then attributes_weighed pool request place a else 0) (attributes_for pool request)
         (λ place a e. ap (λ (b : Bool). if b then attributes_weighed pool request place a else 0) (not-open place a e))
         (λ place a is. ap (λ o. option_map_or (λ (advert : Advert). if is_open pool request place advert then attributes_weighed pool request place advert else 0) o 0) is)
@@ -120,8 +120,8 @@ module _ (pool : Pool) (request : List Frame) (P : Member → Type 0) where
 
 module _ (pool : Pool) (request : List Frame) where
   -- a member stands at its place, and isn't offered
-  stands-at : (place : ℕ) (m : Member) → member_at pool request place ≡ Some m → (m.place ≡ place) × (pool.is_offered (slot_at pool place) ≡ false)
-  stands-at place m is = by (slice_get pool.stock.ads place) is
+  stands-at : (place : ℕ) (m : Member) → member_at pool request place ≡ Some m → (m.place ≡ place) × (pool.is_offered place ≡ false)
+  stands-at place m is = by (slice_get pool.ads place) is
     where
       parts : (live before docked won : Bool) (a : Member) → (if live && (not before && (docked && won)) then Some a else None) ≡ Some m → (a ≡ m) × (before ≡ false)
       parts true false true true a e = (cc, refl)
@@ -130,10 +130,10 @@ module _ (pool : Pool) (request : List Frame) where
       parts true true docked won a e = absurd (cc)
       parts false before docked won a e = absurd (cc)
 
-      by : (o : Option Advert) → option_and_then (member_with pool request place) o ≡ Some m → (m.place ≡ place) × (pool.is_offered (slot_at pool place) ≡ false)
+      by : (o : Option Advert) → option_and_then (member_with pool request place) o ≡ Some m → (m.place ≡ place) × (pool.is_offered place ≡ false)
       by None e = absurd (cc)
       by (Some a) e =
-          let p = parts (is_live pool.moment a) (pool.is_offered (slot_at pool place)) (docks pool.moment request a.ad) (is_won pool request (slot_at pool place) a.ad) (as_member pool request place a) e in
+          let p = parts (is_live pool.moment a) (pool.is_offered place) (docks pool.moment request a.ad) (is_won pool request place a.ad) (as_member pool request place a) e in
           (ap (λ (n : Member). n.place) (sym p.0), p.1)
 
   pub first-within : (n : ℕ) (places : List ℕ) (first : Option Member) → IsBest (filter_map (member_at pool request) places) first → All (λ place. place < n) places → IfSome first (λ m. m.place < n)
@@ -141,17 +141,17 @@ module _ (pool : Pool) (request : List Frame) where
       of-first pool request (λ m. m.place < n) places first is
       (λ k d inside m e. let at = (stands-at (get_or places k d) m e).0 in let low = within k d inside in omega (arith, at, low))
 
-  first-free : (places : List ℕ) (first : Option Member) → IsBest (filter_map (member_at pool request) places) first → IfSome first (λ m. pool.is_offered (slot_at pool m.place) ≡ false)
+  pub first-free : (places : List ℕ) (first : Option Member) → IsBest (filter_map (member_at pool request) places) first → IfSome first (λ m. pool.is_offered m.place ≡ false)
   first-free places first is =
-      of-first pool request (λ m. pool.is_offered (slot_at pool m.place) ≡ false) places first is
-      (λ k d inside m e. let s = stands-at (get_or places k d) m e in ap (λ place. pool.is_offered (slot_at pool place)) s.0 ∙ s.1)
+      of-first pool request (λ m. pool.is_offered m.place ≡ false) places first is
+      (λ k d inside m e. let s = stands-at (get_or places k d) m e in ap pool.is_offered s.0 ∙ s.1)
 
-  -- the slot of the first isn't offered
-  pub slot-free : (places : List ℕ) (first : Option Member) (slot : Option ℕ) → IsBest (filter_map (member_at pool request) places) first → slot ≡ option_map (λ m. slot_at pool m.place) first → IfSome slot (λ s. pool.is_offered s ≡ false)
-  slot-free places first slot is at =
-      let Q : Option ℕ → Type 0 = λ o. IfSome o (λ s. pool.is_offered s ≡ false) in
-      subst Q (sym at) (by first (first-free places first is))
-    where
-      by : (o : Option Member) → IfSome o (λ m. pool.is_offered (slot_at pool m.place) ≡ false) → IfSome (option_map (λ m. slot_at pool m.place) o) (λ s. pool.is_offered s ≡ false)
-      by None h = tt
-      by (Some m) h = h
+-- the slot of the first isn't offered
+pub slot-free : (stock : Stock) (offered : ℕ → Bool) (first : Option Member) (slot : Option ℕ) → IfSome first (λ m. offered (slot_at stock m.place) ≡ false) → slot ≡ option_map (λ m. slot_at stock m.place) first → IfSome slot (λ s. offered s ≡ false)
+slot-free stock offered first slot free at =
+    let Q : Option ℕ → Type 0 = λ o. IfSome o (λ s. offered s ≡ false) in
+    subst Q (sym at) (by first free)
+  where
+    by : (o : Option Member) → IfSome o (λ m. offered (slot_at stock m.place) ≡ false) → IfSome (option_map (λ m. slot_at stock m.place) o) (λ s. offered s ≡ false)
+    by None h = tt
+    by (Some m) h = h

@@ -13,7 +13,7 @@ use Rattle.bilateral_match.specs.declared.member.Ranks.{Ranks}
 use Rattle.bilateral_match.specs.Counts.{attributes_weighed, is_open}
 use Rattle.bilateral_match.specs.Docks.{docks, is_undecided, pair_world, rank_of_dock}
 use Rattle.bilateral_match.specs.Members.{as_member, is_won, member_with, regard}
-use Rattle.bilateral_match.specs.Pool.{AreStored, Pool, holder_regard, holder_world, slot_at, slots_world}
+use Rattle.bilateral_match.specs.Pool.{AreStored, Pool, holder_world, pool_of, regard_in, slot_at, slots_world}
 use Rattle.bilateral_match.specs.Scan.{ranks_of_dock}
 use Rattle.bilateral_match.proofs.ScanLemmas.{decided-docks}
 
@@ -62,16 +62,43 @@ read-at (y ∷ ys) (suc i) x e = read-at ys i x e
 
 -- ---- a resource
 
-module _ (pool : Pool) (request : List Frame) (place slot : ℕ) (at : slice_get pool.stock.slots place ≡ Some slot) where
-  here : slot_at pool place ≡ slot
-  here = read-at pool.stock.slots place slot at
+-- a choice over what is mapped is one over what was there
+map-or : {A B C : Type 0} → (f : B → C) (g : A → B) (d : C) (o : Option A) → option_map_or f (option_map g o) d ≡ option_map_or (λ x. f (g x)) o d
+map-or f g d None = refl
+map-or f g d (Some x) = refl
+
+some-map : {A B : Type 0} → (g : A → B) (o : Option A) → is_some (option_map g o) ≡ is_some o
+some-map g None = refl
+some-map g (Some x) = refl
+
+module _ (moment : ℕ) (stock : Stock) (offered : ℕ → Bool) (holding : ℕ → Option Holding) (request : List Frame) (place slot : ℕ) (at : slice_get stock.slots place ≡ Some slot) where
+  abbrev pool : Pool
+  pool = pool_of moment stock offered holding
+
+  here : slot_at stock place ≡ slot
+  here = read-at stock.slots place slot at
+
+  offered-here : pool.is_offered place ≡ offered slot
+  offered-here = ap offered here
+
+  held-here : is_some (pool.held_in place) ≡ is_some (holding slot)
+  held-here = some-map (holder_world moment stock) (holding (slot_at stock place)) ∙ ap (λ s. is_some (holding s)) here
+
+  -- the claim is won as the contract of the look at the holder says it
+  pub won-by : (ad : List Frame) (n : ℤ) (held : Option Holding) (won : Bool) → n ≡ regard moment request ad → held ≡ holding slot
+      → won ≡ option_map_or (λ h. int_lt (regard_in (holder_world moment stock h)) n) held true → is_won pool request place ad ≡ won
+  won-by ad n held won regards who is =
+      map-or (λ w. int_lt (regard_in w) (regard moment request ad)) (holder_world moment stock) true (holding (slot_at stock place))
+      ∙ ap (λ (o : Option Holding). option_map_or (λ h. int_lt (regard_in (holder_world moment stock h)) (regard moment request ad)) o true) (ap holding here ∙ sym who)
+      ∙ ap (λ (k : ℤ). option_map_or (λ h. int_lt (regard_in (holder_world moment stock h)) k) held true) (sym regards)
+      ∙ sym is
 
   abbrev member_of : Option Advert → Option Member
   member_of o = option_and_then (member_with pool request place) o
 
-  pub none-offered : pool.is_offered slot ≡ true → (o : Option Advert) → None ≡ member_of o
-  none-offered offered None = refl
-  none-offered offered (Some a) = sym (by (is_live pool.moment a) (pool.is_offered (slot_at pool place)) (docks pool.moment request a.ad && is_won pool request (slot_at pool place) a.ad) (ap pool.is_offered here ∙ offered))
+  pub none-offered : offered slot ≡ true → (o : Option Advert) → None ≡ member_of o
+  none-offered before None = refl
+  none-offered before (Some a) = sym (by (is_live pool.moment a) (pool.is_offered place) (docks pool.moment request a.ad && is_won pool request place a.ad) (offered-here ∙ before))
     where
       by : (live off rest : Bool) → off ≡ true → (if live && (not off && rest) then Some (as_member pool request place a) else None) ≡ None
       by true true rest e = refl
@@ -80,14 +107,14 @@ module _ (pool : Pool) (request : List Frame) (place slot : ℕ) (at : slice_get
 
   pub none-dead : (o : Option Advert) → option_map (is_live pool.moment) o ≡ Some false → None ≡ member_of o
   none-dead None e = refl
-  none-dead (Some a) e = let dead : is_live pool.moment a ≡ false = cc in sym (ap (λ (b : Bool). if b && (not (pool.is_offered (slot_at pool place)) && (docks pool.moment request a.ad && is_won pool request (slot_at pool place) a.ad)) then Some (as_member pool request place a) else None) dead)
+  none-dead (Some a) e = let dead : is_live pool.moment a ≡ false = cc in sym (ap (λ (b : Bool). if b && (not (pool.is_offered place) && (docks pool.moment request a.ad && is_won pool request place a.ad)) then Some (as_member pool request place a) else None) dead)
 
   module _ (fs : List Frame) where
     pub none-undocked : (o : Option Advert) → option_map (λ a. a.ad) o ≡ Some fs → None ≡ ranks_of_dock pool.moment request fs → None ≡ member_of o
     none-undocked None is none = refl
     none-undocked (Some a) is none =
         let same : a.ad ≡ fs = cc in
-        sym (by (is_live pool.moment a) (not (pool.is_offered (slot_at pool place))) (docks pool.moment request a.ad) (is_won pool request (slot_at pool place) a.ad) (ap (docks pool.moment request) same ∙ none-docked pool.moment request fs (sym none)))
+        sym (by (is_live pool.moment a) (not (pool.is_offered place)) (docks pool.moment request a.ad) (is_won pool request place a.ad) (ap (docks pool.moment request) same ∙ none-docked pool.moment request fs (sym none)))
       where
         by : (live free docked won : Bool) → docked ≡ false → (if live && (free && (docked && won)) then Some (as_member pool request place a) else None) ≡ None
         by true true false won e = refl
@@ -95,11 +122,11 @@ module _ (pool : Pool) (request : List Frame) (place slot : ℕ) (at : slice_get
         by false free false won e = refl
         by live free true won e = absurd (cc)
 
-    pub none-lost : (o : Option Advert) → option_map (λ a. a.ad) o ≡ Some fs → is_won pool request slot fs ≡ false → None ≡ member_of o
+    pub none-lost : (o : Option Advert) → option_map (λ a. a.ad) o ≡ Some fs → is_won pool request place fs ≡ false → None ≡ member_of o
     none-lost None is lost = refl
     none-lost (Some a) is lost =
         let same : a.ad ≡ fs = cc in
-        sym (by (is_live pool.moment a) (not (pool.is_offered (slot_at pool place))) (docks pool.moment request a.ad) (is_won pool request (slot_at pool place) a.ad) (ap (λ s. is_won pool request s a.ad) here ∙ ap (is_won pool request slot) same ∙ lost))
+        sym (by (is_live pool.moment a) (not (pool.is_offered place)) (docks pool.moment request a.ad) (is_won pool request place a.ad) (ap (is_won pool request place) same ∙ lost))
       where
         by : (live free docked won : Bool) → won ≡ false → (if live && (free && (docked && won)) then Some (as_member pool request place a) else None) ≡ None
         by true true true false e = refl
@@ -108,17 +135,17 @@ module _ (pool : Pool) (request : List Frame) (place slot : ℕ) (at : slice_get
         by false free docked false e = refl
         by live free docked true e = absurd (cc)
 
-    pub some-won : (o : Option Advert) (r : Ranks) (claimed : Bool) (m : Member) → option_map (λ a. a.ad) o ≡ Some fs → option_map (is_live pool.moment) o ≡ Some true → pool.is_offered slot ≡ false
-        → Some r ≡ ranks_of_dock pool.moment request fs → is_won pool request slot fs ≡ true → claimed ≡ is_some (pool.holding slot)
+    pub some-won : (o : Option Advert) (r : Ranks) (claimed : Bool) (m : Member) → option_map (λ a. a.ad) o ≡ Some fs → option_map (is_live pool.moment) o ≡ Some true → offered slot ≡ false
+        → Some r ≡ ranks_of_dock pool.moment request fs → is_won pool request place fs ≡ true → claimed ≡ is_some (holding slot)
         → m ≡ record { rank = r.rank; claimed = claimed; regard = r.regard; place = place } → Some m ≡ member_of o
     some-won None r claimed m is live free ranks won holds made = absurd (cc)
     some-won (Some a) r claimed m is live free ranks won holds made =
         let same : a.ad ≡ fs = cc in
         let lives : is_live pool.moment a ≡ true = cc in
         let both = are-ranks pool.moment request fs r (sym ranks) in
-        sym (by (is_live pool.moment a) (pool.is_offered (slot_at pool place)) (docks pool.moment request a.ad) (is_won pool request (slot_at pool place) a.ad)
-        lives (ap pool.is_offered here ∙ free) (ap (docks pool.moment request) same ∙ both.0) (ap (λ s. is_won pool request s a.ad) here ∙ ap (is_won pool request slot) same ∙ won)
-        ∙ ap Some (parts (ap (rank_of_dock pool.moment request) same ∙ sym both.1) (ap (λ s. is_some (pool.holding s)) here ∙ sym holds) (ap (regard pool.moment request) same ∙ sym both.2) ∙ sym made))
+        sym (by (is_live pool.moment a) (pool.is_offered place) (docks pool.moment request a.ad) (is_won pool request place a.ad)
+        lives (offered-here ∙ free) (ap (docks pool.moment request) same ∙ both.0) (ap (is_won pool request place) same ∙ won)
+        ∙ ap Some (parts (ap (rank_of_dock pool.moment request) same ∙ sym both.1) (held-here ∙ sym holds) (ap (regard pool.moment request) same ∙ sym both.2) ∙ sym made))
       where
         by : (live off docked won : Bool) → live ≡ true → off ≡ false → docked ≡ true → won ≡ true → (if live && (not off && (docked && won)) then Some (as_member pool request place a) else None) ≡ Some (as_member pool request place a)
         by true false true true e f g h = refl
@@ -127,17 +154,17 @@ module _ (pool : Pool) (request : List Frame) (place slot : ℕ) (at : slice_get
         by true true docked won e f g h = absurd (cc)
         by false off docked won e f g h = absurd (cc)
 
-        parts : rank_of_dock pool.moment request a.ad ≡ r.rank → is_some (pool.holding (slot_at pool place)) ≡ claimed → regard pool.moment request a.ad ≡ r.regard
+        parts : rank_of_dock pool.moment request a.ad ≡ r.rank → is_some (pool.held_in place) ≡ claimed → regard pool.moment request a.ad ≡ r.regard
             → as_member pool request place a ≡ record { rank = r.rank; claimed = claimed; regard = r.regard; place = place }
         parts e f g =
-            ap (λ (n : ℤ). let m : Member = record { rank = n; claimed = is_some (pool.holding (slot_at pool place)); regard = regard pool.moment request a.ad; place = place } in m) e
+            ap (λ (n : ℤ). let m : Member = record { rank = n; claimed = is_some (pool.held_in place); regard = regard pool.moment request a.ad; place = place } in m) e
             ∙ ap (λ (b : Bool). let m : Member = record { rank = r.rank; claimed = b; regard = regard pool.moment request a.ad; place = place } in m) f
             ∙ ap (λ (n : ℤ). let m : Member = record { rank = r.rank; claimed = claimed; regard = n; place = place } in m) g
 
     -- what it takes
-    module _ (free : pool.is_offered slot ≡ false) where
+    module _ (free : offered slot ≡ false) where
       open-here : (a : Advert) → a.ad ≡ fs → is_undecided request fs ≡ true → is_open pool request place a ≡ true
-      open-here a same left = both (is_undecided request a.ad) (pool.is_offered (slot_at pool place)) (ap (is_undecided request) same ∙ left) (ap pool.is_offered here ∙ free)
+      open-here a same left = both (is_undecided request a.ad) (pool.is_offered place) (ap (is_undecided request) same ∙ left) (offered-here ∙ free)
         where
           both : (u off : Bool) → u ≡ true → off ≡ false → (u && not off) ≡ true
           both true false e f = refl
@@ -167,13 +194,13 @@ module _ (pool : Pool) (request : List Frame) (place slot : ℕ) (at : slice_get
       job_attributes = 4 * attribute_count (pair_world pool.moment request fs)
 
       abbrev holder_attributes : ℕ
-      holder_attributes = option_map_or (λ h. attribute_count (holder_world pool.moment pool.stock h)) (pool.holding slot) 0
+      holder_attributes = option_map_or (λ h. attribute_count (holder_world moment stock h)) (holding slot) 0
 
       weighed : (a : Advert) → a.ad ≡ fs → is_undecided request fs ≡ true → (if is_open pool request place a then attributes_weighed pool request place a else 0) ≡ job_attributes + holder_attributes
       weighed a same left =
           ap {B = ℕ} (λ (b : Bool). if b then attributes_weighed pool request place a else 0) (open-here a same left)
-          ∙ ap (λ (ad : List Frame). 4 * attribute_count (pair_world pool.moment request ad) + option_map_or (λ h. attribute_count (holder_world pool.moment pool.stock h)) (pool.holding (slot_at pool place)) 0) same
-          ∙ ap (λ s. job_attributes + option_map_or (λ h. attribute_count (holder_world pool.moment pool.stock h)) (pool.holding s) 0) here
+          ∙ ap (λ (ad : List Frame). 4 * attribute_count (pair_world pool.moment request ad) + option_map_or attribute_count (pool.held_in place) 0) same
+          ∙ ap (λ n. job_attributes + n) (map-or attribute_count (holder_world moment stock) 0 (holding (slot_at stock place)) ∙ ap (λ s. option_map_or (λ h. attribute_count (holder_world moment stock h)) (holding s) 0) here)
 
       pub attributes-of-dock : (o : Option Advert) → option_map (λ a. a.ad) o ≡ Some fs
           → (if is_undecided request fs then job_attributes else 0) ≤ option_map_or (λ a. if is_open pool request place a then attributes_weighed pool request place a else 0) o 0
@@ -219,14 +246,6 @@ module _ (stock : Stock) (holding : ℕ → Option Holding) (slot : ℕ) where
       within (x ∷ xs) zero e = omega arith
       within (x ∷ xs) (suc i) e = let rest = within xs i e in omega (arith, rest)
 
--- the claim is won as the contract of the look at the holder says it
-pub won-by : (pool : Pool) (request : List Frame) (slot : ℕ) (ad : List Frame) (n : ℤ) (held : Option Holding) (won : Bool) → n ≡ regard pool.moment request ad → held ≡ pool.holding slot
-    → won ≡ option_map_or (λ h. int_lt (holder_regard pool.moment pool.stock h) n) held true → is_won pool request slot ad ≡ won
-won-by pool request slot ad n held won regards who is =
-    ap (λ (o : Option Holding). option_map_or (λ h. int_lt (holder_regard pool.moment pool.stock h) (regard pool.moment request ad)) o true) (sym who)
-    ∙ ap (λ (k : ℤ). option_map_or (λ h. int_lt (holder_regard pool.moment pool.stock h) k) held true) (sym regards)
-    ∙ sym is
-
 -- what holds of a value that is there holds of that value
 pub some-of : (holder : Option Held) (h : Held) (P : Held → Type 0) → holder ≡ Some h → IfSome holder P → P h
 some-of holder h P is all = let Q : Option Held → Type 0 = λ o. IfSome o P in subst Q is all
@@ -234,7 +253,7 @@ some-of holder h P is all = let Q : Option Held → Type 0 = λ o. IfSome o P in
 -- the rank of the holder is that of the world up to its port
 pub rank-of-holder : (moment : ℕ) (stock : Stock) (holder : Option Held) (h : Held) (w : PlainWorld) (k : ℤ) → holder ≡ Some h
     → w ≡ slots_world moment stock h.request.now (take (h.port + 1) h.slots.now)
-    → int_lt (rank_by w (resource_side w)) k ≡ option_map_or (λ g. int_lt (holder_regard moment stock g) k) (option_map holding_of holder) true
+    → int_lt (rank_by w (resource_side w)) k ≡ option_map_or (λ g. int_lt (regard_in (holder_world moment stock g)) k) (option_map holding_of holder) true
 rank-of-holder moment stock holder h w k is world =
     ap (λ (u : PlainWorld). int_lt (rank_by u (resource_side u)) k) (world ∙ ap (λ i. slots_world moment stock h.request.now (take i h.slots.now)) (add-one h.port))
-    ∙ ap (λ o. option_map_or (λ g. int_lt (holder_regard moment stock g) k) (option_map holding_of o) true) (sym is)
+    ∙ ap (λ o. option_map_or (λ g. int_lt (regard_in (holder_world moment stock g)) k) (option_map holding_of o) true) (sym is)

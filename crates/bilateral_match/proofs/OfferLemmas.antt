@@ -1,5 +1,5 @@
 -- More offers leave no more members, and no more docks to evaluate.
-use Rattle.std.proofs.Common.{◌≡◌, ◌≤◌, ℕ, suc, Bool, true, false, not, ◌&&◌, refl, List, [], ◌∷◌, Option, None, Some, if◌then◌else◌, ap, arith, zero-le}
+use Rattle.std.proofs.Common.{◌≡◌, ◌≤◌, ◌+◌, ℕ, suc, Bool, true, false, not, ◌&&◌, refl, List, [], ◌∷◌, Option, None, Some, if◌then◌else◌, ap, sym, ◌∙◌, arith, zero-le}
 use Rattle.std.specs.List.{cons_option}
 use Rattle.std.specs.Ordering.{is_lt}
 use Rattle.ad_tree.specs.Frames.{Frame}
@@ -7,8 +7,8 @@ use Rattle.ad_store.specs.Stock.{Advert, is_live}
 use Rattle.bilateral_match.specs.declared.member.Member.{Member}
 use Rattle.bilateral_match.specs.Counts.{attributes_weighed, entered_for, is_open, open_count, sum_from}
 use Rattle.bilateral_match.specs.Docks.{docks, is_undecided}
-use Rattle.bilateral_match.specs.Members.{as_member, best, earlier, first_of, is_won, member_order, member_with, members, members_from}
-use Rattle.bilateral_match.specs.Pool.{Pool, slot_at}
+use Rattle.bilateral_match.specs.Members.{as_member, best, earlier, first_of, is_member, is_won, member_order, member_with, members, members_from}
+use Rattle.bilateral_match.specs.Pool.{Pool}
 
 -- ---- Booleans
 
@@ -59,21 +59,21 @@ module _ (pool : Pool) (request : List Frame) (offered : ℕ → Bool) (more : (
   no-members k [] e = refl
   no-members k (a ∷ ads) e =
       empty-still (member_with pool request k a) (member_with later request k a) (members_from pool request (suc k) ads) (members_from later request (suc k) ads)
-      (none-still (is_live pool.moment a) (pool.is_offered (slot_at pool k)) (offered (slot_at pool k)) (docks pool.moment request a.ad && is_won pool request (slot_at pool k) a.ad)
-      (as_member pool request k a) (as_member later request k a) (more (slot_at pool k)))
+      (none-still (is_live pool.moment a) (pool.is_offered k) (offered k) (docks pool.moment request a.ad && is_won pool request k a.ad)
+      (as_member pool request k a) (as_member later request k a) (more k))
       (no-members (suc k) ads) e
 
   pub none-later : best pool request ≡ None → best later request ≡ None
-  none-later e = ap first_of (no-members 0 pool.stock.ads (none-first (members pool request) e))
+  none-later e = ap first_of (no-members 0 pool.ads (none-first (members pool request) e))
 
   pub fewer-open : open_count later request ≤ open_count pool request
   fewer-open =
       sum-fewer (λ place a. if is_open later request place a then 1 else 0) (λ place a. if is_open pool request place a then 1 else 0)
-      (λ place a. fewer (is_undecided request a.ad) (pool.is_offered (slot_at pool place)) (offered (slot_at pool place)) 1 (more (slot_at pool place)))
-      0 pool.stock.ads
+      (λ place a. fewer (is_undecided request a.ad) (pool.is_offered place) (offered place) 1 (more place))
+      0 pool.ads
 
   pub fewer-entered : entered_for later request ≤ entered_for pool request
   fewer-entered =
       sum-fewer (λ place a. if is_open later request place a then attributes_weighed later request place a else 0) (λ place a. if is_open pool request place a then attributes_weighed pool request place a else 0)
-      (λ place a. fewer (is_undecided request a.ad) (pool.is_offered (slot_at pool place)) (offered (slot_at pool place)) (attributes_weighed pool request place a) (more (slot_at pool place)))
-      0 pool.stock.ads
+      (λ place a. fewer (is_undecided request a.ad) (pool.is_offered place) (offered place) (attributes_weighed pool request place a) (more place))
+      0 pool.ads

@@ -5,34 +5,32 @@ use Rattle.std.specs.Option.{option_map_or}
 use Rattle.std.specs.Ordering.{bool_cmp, int_cmp, is_lt, nat_cmp, ordering_then}
 use Rattle.std.specs.declared.cmp.Ordering.{Ordering}
 use Rattle.ad_tree.specs.Frames.{Frame}
-use Rattle.ad_store.specs.Stock.{Advert, is_live}
-use Rattle.eval_scope.specs.World.{resource_side}
-use Rattle.ad_eval.specs.Dock.{rank_by}
+use Rattle.ad_store.specs.Stock.{Advert, Stock, is_live}
 use Rattle.bilateral_match.specs.declared.member.Member.{Member}
 use Rattle.bilateral_match.specs.Docks.{docks, pair_world, rank_of_dock}
-use Rattle.bilateral_match.specs.Pool.{Pool, holder_regard, slot_at}
+use Rattle.bilateral_match.specs.Pool.{Pool, regard_in, slot_at}
 
 -- ---- members
 
 -- the rank that a resource gives the job
 abbrev pub regard : ℕ → List Frame → List Frame → ℤ
-regard moment request ad = rank_by (pair_world moment request ad) (resource_side (pair_world moment request ad))
+regard moment request ad = regard_in (pair_world moment request ad)
 
--- the resource in a slot is unclaimed, or ranks its holder strictly lower than the job
+-- the resource at a place is unclaimed, or ranks its holder strictly lower than the job
 abbrev pub is_won : Pool → List Frame → ℕ → List Frame → Bool
-is_won pool request slot ad = option_map_or (λ holding. int_lt (holder_regard pool.moment pool.stock holding) (regard pool.moment request ad)) (pool.holding slot) true
+is_won pool request place ad = option_map_or (λ world. int_lt (regard_in world) (regard pool.moment request ad)) (pool.held_in place) true
 
 -- a member is a live resource that isn't offered, that docks with the job, and that the job wins
 abbrev pub is_member : Pool → List Frame → ℕ → Advert → Bool
 is_member pool request place advert =
     is_live pool.moment advert
-    && (not (pool.is_offered (slot_at pool place)) && (docks pool.moment request advert.ad && is_won pool request (slot_at pool place) advert.ad))
+    && (not (pool.is_offered place) && (docks pool.moment request advert.ad && is_won pool request place advert.ad))
 
 -- a resource as members are compared
 abbrev pub as_member : Pool → List Frame → ℕ → Advert → Member
 as_member pool request place advert = record {
   rank = rank_of_dock pool.moment request advert.ad;
-  claimed = is_some (pool.holding (slot_at pool place));
+  claimed = is_some (pool.held_in place);
   regard = regard pool.moment request advert.ad;
   place = place;
 }
@@ -47,7 +45,7 @@ members_from pool request k [] = []
 members_from pool request k (advert ∷ ads) = cons_option (member_with pool request k advert) (members_from pool request (suc k) ads)
 
 abbrev pub members : Pool → List Frame → List Member
-members pool request = members_from pool request 0 pool.stock.ads
+members pool request = members_from pool request 0 pool.ads
 
 -- ---- their order
 
@@ -84,6 +82,6 @@ first_of (m ∷ ms) = earlier (Some m) (first_of ms)
 abbrev pub best : Pool → List Frame → Option Member
 best pool request = first_of (members pool request)
 
--- its slot
-abbrev pub best_slot : Pool → List Frame → Option ℕ
-best_slot pool request = option_map (λ m. slot_at pool m.place) (best pool request)
+-- the slot of that member
+abbrev pub best_slot : Stock → Pool → List Frame → Option ℕ
+best_slot stock pool request = option_map (λ m. slot_at stock m.place) (best pool request)

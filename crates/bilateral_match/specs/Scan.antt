@@ -30,11 +30,11 @@ abbrev pub ranks_of_dock : ℕ → List Frame → List Frame → Option Ranks
 ranks_of_dock moment request ad = if docks moment request ad then Some (record { rank = rank_of_dock moment request ad; regard = regard moment request ad }) else None
 
 abbrev pub member_at : Pool → List Frame → ℕ → Option Member
-member_at pool request place = option_and_then (member_with pool request place) (slice_get pool.stock.ads place)
+member_at pool request place = option_and_then (member_with pool request place) (slice_get pool.ads place)
 
 -- how many evaluations the resource at a place may take, and how many attributes may be entered in them
 abbrev pub evaluations_for : Pool → List Frame → ℕ → ℕ
-evaluations_for pool request place = option_map_or (λ advert. if is_open pool request place advert then 5 else 0) (slice_get pool.stock.ads place) 0
+evaluations_for pool request place = option_map_or (λ advert. if is_open pool request place advert then 5 else 0) (slice_get pool.ads place) 0
 
 abbrev pub attributes_for : Pool → List Frame → ℕ → ℕ
-attributes_for pool request place = option_map_or (λ advert. if is_open pool request place advert then attributes_weighed pool request place advert else 0) (slice_get pool.stock.ads place) 0
+attributes_for pool request place = option_map_or (λ advert. if is_open pool request place advert then attributes_weighed pool request place advert else 0) (slice_get pool.ads place) 0

@@ -50,7 +50,7 @@ pub fn best<H: Holdings, F: Ledger, E: Ledger, T: Ledger>(
     requires stored { AreStored (stock_of store.now) (H.holding held.now) }
     requires single { request.now.ports ≡ [] }
     ensures best { IfOk result (λ slot. slot
-        ≡ best_slot (pool_of moment (stock_of store.now) (H.is_offered held.now) (H.holding held.now)) (ad_frames request.now.ad)) }
+        ≡ best_slot (stock_of store.now) (pool_of moment (stock_of store.now) (H.is_offered held.now) (H.holding held.now)) (ad_frames request.now.ad)) }
     ensures held { IfOk result (λ slot. IfSome slot (Contains (stock_of store.now).slots)) }
     ensures free { IfOk result (λ slot. IfSome slot (λ s. H.is_offered held.now s ≡ false)) }
     ensures evaluations { tops.new ≤ tops.old

@@ -2,7 +2,7 @@ use Rattle.std.proofs.Common.{ap, option_map, length, arith, ◌∙◌}
 use Rattle.ad_tree.specs.Ad.{ad_frames}
 use Rattle.ad_store.specs.Store.{stock_of}
 use Rattle.bilateral_match.specs.Pool.{pool_of, slot_at}
-use Rattle.bilateral_match.proofs.MemberScanLemmas.{entered-sum, first-within, found-best, open-sum, slot-free}
+use Rattle.bilateral_match.proofs.MemberScanLemmas.{entered-sum, first-free, first-within, found-best, open-sum, slot-free}
 use Rattle.bilateral_match.proofs.choosing.best.Goals as goal
 
 pub slot_of-requires : goal.slot_of-requires
@@ -24,11 +24,13 @@ pub returns-clause-best : goal.returns-clause-best
 returns-clause-best g c =
     let pool = pool_of c.args.moment (stock_of c.args.store.now) (g.H.Holdings.is_offered c.args.held.now) (g.H.Holdings.holding c.args.held.now) in
     c.slot_of.ensures.slot
-    ∙ ap (option_map (λ m. slot_at pool m.place)) (found-best pool (ad_frames c.args.request.now.ad) c.in_ok-places.places c.in_ok-places.ensures.places c.in_ok-first.first c.in_ok-first.ensures.first)
+    ∙ ap (option_map (λ m. slot_at (stock_of c.args.store.now) m.place)) (found-best pool (ad_frames c.args.request.now.ad) c.in_ok-places.places c.in_ok-places.ensures.places c.in_ok-first.first c.in_ok-first.ensures.first)
 
 pub returns-clause-free : goal.returns-clause-free
 returns-clause-free g c =
-    slot-free (pool_of c.args.moment (stock_of c.args.store.now) (g.H.Holdings.is_offered c.args.held.now) (g.H.Holdings.holding c.args.held.now)) (ad_frames c.args.request.now.ad) c.in_ok-places.places c.in_ok-first.first c.slot_of.result c.in_ok-first.ensures.first c.slot_of.ensures.slot
+    slot-free (stock_of c.args.store.now) (g.H.Holdings.is_offered c.args.held.now) c.in_ok-first.first c.slot_of.result
+    (first-free (pool_of c.args.moment (stock_of c.args.store.now) (g.H.Holdings.is_offered c.args.held.now) (g.H.Holdings.holding c.args.held.now)) (ad_frames c.args.request.now.ad) c.in_ok-places.places c.in_ok-first.first c.in_ok-first.ensures.first)
+    c.slot_of.ensures.slot
 
 pub returns-clause-evaluations : goal.returns-clause-evaluations
 returns-clause-evaluations g c =

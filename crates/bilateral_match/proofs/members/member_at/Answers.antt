@@ -12,48 +12,48 @@ pub returns-then-offered-clause-member : goal.returns-then-offered-clause-member
 returns-then-offered-clause-member g c =
     let pool = pool_of c.args.moment (stock_of c.args.store.now) (g.H.Holdings.is_offered c.args.held.now) (g.H.Holdings.holding c.args.held.now) in
     let request = ad_frames c.args.request.now.ad in
-    none-offered pool request c.args.place c.at-slot.result c.at-slot.ensures.place (sym c.offered.ensures ∙ c.if-offered.true) (slice_get pool.stock.ads c.args.place)
+    none-offered c.args.moment (stock_of c.args.store.now) (g.H.Holdings.is_offered c.args.held.now) (g.H.Holdings.holding c.args.held.now) request c.args.place c.at-slot.result c.at-slot.ensures.place (sym c.offered.ensures ∙ c.if-offered.true) (slice_get pool.ads c.args.place)
 
 pub returns-then-not-is_live-clause-member : goal.returns-then-not-is_live-clause-member
 returns-then-not-is_live-clause-member g c =
     let pool = pool_of c.args.moment (stock_of c.args.store.now) (g.H.Holdings.is_offered c.args.held.now) (g.H.Holdings.holding c.args.held.now) in
     let request = ad_frames c.args.request.now.ad in
-    none-dead pool request c.args.place c.at-slot.result c.at-slot.ensures.place (slice_get pool.stock.ads c.args.place) (c.is_live.ensures c.args.place c.at-slot.ensures.place ∙ ap Some c.if-not-is_live.true)
+    none-dead c.args.moment (stock_of c.args.store.now) (g.H.Holdings.is_offered c.args.held.now) (g.H.Holdings.holding c.args.held.now) request c.args.place c.at-slot.result c.at-slot.ensures.place (slice_get pool.ads c.args.place) (c.is_live.ensures c.args.place c.at-slot.ensures.place ∙ ap Some c.if-not-is_live.true)
 
 pub returns-in_err-met-clause-evaluations : goal.returns-in_err-met-clause-evaluations
 returns-in_err-met-clause-evaluations g c =
     let pool = pool_of c.args.moment (stock_of c.args.store.now) (g.H.Holdings.is_offered c.args.held.now) (g.H.Holdings.holding c.args.held.now) in
     let ad = ad_frames c.look-ad.result.now in
     let request = ad_frames c.args.request.now.ad in
-    omega (arith, c.ranks.ensures.evaluations, four-of-five pool request c.args.place c.at-slot.result c.at-slot.ensures.place ad (sym c.offered.ensures ∙ c.if-offered.false) (slice_get pool.stock.ads c.args.place) (c.look-ad.ensures.ad c.args.place c.at-slot.ensures.place))
+    omega (arith, c.ranks.ensures.evaluations, four-of-five c.args.moment (stock_of c.args.store.now) (g.H.Holdings.is_offered c.args.held.now) (g.H.Holdings.holding c.args.held.now) request c.args.place c.at-slot.result c.at-slot.ensures.place ad (sym c.offered.ensures ∙ c.if-offered.false) (slice_get pool.ads c.args.place) (c.look-ad.ensures.ad c.args.place c.at-slot.ensures.place))
 
 pub returns-in_err-met-clause-entries : goal.returns-in_err-met-clause-entries
 returns-in_err-met-clause-entries g c =
     let pool = pool_of c.args.moment (stock_of c.args.store.now) (g.H.Holdings.is_offered c.args.held.now) (g.H.Holdings.holding c.args.held.now) in
     let ad = ad_frames c.look-ad.result.now in
     let request = ad_frames c.args.request.now.ad in
-    omega (arith, c.ranks.ensures.entries, attributes-of-dock pool request c.args.place c.at-slot.result c.at-slot.ensures.place ad (sym c.offered.ensures ∙ c.if-offered.false) (slice_get pool.stock.ads c.args.place) (c.look-ad.ensures.ad c.args.place c.at-slot.ensures.place))
+    omega (arith, c.ranks.ensures.entries, attributes-of-dock c.args.moment (stock_of c.args.store.now) (g.H.Holdings.is_offered c.args.held.now) (g.H.Holdings.holding c.args.held.now) request c.args.place c.at-slot.result c.at-slot.ensures.place ad (sym c.offered.ensures ∙ c.if-offered.false) (slice_get pool.ads c.args.place) (c.look-ad.ensures.ad c.args.place c.at-slot.ensures.place))
 
 pub returns-in_default-clause-evaluations : goal.returns-in_default-clause-evaluations
 returns-in_default-clause-evaluations g c =
     let pool = pool_of c.args.moment (stock_of c.args.store.now) (g.H.Holdings.is_offered c.args.held.now) (g.H.Holdings.holding c.args.held.now) in
     let ad = ad_frames c.look-ad.result.now in
     let request = ad_frames c.args.request.now.ad in
-    omega (arith, c.ranks.ensures.evaluations, four-of-five pool request c.args.place c.at-slot.result c.at-slot.ensures.place ad (sym c.offered.ensures ∙ c.if-offered.false) (slice_get pool.stock.ads c.args.place) (c.look-ad.ensures.ad c.args.place c.at-slot.ensures.place))
+    omega (arith, c.ranks.ensures.evaluations, four-of-five c.args.moment (stock_of c.args.store.now) (g.H.Holdings.is_offered c.args.held.now) (g.H.Holdings.holding c.args.held.now) request c.args.place c.at-slot.result c.at-slot.ensures.place ad (sym c.offered.ensures ∙ c.if-offered.false) (slice_get pool.ads c.args.place) (c.look-ad.ensures.ad c.args.place c.at-slot.ensures.place))
 
 pub returns-in_default-clause-entries : goal.returns-in_default-clause-entries
 returns-in_default-clause-entries g c =
     let pool = pool_of c.args.moment (stock_of c.args.store.now) (g.H.Holdings.is_offered c.args.held.now) (g.H.Holdings.holding c.args.held.now) in
     let ad = ad_frames c.look-ad.result.now in
     let request = ad_frames c.args.request.now.ad in
-    omega (arith, c.ranks.ensures.entries, attributes-of-dock pool request c.args.place c.at-slot.result c.at-slot.ensures.place ad (sym c.offered.ensures ∙ c.if-offered.false) (slice_get pool.stock.ads c.args.place) (c.look-ad.ensures.ad c.args.place c.at-slot.ensures.place))
+    omega (arith, c.ranks.ensures.entries, attributes-of-dock c.args.moment (stock_of c.args.store.now) (g.H.Holdings.is_offered c.args.held.now) (g.H.Holdings.holding c.args.held.now) request c.args.place c.at-slot.result c.at-slot.ensures.place ad (sym c.offered.ensures ∙ c.if-offered.false) (slice_get pool.ads c.args.place) (c.look-ad.ensures.ad c.args.place c.at-slot.ensures.place))
 
 pub returns-in_err-won-clause-evaluations : goal.returns-in_err-won-clause-evaluations
 returns-in_err-won-clause-evaluations g c =
     let pool = pool_of c.args.moment (stock_of c.args.store.now) (g.H.Holdings.is_offered c.args.held.now) (g.H.Holdings.holding c.args.held.now) in
     let ad = ad_frames c.look-ad.result.now in
     let request = ad_frames c.args.request.now.ad in
-    omega (arith, c.ranks.ensures.evaluations, c.is_won.ensures.evaluations, five-in-all pool request c.args.place c.at-slot.result c.at-slot.ensures.place ad (sym c.offered.ensures ∙ c.if-offered.false) (slice_get pool.stock.ads c.args.place) c.in-Some.ranks (c.look-ad.ensures.ad c.args.place c.at-slot.ensures.place) (sym c.in-Some.is ∙ c.in_ok-met.ensures.ranks))
+    omega (arith, c.ranks.ensures.evaluations, c.is_won.ensures.evaluations, five-in-all c.args.moment (stock_of c.args.store.now) (g.H.Holdings.is_offered c.args.held.now) (g.H.Holdings.holding c.args.held.now) request c.args.place c.at-slot.result c.at-slot.ensures.place ad (sym c.offered.ensures ∙ c.if-offered.false) (slice_get pool.ads c.args.place) c.in-Some.ranks (c.look-ad.ensures.ad c.args.place c.at-slot.ensures.place) (sym c.in-Some.is ∙ c.in_ok-met.ensures.ranks))
 
 pub returns-in_err-won-clause-entries : goal.returns-in_err-won-clause-entries
 returns-in_err-won-clause-entries g c =
@@ -61,14 +61,14 @@ returns-in_err-won-clause-entries g c =
     let ad = ad_frames c.look-ad.result.now in
     let request = ad_frames c.args.request.now.ad in
     let taken = ap (λ h. option_map_or (λ h. attribute_count (holder_world c.args.moment (stock_of c.args.store.now) h)) h 0) (c.holder-holder.ensures.who) in
-    omega (arith, taken, c.ranks.ensures.entries, c.is_won.ensures.entries, attributes-in-all pool request c.args.place c.at-slot.result c.at-slot.ensures.place ad (sym c.offered.ensures ∙ c.if-offered.false) (slice_get pool.stock.ads c.args.place) c.in-Some.ranks (c.look-ad.ensures.ad c.args.place c.at-slot.ensures.place) (sym c.in-Some.is ∙ c.in_ok-met.ensures.ranks))
+    omega (arith, taken, c.ranks.ensures.entries, c.is_won.ensures.entries, attributes-in-all c.args.moment (stock_of c.args.store.now) (g.H.Holdings.is_offered c.args.held.now) (g.H.Holdings.holding c.args.held.now) request c.args.place c.at-slot.result c.at-slot.ensures.place ad (sym c.offered.ensures ∙ c.if-offered.false) (slice_get pool.ads c.args.place) c.in-Some.ranks (c.look-ad.ensures.ad c.args.place c.at-slot.ensures.place) (sym c.in-Some.is ∙ c.in_ok-met.ensures.ranks))
 
 pub returns-then-not-won-clause-evaluations : goal.returns-then-not-won-clause-evaluations
 returns-then-not-won-clause-evaluations g c =
     let pool = pool_of c.args.moment (stock_of c.args.store.now) (g.H.Holdings.is_offered c.args.held.now) (g.H.Holdings.holding c.args.held.now) in
     let ad = ad_frames c.look-ad.result.now in
     let request = ad_frames c.args.request.now.ad in
-    omega (arith, c.ranks.ensures.evaluations, c.is_won.ensures.evaluations, five-in-all pool request c.args.place c.at-slot.result c.at-slot.ensures.place ad (sym c.offered.ensures ∙ c.if-offered.false) (slice_get pool.stock.ads c.args.place) c.in-Some.ranks (c.look-ad.ensures.ad c.args.place c.at-slot.ensures.place) (sym c.in-Some.is ∙ c.in_ok-met.ensures.ranks))
+    omega (arith, c.ranks.ensures.evaluations, c.is_won.ensures.evaluations, five-in-all c.args.moment (stock_of c.args.store.now) (g.H.Holdings.is_offered c.args.held.now) (g.H.Holdings.holding c.args.held.now) request c.args.place c.at-slot.result c.at-slot.ensures.place ad (sym c.offered.ensures ∙ c.if-offered.false) (slice_get pool.ads c.args.place) c.in-Some.ranks (c.look-ad.ensures.ad c.args.place c.at-slot.ensures.place) (sym c.in-Some.is ∙ c.in_ok-met.ensures.ranks))
 
 pub returns-then-not-won-clause-entries : goal.returns-then-not-won-clause-entries
 returns-then-not-won-clause-entries g c =
@@ -76,14 +76,14 @@ returns-then-not-won-clause-entries g c =
     let ad = ad_frames c.look-ad.result.now in
     let request = ad_frames c.args.request.now.ad in
     let taken = ap (λ h. option_map_or (λ h. attribute_count (holder_world c.args.moment (stock_of c.args.store.now) h)) h 0) (c.holder-holder.ensures.who) in
-    omega (arith, taken, c.ranks.ensures.entries, c.is_won.ensures.entries, attributes-in-all pool request c.args.place c.at-slot.result c.at-slot.ensures.place ad (sym c.offered.ensures ∙ c.if-offered.false) (slice_get pool.stock.ads c.args.place) c.in-Some.ranks (c.look-ad.ensures.ad c.args.place c.at-slot.ensures.place) (sym c.in-Some.is ∙ c.in_ok-met.ensures.ranks))
+    omega (arith, taken, c.ranks.ensures.entries, c.is_won.ensures.entries, attributes-in-all c.args.moment (stock_of c.args.store.now) (g.H.Holdings.is_offered c.args.held.now) (g.H.Holdings.holding c.args.held.now) request c.args.place c.at-slot.result c.at-slot.ensures.place ad (sym c.offered.ensures ∙ c.if-offered.false) (slice_get pool.ads c.args.place) c.in-Some.ranks (c.look-ad.ensures.ad c.args.place c.at-slot.ensures.place) (sym c.in-Some.is ∙ c.in_ok-met.ensures.ranks))
 
 pub returns-clause-evaluations : goal.returns-clause-evaluations
 returns-clause-evaluations g c =
     let pool = pool_of c.args.moment (stock_of c.args.store.now) (g.H.Holdings.is_offered c.args.held.now) (g.H.Holdings.holding c.args.held.now) in
     let ad = ad_frames c.look-ad.result.now in
     let request = ad_frames c.args.request.now.ad in
-    omega (arith, c.ranks.ensures.evaluations, c.is_won.ensures.evaluations, five-in-all pool request c.args.place c.at-slot.result c.at-slot.ensures.place ad (sym c.offered.ensures ∙ c.if-offered.false) (slice_get pool.stock.ads c.args.place) c.in-Some.ranks (c.look-ad.ensures.ad c.args.place c.at-slot.ensures.place) (sym c.in-Some.is ∙ c.in_ok-met.ensures.ranks))
+    omega (arith, c.ranks.ensures.evaluations, c.is_won.ensures.evaluations, five-in-all c.args.moment (stock_of c.args.store.now) (g.H.Holdings.is_offered c.args.held.now) (g.H.Holdings.holding c.args.held.now) request c.args.place c.at-slot.result c.at-slot.ensures.place ad (sym c.offered.ensures ∙ c.if-offered.false) (slice_get pool.ads c.args.place) c.in-Some.ranks (c.look-ad.ensures.ad c.args.place c.at-slot.ensures.place) (sym c.in-Some.is ∙ c.in_ok-met.ensures.ranks))
 
 pub returns-clause-entries : goal.returns-clause-entries
 returns-clause-entries g c =
@@ -91,26 +91,26 @@ returns-clause-entries g c =
     let ad = ad_frames c.look-ad.result.now in
     let request = ad_frames c.args.request.now.ad in
     let taken = ap (λ h. option_map_or (λ h. attribute_count (holder_world c.args.moment (stock_of c.args.store.now) h)) h 0) (c.holder-holder.ensures.who) in
-    omega (arith, taken, c.ranks.ensures.entries, c.is_won.ensures.entries, attributes-in-all pool request c.args.place c.at-slot.result c.at-slot.ensures.place ad (sym c.offered.ensures ∙ c.if-offered.false) (slice_get pool.stock.ads c.args.place) c.in-Some.ranks (c.look-ad.ensures.ad c.args.place c.at-slot.ensures.place) (sym c.in-Some.is ∙ c.in_ok-met.ensures.ranks))
+    omega (arith, taken, c.ranks.ensures.entries, c.is_won.ensures.entries, attributes-in-all c.args.moment (stock_of c.args.store.now) (g.H.Holdings.is_offered c.args.held.now) (g.H.Holdings.holding c.args.held.now) request c.args.place c.at-slot.result c.at-slot.ensures.place ad (sym c.offered.ensures ∙ c.if-offered.false) (slice_get pool.ads c.args.place) c.in-Some.ranks (c.look-ad.ensures.ad c.args.place c.at-slot.ensures.place) (sym c.in-Some.is ∙ c.in_ok-met.ensures.ranks))
 
 pub returns-then-not-won-clause-member : goal.returns-then-not-won-clause-member
 returns-then-not-won-clause-member g c =
     let pool = pool_of c.args.moment (stock_of c.args.store.now) (g.H.Holdings.is_offered c.args.held.now) (g.H.Holdings.holding c.args.held.now) in
     let ad = ad_frames c.look-ad.result.now in
     let request = ad_frames c.args.request.now.ad in
-    none-lost pool request c.args.place c.at-slot.result c.at-slot.ensures.place ad (slice_get pool.stock.ads c.args.place) (c.look-ad.ensures.ad c.args.place c.at-slot.ensures.place) (won-by pool request c.at-slot.result ad c.in-Some.ranks.regard (option_map holding_of c.holder-holder.result) c.in_ok-won.won (are-ranks c.args.moment request ad c.in-Some.ranks (sym (sym c.in-Some.is ∙ c.in_ok-met.ensures.ranks))).2 (c.holder-holder.ensures.who) c.in_ok-won.ensures.won ∙ c.if-not-won.true)
+    none-lost c.args.moment (stock_of c.args.store.now) (g.H.Holdings.is_offered c.args.held.now) (g.H.Holdings.holding c.args.held.now) request c.args.place c.at-slot.result c.at-slot.ensures.place ad (slice_get pool.ads c.args.place) (c.look-ad.ensures.ad c.args.place c.at-slot.ensures.place) (won-by c.args.moment (stock_of c.args.store.now) (g.H.Holdings.is_offered c.args.held.now) (g.H.Holdings.holding c.args.held.now) request c.args.place c.at-slot.result c.at-slot.ensures.place ad c.in-Some.ranks.regard (option_map holding_of c.holder-holder.result) c.in_ok-won.won (are-ranks c.args.moment request ad c.in-Some.ranks (sym (sym c.in-Some.is ∙ c.in_ok-met.ensures.ranks))).2 (c.holder-holder.ensures.who) c.in_ok-won.ensures.won ∙ c.if-not-won.true)
 
 pub returns-clause-member : goal.returns-clause-member
 returns-clause-member g c =
     let pool = pool_of c.args.moment (stock_of c.args.store.now) (g.H.Holdings.is_offered c.args.held.now) (g.H.Holdings.holding c.args.held.now) in
     let request = ad_frames c.args.request.now.ad in
     let ranks = sym c.in-Some.is ∙ c.in_ok-met.ensures.ranks in
-    some-won pool request c.args.place c.at-slot.result c.at-slot.ensures.place (ad_frames c.look-ad.result.now) (slice_get pool.stock.ads c.args.place) c.in-Some.ranks c.is_some.result c.as_member.result
+    some-won c.args.moment (stock_of c.args.store.now) (g.H.Holdings.is_offered c.args.held.now) (g.H.Holdings.holding c.args.held.now) request c.args.place c.at-slot.result c.at-slot.ensures.place (ad_frames c.look-ad.result.now) (slice_get pool.ads c.args.place) c.in-Some.ranks c.is_some.result c.as_member.result
     (c.look-ad.ensures.ad c.args.place c.at-slot.ensures.place) (c.is_live.ensures c.args.place c.at-slot.ensures.place ∙ ap Some c.if-not-is_live.false) (sym c.offered.ensures ∙ c.if-offered.false)
     ranks
-    (won-by pool request c.at-slot.result (ad_frames c.look-ad.result.now) c.in-Some.ranks.regard (option_map holding_of c.holder-holder.result) c.in_ok-won.won
+    (won-by c.args.moment (stock_of c.args.store.now) (g.H.Holdings.is_offered c.args.held.now) (g.H.Holdings.holding c.args.held.now) request c.args.place c.at-slot.result c.at-slot.ensures.place (ad_frames c.look-ad.result.now) c.in-Some.ranks.regard (option_map holding_of c.holder-holder.result) c.in_ok-won.won
     (are-ranks c.args.moment request (ad_frames c.look-ad.result.now) c.in-Some.ranks (sym ranks)).2 c.holder-holder.ensures.who c.in_ok-won.ensures.won ∙ c.if-not-won.false)
-    (c.is_some.ensures ∙ holder-there pool.stock pool.holding c.at-slot.result c.holder-holder.result c.holder-holder.ensures.who)
+    (c.is_some.ensures ∙ holder-there (stock_of c.args.store.now) (g.H.Holdings.holding c.args.held.now) c.at-slot.result c.holder-holder.result c.holder-holder.ensures.who)
     c.as_member.ensures
 
 pub is_won-requires-clause-stored : goal.is_won-requires-clause-stored

@@ -2,6 +2,8 @@
 #![tactic(auto)]
 
 #[cfg(test)]
+mod choice;
+#[cfg(test)]
 mod claims;
 #[cfg(test)]
 mod evaluation;

@@ -15,15 +15,15 @@ use std::marker::Brand;
 use std::sync::ledger::{Blank, Ledger};
 use std::test::Fail;
 
-fn integer(n: i64) -> Expr {
+pub(crate) fn integer(n: i64) -> Expr {
     Expr::Literal(Lit::Integer(n))
 }
 
-fn truth() -> Expr {
+pub(crate) fn truth() -> Expr {
     Expr::Literal(Lit::Boolean(true))
 }
 
-fn target(alloc: Global, name: &[u8]) -> Result<Expr, OutOfMemory> {
+pub(crate) fn target(alloc: Global, name: &[u8]) -> Result<Expr, OutOfMemory> {
     Ok(Expr::Name(Scope::Target, Text::from_bytes(alloc, name)?))
 }
 
@@ -56,7 +56,7 @@ fn request(alloc: Global, rank: Expr) -> Result<Request, OutOfMemory>
 }
 
 // The index of the ads of a store.
-fn index_of<T: Ledger>(
+pub(crate) fn index_of<T: Ledger>(
     alloc: Global,
     store: &Store,
     touch: &mut Steps<T>,

@@ -2,11 +2,16 @@ mod AdLemmas
 mod Cases
 mod EndLemmas
 mod EventLemmas
+mod ExpiryLemmas
 mod HitLemmas
 mod IndexLemmas
+mod JobLemmas
+mod NameLemmas
+mod QueueLemmas
 mod ReadingLemmas
 mod RunningLemmas
 mod StepLemmas
+mod SubmitLemmas
 mod TimeLemmas
 mod TookLemmas
 mod WroteLemmas

@@ -1,9 +1,13 @@
+pub mod Books
+pub mod Changes
 pub mod Ends
 pub mod Events
 pub mod Indexed
 pub mod Limits
 pub mod Pool
+pub mod Queue
 pub mod Session
 pub mod State
 pub mod Step
 pub mod Stocks
+pub mod Stored

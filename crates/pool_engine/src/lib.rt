@@ -2,8 +2,10 @@
 #![tactic(auto)]
 
 mod ads;
+mod books;
 mod eval;
 mod indexed;
+mod jobs;
 mod laws;
 mod pool;
 mod query;

@@ -1,5 +1,5 @@
 -- The jobs of a state behind the changes of a table.
-use Rattle.std.proofs.Common.{◌≡◌, ℕ, zero, suc, ◌≤◌, ◌<◌, Bool, true, false, not, ◌&&◌, ◌||◌, cond, eqb, List, [], ◌∷◌, ◌++◌, filter, find, length, map, position, slice_get, Option, None, Some, option_map, is_some, Result, Ok, Err, IfOk, OnOk, bytes_eq, sum_by, refl, sym, ◌∙◌, ap, arith}
+use Rattle.std.proofs.Common.{◌≡◌, ℕ, zero, suc, ◌≤◌, ◌<◌, All, Bool, true, false, not, ◌&&◌, ◌||◌, cond, eqb, List, [], ◌∷◌, ◌++◌, filter, find, length, map, position, slice_get, Option, None, Some, option_map, is_some, Result, Ok, Err, IfOk, OnOk, bytes_eq, sum_by, refl, sym, ◌∙◌, ap, arith}
 use Rattle.std.specs.List.{list_all, list_any, remove}
 use Rattle.std.specs.Option.{option_and_then, option_map_or}
 use Rattle.std.specs.Result.{is_ok}
@@ -13,6 +13,7 @@ use Rattle.claim_table.specs.declared.job.Job.{Job}
 use Rattle.claim_table.specs.declared.job.Standing.{Standing}
 use Rattle.claim_table.specs.Answers.{no_job, without_at}
 use Rattle.claim_table.specs.Jobs.{AreExclusive, AreNamedApart, claim_of, claimed_by as claimer, is_named, job_named, lists, numbered, offer_of, offered_to as offeree, slots_of}
+use Rattle.claim_table.proofs.ListLemmas.{All-remove}
 use Rattle.pool_engine.specs.Pool.{name_in, named_standing, queued}
 use Rattle.pool_engine.specs.Queue.{claim_names, claimed_by, has_job, is_job, is_listed, names_of, offer_names, offered_to, without_job, without_resources}
 use Rattle.pool_engine.specs.State.{JobStanding, QueuedJob, idle}
@@ -123,6 +124,10 @@ queue-without stock name jobs apart =
 pub stored-without : (slots : List ℕ) (name : List ℕ) (jobs : List Job) → AreNamedApart jobs → are_stored slots jobs ≡ true → are_stored slots (without_at (numbered name jobs) jobs) ≡ true
 stored-without slots name jobs apart stored =
     ap (are_stored slots) (without_at-filter (is_named name) jobs (named_once name jobs apart)) ∙ all_kept (is_stored slots) (λ job. not (is_named name job)) jobs stored
+
+pub single-without : (o : Option ℕ) (jobs : List Job) → All (λ job. job.request.ports ≡ []) jobs → All (λ job. job.request.ports ≡ []) (without_at o jobs)
+single-without None jobs single = single
+single-without (Some i) jobs single = All-remove (λ job. job.request.ports ≡ []) jobs i single
 
 -- ---- the job of a name
 

@@ -66,13 +66,15 @@ impl Books {
             × (ads_of self.new.ads ≡ ads_of self.old.ads) × (queue_of self.new ≡ queue_of self.old)) }
         ensures looks { touch.new ≤ touch.old + 2 }
     {
-        let put = self
-            .ads
-            .put(name, born, lifetime, text_len, ad, touch);
-        if let Err(PutFault::OutOfMemory) = put {
-            self.claims = ClaimTable::new(alloc);
+        match self.ads.put(name, born, lifetime, text_len, ad, touch) {
+            Ok(put) => Ok(put),
+            Err(PutFault::Full) => Err(PutFault::Full),
+            Err(PutFault::FullText) => Err(PutFault::FullText),
+            Err(PutFault::OutOfMemory) => {
+                self.claims = ClaimTable::new(alloc);
+                Err(PutFault::OutOfMemory)
+            }
         }
-        put
     }
 
     /// Takes out the ad of a name and ends the claim and the offer of it. Answers whether there is one, and counts at most

@@ -86,7 +86,7 @@ fn run_uncounted(
 }
 
 /// Scripts with how many commands are refused, and the replies.
-const SCRIPTS: [(&[u8], u64, &[u8]); 12] = [
+const SCRIPTS: [(&[u8], u64, &[u8]); 14] = [
     (b"", 0, b""),
     (
         b"eval false && error\neval error && false\neval true && undefined\n",
@@ -134,6 +134,16 @@ const SCRIPTS: [(&[u8], u64, &[u8]); 12] = [
         b"query\n[\n.\nadvertise a 9\n[ M = 128; Requirements = true ]\n.\nadvertise b 9\n[ Requirements = true ]\n.\nadvertise d 9\n[ M = 64 * 2; Requirements = TARGET.O != 3 ]\n.\nquery\n[ Requirements = TARGET.M >= 64; Rank = TARGET.M ]\n.\nadvertise a 9\n[ M = 32; Requirements = true ]\n.\nquery\n[ O = 4; Requirements = TARGET.M >= 32 ]\n.\nwithdraw a\nquery\n[ O = 3; Requirements = TARGET.M >= 32 ]\n.\n",
         1,
         b"refused 6 grammar\nadvertised a\nadvertised b\nadvertised d\nhits 1\na 128\nreplaced a\nhits 2\na 0\nd 0\nwithdrawn a\nhits 0\n",
+    ),
+    (
+        b"submit j ann\n[ x = 1 ]\n.\nsubmit j bob\n[ ]\n.\nsubmit j bob\n[\n.\nsubmit k ann\n[ PORTS = { } ]\n.\nsubmit j bob\n[ Ports = { } ]\n.\nremove k\nremove j\nremove j\nsubmit j bob\n[ ]\n.\nremove j\n",
+        6,
+        b"submitted j\nrefused 9 name in use\nrefused 6 grammar\nrefused 14 not built\nrefused 9 name in use\nrefused 8 name not known\nremoved j\nrefused 8 name not known\nsubmitted j\nremoved j\n",
+    ),
+    (
+        b"priority ann 1\npriority bob 1000000\npriority ann 3\npriority ann 0\npriority ann 1000001\nadvertise a 9\n[ ]\n.\nsubmit j ann\n[ ]\n.\nlist\nwithdraw a\nlist\nremove j\nnegotiate\n",
+        3,
+        b"priority ann 1\npriority bob 1000000\npriority ann 3\nrefused 3 wrong words\nrefused 3 wrong words\nadvertised a\nsubmitted j\nads 1\na 0 9 free\nwithdrawn a\nads 0\nremoved j\nrefused 14 not built\n",
     ),
 ];
 

@@ -11,4 +11,7 @@ returns-in_err-take_out-clause-looks g c =
     omega (arith, c.in_err-take_out.ensures.none, c.loop-slot.invariant.looks, live-le c.args.now (ads_of c.loop-slot.self.ads), ap length c.loop-slot.invariant.live)
 
 pub returns-clause-jobs : goal.returns-clause-jobs
-returns-clause-jobs g c = ?
+returns-clause-jobs g c =
+    let now = c.args.now in
+    let ads = ads_of c.loop-slot.self.ads in
+    sym (left-none (has_expired now ads) (queue_of c.loop-slot.self) (expired-none now ads c.in_default.ensures.all_live)) ∙ c.loop-slot.invariant.jobs

@@ -1,6 +1,7 @@
 -- What a parse answers, as a step of the pool.
-use Rattle.std.proofs.Common.{◌≡◌, ℕ, Bool, true, false, not, List, [], map, Option, None, Some, Result, Ok, Err, bytes_eq, refl, sym, ◌∙◌, ap, inl, inr}
+use Rattle.std.proofs.Common.{◌≡◌, ℕ, ◌-◌, ◌<◌, ◌≤◌, ltb, length, arith, Bool, true, false, not, List, [], map, Option, None, Some, Result, Ok, Err, bytes_eq, refl, sym, ◌∙◌, ap, inl, inr}
 use Rattle.std.specs.Option.{option_map_or}
+use Rattle.std.proofs.lemmas.Bool.Decides.{nat_tests}
 use Rattle.ad_tree.specs.declared.ad.Ad.{Ad}
 use Rattle.ad_tree.specs.declared.phrase.Phrase.{Phrase}
 use Rattle.ad_tree.specs.Ad.{ad_frames}
@@ -11,9 +12,9 @@ use Rattle.ad_parser.specs.declared.fault.ParseFault.{ParseFault}
 use Rattle.ad_parser.specs.declared.fault.ParseFault.TheVariants.{OutOfMemory}
 use Rattle.ad_parser.specs.Outcomes.{IsAdAnswer, IsExprAnswer}
 use Rattle.pool_replies.specs.Refusals.{is_fault_of_text}
-use Rattle.pool_replies.specs.declared.refusal.Refusal.TheVariants.{AdText, Full, UnknownName}
+use Rattle.pool_replies.specs.declared.refusal.Refusal.TheVariants.{AdText, ClockBack, Full, UnknownName}
 use Rattle.pool_replies.specs.declared.reply.Reply.{Reply}
-use Rattle.pool_replies.specs.declared.reply.Reply.TheVariants.{Advertised, Evaluated, Hits, Refused, Replaced, Shown, Withdrawn}
+use Rattle.pool_replies.specs.declared.reply.Reply.TheVariants.{Advertised, Clock, Evaluated, Hits, Refused, Replaced, Shown, Withdrawn}
 use Rattle.pool_replies.specs.declared.rows.HitRow.{HitRow}
 use Rattle.ad_printer.specs.Values.{printed_frame}
 use Rattle.ad_store.specs.Stock.{Advert, has, lack, placed, without}
@@ -24,7 +25,7 @@ use Rattle.bilateral_match.specs.Counts.{least_left, undecided_count}
 use Rattle.conjunct_plan.specs.Tests.{tests_of}
 use Rattle.pool_engine.specs.Queue.{without_resources}
 use Rattle.pool_engine.specs.State.{QueuedJob, State}
-use Rattle.pool_engine.specs.Step.{ad_named, advertise, eval, eval_beside, eval_in, hit_row, narrowest, put_ad, query, refused, room_of, show, undecided_docks, value_line, withdraw}
+use Rattle.pool_engine.specs.Step.{ad_named, advertise, clock, eval, eval_beside, eval_in, has_expired, hit_row, live_ads, narrowest, put_ad, query, refused, room_of, show, undecided_docks, value_line, withdraw}
 
 pub no_fault : (fault : ParseFault) → is_fault_of_text fault ≡ true → fault ≡ OutOfMemory → ⊥
 no_fault fault told none = let no : false ≡ true = sym (ap is_fault_of_text none) ∙ told in absurd (cc)
@@ -160,3 +161,16 @@ undecided-parsed ads (Err wrong) ad fits = absurd fits
 pub narrowest-parsed : (ads : List Advert) (outcome : Result Inline ParseFault) (ad : Ad) → IsAdAnswer outcome (Ok ad) → narrowest ads outcome ≡ least_left ads (tests_of (ad_frames ad) 0 [])
 narrowest-parsed ads (Ok x) ad fits = ap (λ (frames : List Frame). least_left ads (tests_of frames 0 [])) (sym fits)
 narrowest-parsed ads (Err wrong) ad fits = absurd fits
+
+-- ---- the clock
+
+-- it doesn't go back
+pub clock-back : (s : State) (n : ℕ) → n < s.moment → ◌≡◌ {A = State × Reply} (clock s n) (refused s ClockBack)
+clock-back s n back = let tested : ltb n s.moment ≡ true = grind (arith, nat_tests, back) in rw tested refl
+
+-- it moves on, and the ads that are no longer live leave
+pub clock-moves : (s : State) (n expired : ℕ) (after : List Advert) (queue : List QueuedJob) → s.moment ≤ n → after ≡ live_ads n s.ads → queue ≡ without_resources (has_expired n s.ads) s.jobs → expired ≡ length s.ads - length (live_ads n s.ads) → ◌≡◌ {A = State × Reply} (clock s n) (record { moment = n; ads = after; jobs = queue; priorities = s.priorities }, Clock n expired)
+clock-moves s n expired after queue on ads jobs count =
+    let tested : ltb n s.moment ≡ false = grind (arith, nat_tests, on) in
+    let moved : ◌≡◌ {A = State × Reply} (clock s n) (record { moment = n; ads = live_ads n s.ads; jobs = without_resources (has_expired n s.ads) s.jobs; priorities = s.priorities }, Clock n (length s.ads - length (live_ads n s.ads))) = rw tested refl in
+    moved ∙ (λ i. (record { moment = n; ads = sym ads i; jobs = sym jobs i; priorities = s.priorities }, Clock n (sym count i)))

@@ -14,6 +14,7 @@ use Rattle.ad_store.proofs.HeldLemmas.{neither}
 use Rattle.claim_table.specs.declared.job.Job.{Job}
 use Rattle.claim_table.specs.declared.answers.SubmitFault.{SubmitFault}
 use Rattle.claim_table.specs.Jobs.{is_named, job_named, numbered, state_of as standing_state, text_of}
+use Rattle.negotiator.specs.Priorities.{Setting, lacks_place, with_setting}
 use Rattle.pool_replies.specs.Refusals.{is_fault_of_text}
 use Rattle.pool_replies.specs.declared.refusal.Refusal.{Refusal}
 use Rattle.pool_replies.specs.declared.refusal.Refusal.TheVariants as why
@@ -23,7 +24,7 @@ use Rattle.pool_replies.specs.declared.reply.Reply.TheVariants as reply
 use Rattle.pool_engine.specs.Pool.{queued}
 use Rattle.pool_engine.specs.Queue.{has_job, job_refusal, job_text, without_job}
 use Rattle.pool_engine.specs.State.{QueuedJob, State, idle}
-use Rattle.pool_engine.specs.Step.{is_gang, refused, remove, submit, take_job}
+use Rattle.pool_engine.specs.Step.{is_gang, refused, remove, set_priority, submit, take_job}
 use Rattle.pool_engine.proofs.JobLemmas.{found-any, found-first, has-queued}
 use Rattle.pool_engine.proofs.StepLemmas.{no_fault, with_books}
 
@@ -91,15 +92,17 @@ module _ (s : State) (name user used owner : List ℕ) (size : ℕ) (outcome : R
   used_as = submit-parsed s name user size outcome ad fits ∙ (λ i. take_job s (new_job (sym is i) (sym owned i) size ad) (job_refusal (sym is i) size s.jobs))
 
   pub submit-refused : (reason : Refusal) → job_refusal used size s.jobs ≡ Some reason → ◌≡◌ {A = State × Reply} (submit s name user size outcome) (refused s reason)
-  submit-refused reason why = used_as ∙ ap (take_job s (new_job used owner size ad)) why
+  submit-refused reason told = used_as ∙ ap (take_job s (new_job used owner size ad)) told
 
   pub submit-gang : job_refusal used size s.jobs ≡ None → is_gang (ad_frames ad) ≡ true → ◌≡◌ {A = State × Reply} (submit s name user size outcome) (refused s why.NotBuilt)
-  submit-gang room gang = used_as ∙ ap (take_job s (new_job used owner size ad)) room ∙ rw gang refl
+  submit-gang free gang =
+      let gone : ◌≡◌ {A = State × Reply} (take_job s (new_job used owner size ad) None) (refused s why.NotBuilt) = rw gang refl in
+      used_as ∙ ap (take_job s (new_job used owner size ad)) free ∙ gone
 
   pub submit-taken : (told : List ℕ) (after : List Advert) (queue : List QueuedJob) → told ≡ name → job_refusal used size s.jobs ≡ None → is_gang (ad_frames ad) ≡ false → after ≡ s.ads → queue ≡ s.jobs ++ new_job used owner size ad ∷ [] → ◌≡◌ {A = State × Reply} (submit s name user size outcome) (with_books s after queue, reply.Submitted told)
-  submit-taken told after queue same room single ads jobs =
+  submit-taken told after queue same free single ads jobs =
       let taken : ◌≡◌ {A = State × Reply} (take_job s (new_job used owner size ad) None) (with_books s s.ads (s.jobs ++ new_job used owner size ad ∷ []), reply.Submitted used) = rw single refl in
-      used_as ∙ ap (take_job s (new_job used owner size ad)) room ∙ taken ∙ (λ i. (with_books s (sym ads i) (sym jobs i), reply.Submitted ((is ∙ sym same) i)))
+      used_as ∙ ap (take_job s (new_job used owner size ad)) free ∙ taken ∙ (λ i. (with_books s (sym ads i) (sym jobs i), reply.Submitted ((is ∙ sym same) i)))
 
 -- ---- remove
 
@@ -118,3 +121,19 @@ pub remove-unknown : (s : State) (name : List ℕ) (after : List Advert) (queue 
 remove-unknown s name after queue none ads jobs =
     let stays : ◌≡◌ {A = State × Reply} (remove s name) (s, reply.Refused why.UnknownName) = rw none refl in
     stays ∙ (λ i. (with_books s (sym ads i) ((sym (jobs ∙ none_left name s.jobs none)) i), reply.Refused why.UnknownName))
+
+-- ---- priorities
+
+-- a state with other priorities
+abbrev pub with_priorities : State → List Setting → State
+with_priorities s priorities = record { moment = s.moment; ads = s.ads; jobs = s.jobs; priorities = priorities }
+
+pub priority-set : (s : State) (user used told : List ℕ) (n : ℕ) (after : List Setting) → used ≡ user → told ≡ user → lacks_place used s.priorities ≡ false → after ≡ with_setting (record { user = used; number = n }) s.priorities → ◌≡◌ {A = State × Reply} (set_priority s user n) (with_priorities s after, reply.Priority told n)
+priority-set s user used told n after is same free stored =
+    let changed : ◌≡◌ {A = State × Reply} (set_priority s used n) (with_priorities s (with_setting (record { user = used; number = n }) s.priorities), reply.Priority used n) = rw free refl in
+    ap (λ (u : List ℕ). set_priority s u n) (sym is) ∙ changed ∙ (λ i. (with_priorities s (sym stored i), reply.Priority ((is ∙ sym same) i) n))
+
+pub priority-full : (s : State) (user used : List ℕ) (n : ℕ) (after : List Setting) → used ≡ user → lacks_place used s.priorities ≡ true → after ≡ s.priorities → ◌≡◌ {A = State × Reply} (set_priority s user n) (with_priorities s after, reply.Refused (why.Full room.Users))
+priority-full s user used n after is full same =
+    let stays : ◌≡◌ {A = State × Reply} (set_priority s used n) (s, reply.Refused (why.Full room.Users)) = rw full refl in
+    ap (λ (u : List ℕ). set_priority s u n) (sym is) ∙ stays ∙ (λ i. (with_priorities s (sym same i), reply.Refused (why.Full room.Users)))

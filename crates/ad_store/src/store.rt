@@ -141,6 +141,7 @@ impl Store {
     pub fn len(&self) -> usize
         ensures ads { result ≡ length (stock_of self.now).ads }
         ensures slots { result ≡ length (stock_of self.now).slots }
+        ensures few { result ≤ ads_limit }
     {
         self.names.len()
     }

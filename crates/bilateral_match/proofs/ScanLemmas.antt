@@ -13,7 +13,7 @@ use Rattle.eval_scope.specs.World.{attribute_count}
 use Rattle.bilateral_match.specs.declared.hit.Match.{Match}
 use Rattle.bilateral_match.specs.Answers.{answers, match_order, match_with, matches_from}
 use Rattle.bilateral_match.specs.Candidates.{AreCandidates, places_where}
-use Rattle.bilateral_match.specs.Counts.{attributes_most, entered_most, evaluations_most, undecided_count}
+use Rattle.bilateral_match.specs.Counts.{attributes_most, entered_most, evaluations_most, sum_from, undecided_count}
 use Rattle.bilateral_match.specs.Docks.{docks, is_undecided, pair_world, rank_of_dock, ranked}
 use Rattle.bilateral_match.specs.Scan.{attributes_at, evaluations_at, match_at}
 use Rattle.bilateral_match.proofs.DecidedLemmas.{not-docked}
@@ -43,15 +43,9 @@ module _ {X Y : Type 0} (f : Y → ℕ) (h : X → Option Y) where
       by behind None = behind ∙ sym (zero-add (sum_by (λ x. option_map_or f (h x) 0) xs))
       by behind (Some y) = sum_by-cons f y (filter_map h xs) ∙ ap (λ n. f y + n) behind
 
--- the sum of what each ad gives at its place, for ads that stand from place k on
-total : (ℕ → Advert → ℕ) → ℕ → List Advert → ℕ
-total h k [] = 0
-total h k (a ∷ ads) = h k a + total h (suc k) ads
-
 module _ (passes : Advert → Bool) (h : ℕ → Advert → ℕ) (none : (k : ℕ) (a : Advert) → passes a ≡ false → h k a ≡ 0) (G : ℕ → ℕ) where
   -- the places of the ads that pass give the sum over all ads, where no other ad gives anything
-  places-total : (k : ℕ) (ads : List Advert) → ((i : ℕ) (a : Advert) → slice_get ads i ≡ Some a → G (k + i) ≡ h (k + i) a) → sum_by G (places_where passes k ads) ≡ total h k ads
-  unfolding total
+  places-total : (k : ℕ) (ads : List Advert) → ((i : ℕ) (a : Advert) → slice_get ads i ≡ Some a → G (k + i) ≡ h (k + i) a) → sum_by G (places_where passes k ads) ≡ sum_from h k ads
   places-total k [] at = refl
   places-total k (a ∷ ads) at =
       by (places-total (suc k) ads (λ i b is. let same : k + suc i ≡ suc k + i = omega arith in let P : ℕ → Type 0 = λ n. G n ≡ h n b in subst P same (at (suc i) b is))) (passes a) refl
@@ -59,21 +53,19 @@ module _ (passes : Advert → Bool) (h : ℕ → Advert → ℕ) (none : (k : �
       here : G k ≡ h k a
       here = let P : ℕ → Type 0 = λ n. G n ≡ h n a in subst P (add-zero k) (at 0 a refl)
 
-      by : sum_by G (places_where passes (suc k) ads) ≡ total h (suc k) ads → (b : Bool) → passes a ≡ b → sum_by G (if b then k ∷ places_where passes (suc k) ads else places_where passes (suc k) ads) ≡ h k a + total h (suc k) ads
+      by : sum_by G (places_where passes (suc k) ads) ≡ sum_from h (suc k) ads → (b : Bool) → passes a ≡ b → sum_by G (if b then k ∷ places_where passes (suc k) ads else places_where passes (suc k) ads) ≡ h k a + sum_from h (suc k) ads
       by rest true e = let head = sum_by-cons G k (places_where passes (suc k) ads) in omega (arith, head, here, rest)
       by rest false e = let nothing = none k a e in omega (arith, nothing, rest)
 
-matches-total : (moment : ℕ) (request : List Frame) (f : Match → ℕ) (k : ℕ) (ads : List Advert) → sum_by f (matches_from moment request k ads) ≡ total (λ k a. option_map_or f (match_with moment request k a) 0) k ads
-unfolding total
+matches-total : (moment : ℕ) (request : List Frame) (f : Match → ℕ) (k : ℕ) (ads : List Advert) → sum_by f (matches_from moment request k ads) ≡ sum_from (λ k a. option_map_or f (match_with moment request k a) 0) k ads
 matches-total moment request f k [] = refl
 matches-total moment request f k (a ∷ ads) = by (matches-total moment request f (suc k) ads) (match_with moment request k a)
   where
-    by : sum_by f (matches_from moment request (suc k) ads) ≡ total (λ k a. option_map_or f (match_with moment request k a) 0) (suc k) ads → (o : Option Match) → sum_by f (cons_option o (matches_from moment request (suc k) ads)) ≡ option_map_or f o 0 + total (λ k a. option_map_or f (match_with moment request k a) 0) (suc k) ads
-    by behind None = behind ∙ sym (zero-add (total (λ k a. option_map_or f (match_with moment request k a) 0) (suc k) ads))
+    by : sum_by f (matches_from moment request (suc k) ads) ≡ sum_from (λ k a. option_map_or f (match_with moment request k a) 0) (suc k) ads → (o : Option Match) → sum_by f (cons_option o (matches_from moment request (suc k) ads)) ≡ option_map_or f o 0 + sum_from (λ k a. option_map_or f (match_with moment request k a) 0) (suc k) ads
+    by behind None = behind ∙ sym (zero-add (sum_from (λ k a. option_map_or f (match_with moment request k a) 0) (suc k) ads))
     by behind (Some m) = sum_by-cons f m (matches_from moment request (suc k) ads) ∙ ap (λ n. f m + n) behind
 
-evaluations-total : (request : List Frame) (k : ℕ) (ads : List Advert) → total (λ k a. evaluations_most request a.ad) k ads ≡ 3 * undecided_count request ads
-unfolding total
+evaluations-total : (request : List Frame) (k : ℕ) (ads : List Advert) → sum_from (λ k a. evaluations_most request a.ad) k ads ≡ 3 * undecided_count request ads
 evaluations-total request k [] = refl
 evaluations-total request k (a ∷ ads) =
     let rest = evaluations-total request (suc k) ads in
@@ -85,8 +77,7 @@ evaluations-total request k (a ∷ ads) =
     three true = refl
     three false = refl
 
-attributes-total : (moment : ℕ) (request : List Frame) (k : ℕ) (ads : List Advert) → total (λ k a. attributes_most moment request a.ad) k ads ≡ entered_most moment request ads
-unfolding total
+attributes-total : (moment : ℕ) (request : List Frame) (k : ℕ) (ads : List Advert) → sum_from (λ k a. attributes_most moment request a.ad) k ads ≡ entered_most moment request ads
 attributes-total moment request k [] = refl
 attributes-total moment request k (a ∷ ads) =
     ap (λ n. attributes_most moment request a.ad + n) (attributes-total moment request (suc k) ads)
@@ -96,7 +87,7 @@ attributes-total moment request k (a ∷ ads) =
 
 module _ (moment : ℕ) (request : List Frame) (ads : List Advert) (places : List ℕ) (some : AreCandidates request ads places) where
   -- sums over the candidates are sums over all ads, where ads with decided docks give nothing
-  all-total : (h : ℕ → Advert → ℕ) (G : ℕ → ℕ) → ((k : ℕ) (a : Advert) → is_undecided request a.ad ≡ false → h k a ≡ 0) → ((i : ℕ) (a : Advert) → slice_get ads i ≡ Some a → G i ≡ h i a) → sum_by G places ≡ total h 0 ads
+  pub all-total : (h : ℕ → Advert → ℕ) (G : ℕ → ℕ) → ((k : ℕ) (a : Advert) → is_undecided request a.ad ≡ false → h k a ≡ 0) → ((i : ℕ) (a : Advert) → slice_get ads i ≡ Some a → G i ≡ h i a) → sum_by G places ≡ sum_from h 0 ads
   all-total h G none at =
       sum_by-IsPermutation G (places_where some.passes 0 ads) places some.all
       ∙ places-total some.passes h (λ k a e. none k a (some.others a e)) G 0 ads (λ i a is. rw (zero-add i) (at i a is))

@@ -1,5 +1,5 @@
 // Laws of the definitions, each on a function that does nothing.
-ghost use Rattle.std.specs.Prelude.{◌≡◌, ◌<◌, ℕ, suc, false, true, [], All, Some, List, length};
+ghost use Rattle.std.specs.Prelude.{◌≡◌, ◌<◌, ◌≤◌, ℕ, suc, Bool, false, true, [], All, Option, None, Some, List, length};
 ghost use Rattle.ad_value.specs.Plain.{Plain, boolean};
 ghost use Rattle.ad_tree.specs.Tree.{tree};
 ghost use Rattle.ad_tree.specs.Ad.{ad_frames};
@@ -12,8 +12,12 @@ ghost use Rattle.conjunct_plan.specs.Tests.{conjuncts, labels_of, test_of};
 ghost use Rattle.eval_scope.specs.Shown.{world_of};
 ghost use Rattle.eval_scope.specs.World.{request_side, resource_side};
 ghost use Rattle.bilateral_match.specs.declared.hit.Match.{Match};
+ghost use Rattle.bilateral_match.specs.declared.member.Member.{Member};
 ghost use Rattle.bilateral_match.specs.Answers.{AreAnswers, answers};
+ghost use Rattle.bilateral_match.specs.Counts.{entered_for, open_count};
 ghost use Rattle.bilateral_match.specs.Docks.{is_last_decided, last_ad};
+ghost use Rattle.bilateral_match.specs.Members.{IsBest, best, members};
+ghost use Rattle.bilateral_match.specs.Pool.{Pool};
 
 use ad_tree::{Ad, Expr};
 use eval_scope::World;
@@ -56,4 +60,22 @@ pub fn answers_are_all_matches_in_order(moment: u64, request: &Ad)
     ensures are { (ads : List Advert) → AreAnswers moment (ad_frames request.now) ads (answers moment (ad_frames request.now) ads) }
     ensures alone { (ads : List Advert) (others : List Match) → AreAnswers moment (ad_frames request.now) ads others
         → others ≡ answers moment (ad_frames request.now) ads }
+{}
+
+/// The best member for a job is the one before which no other comes, and none where there are no members. No other is so.
+pub fn no_other_member_comes_before_the_best(request: &Ad)
+    ensures are { (pool : Pool) → IsBest (members pool (ad_frames request.now)) (best pool (ad_frames request.now)) }
+    ensures alone { (pool : Pool) (other : Option Member) → IsBest (members pool (ad_frames request.now)) other
+        → other ≡ best pool (ad_frames request.now) }
+{}
+
+/// More offers leave no more to choose among: a job that finds no resource finds none once more are offered, and there are
+/// no more docks to evaluate for it, and no more attributes to enter.
+pub fn more_offers_leave_no_more_members(request: &Ad)
+    ensures none { (pool : Pool) (offered : ℕ → Bool) → ((slot : ℕ) → pool.is_offered slot ≡ true → offered slot ≡ true)
+        → best pool (ad_frames request.now) ≡ None → best (record pool { is_offered = offered }) (ad_frames request.now) ≡ None }
+    ensures undecided { (pool : Pool) (offered : ℕ → Bool) → ((slot : ℕ) → pool.is_offered slot ≡ true → offered slot ≡ true)
+        → open_count (record pool { is_offered = offered }) (ad_frames request.now) ≤ open_count pool (ad_frames request.now) }
+    ensures entered { (pool : Pool) (offered : ℕ → Bool) → ((slot : ℕ) → pool.is_offered slot ≡ true → offered slot ≡ true)
+        → entered_for (record pool { is_offered = offered }) (ad_frames request.now) ≤ entered_for pool (ad_frames request.now) }
 {}

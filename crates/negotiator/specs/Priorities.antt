@@ -1,5 +1,6 @@
 -- The priorities of users: a lower number is better.
-use Rattle.std.specs.Prelude.{ℕ, Bool, not, ◌&&◌, nat_le, List, [], ◌∷◌, find, length, bytes_eq, if◌then◌else◌}
+use Rattle.std.specs.Prelude.{ℕ, ◌≤◌, ◌^◌, Bool, not, ◌&&◌, nat_le, List, [], ◌∷◌, find, length, Vec, bytes_eq, if◌then◌else◌}
+use Rattle.std.specs.declared.alloc.Global.{Global}
 use Rattle.std.specs.List.{list_any}
 use Rattle.std.specs.Option.{option_map_or}
 
@@ -7,6 +8,14 @@ use Rattle.std.specs.Option.{option_map_or}
 pub record Setting : Type 0 where
   pub user : List ℕ
   pub number : ℕ
+
+-- an entry of a map as a setting
+abbrev pub setting_of : Vec ℕ Global × ℕ → Setting
+setting_of entry = record { user = entry.0.items; number = entry.1 }
+
+-- a number that may be set
+abbrev pub IsInRange : Setting → Type 0
+IsInRange setting = (1 ≤ setting.number) × (setting.number ≤ 10 ^ 6)
 
 abbrev pub is_of : List ℕ → Setting → Bool
 is_of user setting = bytes_eq user setting.user

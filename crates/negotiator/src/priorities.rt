@@ -1,9 +1,11 @@
 // The priorities of users.
-ghost use Rattle.std.specs.Prelude.{◌≡◌, ◌≤◌, ◌^◌, [], All, IfErr, OnErr, OnOk, false, length};
+ghost use Rattle.std.specs.Prelude.{◌≡◌, ◌≤◌, ◌^◌, [], All, IfErr, OnErr, OnOk, false, length, map};
 ghost use Rattle.negotiator.specs.Causes.{IsCause};
+ghost use Rattle.negotiator.specs.Priorities.{IsInRange, lacks_place, priority_of, setting_of, settings_limit, with_setting};
 
 use crate::PriorityFault;
 use indexmap::IndexMap;
+use pool_text::OutOfMemory;
 use std::alloc::Global;
 
 const SETTINGS_LIMIT: usize = 10_000;
@@ -17,12 +19,11 @@ const DEFAULT_PRIORITY: u64 = 1_000;
 pub struct Priorities {
     alloc: Global,
     numbers: IndexMap<Vec<u8>, u64>,
-    ghost within: { All (λ e. (1 ≤ e.1) × (e.1 ≤ 10 ^ 6)) numbers.entries },
-    ghost few: { length numbers.entries ≤ 10000 },
+    ghost within: { All IsInRange (map setting_of numbers.entries) },
+    ghost few: { length (map setting_of numbers.entries) ≤ settings_limit },
 }
 
 impl Priorities {
-    ghost use Rattle.negotiator.specs.Priorities.{lacks_place, priority_of, with_setting};
     ghost use Rattle.negotiator.specs.Settings.{settings_of};
 
     /// No priority is set, which takes no memory yet.
@@ -47,16 +48,23 @@ impl Priorities {
         ensures cause { IfErr result (λ fault. IsCause fault (lacks_place user.now (settings_of self.old))) }
         ensures err { OnErr result (settings_of self.new ≡ settings_of self.old) }
     {
-        if self.numbers.len() >= SETTINGS_LIMIT && !self.numbers.contains_key(user) {
+        if self.is_full_for(user) {
             return Err(PriorityFault::Full);
         }
-        let Ok(key) = Vec::from_slice(self.alloc, user) else {
-            return Err(PriorityFault::OutOfMemory);
-        };
-        if self.numbers.insert(key, n).is_err() {
+        if enter(self.alloc, &mut self.numbers, user, n).is_err() {
             return Err(PriorityFault::OutOfMemory);
         }
         Ok(())
+    }
+
+    // The user is new, and as many are set as may be.
+    fn is_full_for(&self, user: &[u8]) -> bool
+        ensures { result ≡ lacks_place user.now (settings_of self.now) }
+    {
+        if self.numbers.contains_key(user) {
+            return false;
+        }
+        self.numbers.len() >= SETTINGS_LIMIT
     }
 
     /// The priority of a user, 1,000 where none is set.
@@ -67,4 +75,19 @@ impl Priorities {
     {
         self.numbers.get(user).copied().unwrap_or(DEFAULT_PRIORITY)
     }
+}
+
+// Puts the priority of a user, in the place of one that is there, or last.
+fn enter(
+    alloc: Global,
+    numbers: &mut IndexMap<Vec<u8>, u64>,
+    user: &[u8],
+    n: u64,
+) -> Result<(), OutOfMemory>
+    ensures ok { OnOk result (map setting_of numbers.new.entries ≡ with_setting (record { user = user.now; number = n }) (map setting_of numbers.old.entries)) }
+    ensures err { OnErr result (numbers.new.entries ≡ numbers.old.entries) }
+{
+    let key = Vec::from_slice(alloc, user)?;
+    numbers.insert(key, n)?;
+    Ok(())
 }

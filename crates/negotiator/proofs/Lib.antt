@@ -1,0 +1,13 @@
+pub mod AlikeLemmas
+mod BudgetLemmas
+pub mod CycleLemmas
+mod JobLemmas
+mod PriorityLemmas
+mod QueueLemmas
+mod ReadyLemmas
+mod ShiftLemmas
+mod SpinLoopLemmas
+mod StoredLemmas
+mod SumLemmas
+mod TurnLoopLemmas
+mod UserLemmas

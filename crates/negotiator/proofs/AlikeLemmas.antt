@@ -30,7 +30,7 @@ pub filter-same : {A : Type 0} (p q : A → Bool) → ((x : A) → p x ≡ q x) 
 filter-same p q each [] = refl
 filter-same p q each (x ∷ xs) = ap (λ b. cond b (x ∷ filter p xs) (filter p xs)) (each x) ∙ ap (λ l. cond (q x) (x ∷ l) l) (filter-same p q each xs)
 
-any-same : {A : Type 0} (p q : A → Bool) → ((x : A) → p x ≡ q x) → (xs : List A) → list_any p xs ≡ list_any q xs
+pub any-same : {A : Type 0} (p q : A → Bool) → ((x : A) → p x ≡ q x) → (xs : List A) → list_any p xs ≡ list_any q xs
 any-same p q each [] = refl
 any-same p q each (x ∷ xs) = ap (λ b. b || list_any p xs) (each x) ∙ ap (λ b. q x || b) (any-same p q each xs)
 
@@ -207,7 +207,7 @@ module _ {R S : Type 0} (rename : R → S) (m : Market R) (n : Market S) (g : Li
       by true rest = refl
       by false rest = ap (λ l. spin_mapped rename (spin m made) ∷ l) rest
 
-  count-same : (made : List (Offer R)) → waiting_count n (g made) ≡ waiting_count m made
+  pub count-same : (made : List (Offer R)) → waiting_count n (g made) ≡ waiting_count m made
   count-same made = ap (count_by (is_waiting n (g made))) places-same ∙ sum-same (places m.jobs)
     where
       sum-same : (is : List ℕ) → count_by (is_waiting n (g made)) is ≡ count_by (is_waiting m made) is

@@ -1,5 +1,5 @@
 -- What is left to be counted: a mark or an offer takes away what one search may count.
-use Rattle.std.proofs.Common.{◌≡◌, ◌≢◌, ◌≤◌, ◌<◌, ◌+◌, ◌*◌, ◌==◌, ℕ, zero, suc, Bool, true, false, not, ◌&&◌, cond, eqb, if◌then◌else◌, List, [], ◌∷◌, filter, length, map, get_or, set, replicate, slice_get, sum_by, sum, Option, None, Some, refl, ap, sym, ◌∙◌, subst, arith, zero-le, add-zero, zero-add, eq-eqb, ◌⊎◌, inl, inr, get_or-set_same, get_or-set_other}
+use Rattle.std.proofs.Common.{◌≡◌, ◌≢◌, ◌≤◌, ◌<◌, ◌+◌, ◌*◌, ◌==◌, ℕ, zero, suc, Bool, true, false, not, ◌&&◌, cond, eqb, if◌then◌else◌, List, [], ◌∷◌, filter, length, map, get_or, set, replicate, slice_get, sum_by, sum, Option, None, Some, refl, ap, sym, ◌∙◌, subst, arith, zero-le, add-zero, zero-add, mul-add, mul-zero, eq-eqb, ◌⊎◌, inl, inr, get_or-set_same, get_or-set_other}
 use Rattle.std.specs.Prelude.{option_map}
 use Rattle.std.specs.List.{range_with_len}
 use Rattle.std.specs.Option.{option_map_or}
@@ -11,7 +11,7 @@ use Rattle.ad_store.specs.Stock.{Stock}
 use Rattle.claim_table.specs.declared.job.Job.{Job}
 use Rattle.claim_table.specs.declared.job.Standing.{Standing}
 use Rattle.claim_table.specs.Jobs.{with_standing}
-use Rattle.negotiator.specs.Budget.{ArePaid, AreWithin, Counts, IsSearched, budget, due, entries_for, evaluations_for, is_idle_at, is_marked, looks_for, over_idle, price_at}
+use Rattle.negotiator.specs.Budget.{ArePaid, AreWithin, Counts, IsSearched, budget, due, entries_for, evaluations_for, is_idle_at, is_marked, left_for, looks_for, open_for, over_idle, price_at}
 use Rattle.negotiator.specs.Markets.{is_idle}
 use Rattle.negotiator.proofs.JobLemmas.{entries-later, evaluations-later, idle-later, later, length-later, requests-later}
 use Rattle.negotiator.proofs.SumLemmas.{sum-falls, sum-less}
@@ -180,7 +180,7 @@ sum-places f g a (x ∷ xs) each =
     let rest = sum-places f g (a + 1) xs (λ k y at. let same : a + 1 + k ≡ a + suc k = omega arith in ap g same ∙ each (suc k) y at) in
     omega (arith, one, rest, sum_by-cons g a (range_with_len (a + 1) (length xs)), sum_by-cons f x xs)
 
-none-marked : (n k : ℕ) → is_marked (replicate n false) k ≡ false
+pub none-marked : (n k : ℕ) → is_marked (replicate n false) k ≡ false
 none-marked zero k = refl
 none-marked (suc n) zero = refl
 none-marked (suc n) (suc k) = none-marked n k
@@ -198,3 +198,29 @@ budget-start price jobs failed none =
     same : (b : Bool) (n : ℕ) → (if b && true then n else 0) ≡ (if b then n else 0)
     same true n = refl
     same false n = refl
+
+sum-times : {A : Type 0} (k : ℕ) (f : A → ℕ) (xs : List A) → sum_by (λ x. k * f x) xs ≡ k * sum_by f xs
+sum-times k f [] = sym (mul-zero k)
+sum-times k f (x ∷ xs) =
+    sum_by-cons (λ x. k * f x) x xs
+    ∙ ap (λ n. k * f x + n) (sum-times k f xs)
+    ∙ sym (mul-add k (f x) (sum_by f xs))
+    ∙ ap (λ n. k * n) (sym (sum_by-cons f x xs))
+
+module _ (moment : ℕ) (stock : Stock) (jobs : List Job) (failed : List Bool) (none : (k : ℕ) → is_marked failed k ≡ false) (before after : Counts) (within : AreWithin moment stock jobs failed before after) where
+  pub evaluations-start : after.tops ≤ before.tops + 5 * over_idle (open_for moment stock) jobs
+  evaluations-start =
+      let rise = within.tops in
+      let start = budget-start (evaluations_for moment stock) jobs failed none in
+      let five = sum-times 5 (λ (job : Job). open_for moment stock jobs job.request) (filter (λ (job : Job). is_idle job.standing) jobs) in
+      omega (arith, rise, start, five)
+
+  pub entries-start : after.entry ≤ before.entry + over_idle (entries_for moment stock) jobs
+  entries-start = let rise = within.entry in let start = budget-start (entries_for moment stock) jobs failed none in omega (arith, rise, start)
+
+  pub looks-start : after.touch ≤ before.touch + 9 * over_idle (left_for stock) jobs
+  looks-start =
+      let rise = within.touch in
+      let start = budget-start (looks_for stock) jobs failed none in
+      let nine = sum-times 9 (λ (job : Job). left_for stock jobs job.request) (filter (λ (job : Job). is_idle job.standing) jobs) in
+      omega (arith, rise, start, nine)

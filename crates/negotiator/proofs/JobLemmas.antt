@@ -107,7 +107,7 @@ module _ (jobs : List Job) (i : ℕ) (slots : List ℕ) (idle : is_idle_at jobs 
   abbrev pub later : List Job
   later = with_standing jobs i (Standing.Matched slots)
 
-  one : IdleJob jobs i
+  abbrev pub one : IdleJob jobs i
   one = idle-job jobs i idle
 
   abbrev changed : Job

@@ -1,3 +1,4 @@
+mod ActiveLemmas
 pub mod AlikeLemmas
 mod BudgetLemmas
 pub mod CycleLemmas
@@ -6,6 +7,7 @@ mod PriorityLemmas
 mod QueueLemmas
 mod ReadyLemmas
 mod ShiftLemmas
+mod SearchLemmas
 mod SpinLoopLemmas
 mod StoredLemmas
 mod SumLemmas

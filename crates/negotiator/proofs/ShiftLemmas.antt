@@ -1,5 +1,5 @@
 -- The market of a pool once some offers are made, and the market of jobs that stand so.
-use Rattle.std.proofs.Common.{◌≡◌, ◌+◌, ◌==◌, ℕ, zero, suc, Bool, true, false, not, ◌&&◌, ◌||◌, cond, eqb, List, [], ◌∷◌, ◌++◌, All, filter, fold, length, map, slice_get, slice_set, Option, None, Some, bytes_eq, refl, ap, sym, ◌∙◌, subst, arith, append_assoc}
+use Rattle.std.proofs.Common.{◌≡◌, ◌+◌, ◌==◌, ℕ, zero, suc, Bool, true, false, not, ◌&&◌, ◌||◌, cond, eqb, List, [], ◌∷◌, ◌++◌, All, filter, fold, get_or, length, map, slice_get, slice_set, Option, None, Some, bytes_eq, refl, ap, sym, ◌∙◌, subst, arith, append_assoc}
 use Rattle.std.specs.Prelude.{option_map}
 use Rattle.std.specs.BTreeSet.{insert_key}
 use Rattle.std.specs.List.{list_any, range_with_len}
@@ -14,12 +14,12 @@ use Rattle.claim_table.specs.Jobs.{wanted, with_standing}
 use Rattle.claim_table.proofs.ListLemmas.{map-set_same}
 use Rattle.negotiator.specs.declared.queues.Queue.{Queue}
 use Rattle.negotiator.specs.Budget.{is_idle_at}
-use Rattle.negotiator.specs.Cycle.{Market, Offer, PlainSpin, PlainTurn, Waiting, all_users, is_given, is_of, is_waiting, places, spin, turn, user_order, wants_of}
+use Rattle.negotiator.specs.Cycle.{Market, Offer, PlainSpin, PlainTurn, Waiting, all_users, is_given, is_of, is_waiting, places, spin, turn, user_order, waiting_count, wants_of}
 use Rattle.negotiator.specs.Mapped.{offer_mapped, spin_mapped, turn_mapped}
 use Rattle.negotiator.specs.Markets.{found, free_among, is_idle, market_of, waiting_of, with_offers}
 use Rattle.negotiator.specs.Priorities.{Setting, priority_of}
 use Rattle.negotiator.specs.Queues.{AreQueues}
-use Rattle.negotiator.proofs.AlikeLemmas.{IsAlike, filter-same, spin-alike, turn-alike}
+use Rattle.negotiator.proofs.AlikeLemmas.{IsAlike, count-same, filter-same, spin-alike, turn-alike}
 use Rattle.negotiator.proofs.CycleLemmas.{any-append}
 use Rattle.negotiator.proofs.JobLemmas.{get-map, idle-set}
 
@@ -190,6 +190,11 @@ module _ (moment : ℕ) (stock : Stock) (settings : List Setting) where
         ∙ (turn-alike (λ (slot : ℕ). slot) (market behind) (market jobs) (λ made. base ++ made) (λ made. Unit {0}) shifted user is left given [] tt).same
         ∙ offers-id (turn (market behind) user is left given []))
 
+    pub shift-count : waiting_count (market behind) [] ≡ waiting_count (market jobs) base
+    shift-count =
+        sym (ap (waiting_count (market jobs)) (sym (append-nil base))
+        ∙ count-same (λ (slot : ℕ). slot) (market behind) (market jobs) (λ made. base ++ made) (λ made. Unit {0}) shifted [])
+
     pub shift-spin : spin (market behind) [] ≡ spin (market jobs) base
     shift-spin =
         sym (ap (spin (market jobs)) (sym (append-nil base))
@@ -217,3 +222,10 @@ module _ (moment : ℕ) (stock : Stock) (settings : List Setting) where
             All-cons (λ (q : Queue). q.places ≡ filter (is_of (market behind) q.user) (places (market behind).jobs)) q qs
             (All-head (λ (q : Queue). q.places ≡ filter (is_of (market jobs) q.user) (places (market jobs).jobs)) q qs h ∙ sym (shift-own q.user))
             (moved qs (All-tail (λ (q : Queue). q.places ≡ filter (is_of (market jobs) q.user) (places (market jobs).jobs)) q qs h))
+
+-- ---- a job as it waits
+
+pub user-of : (jobs : List Job) (i : ℕ) (user : List ℕ) (d : Waiting) → option_map (λ (job : Job). job.user) (slice_get jobs i) ≡ Some user → (get_or (map waiting_of jobs) i d).user ≡ user
+user-of [] i user d e = absurd (cc)
+user-of (j ∷ jobs) zero user d e = cc
+user-of (j ∷ jobs) (suc i) user d e = user-of jobs i user d e

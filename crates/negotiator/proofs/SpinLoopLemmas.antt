@@ -192,32 +192,32 @@ module _ (scene : Scene) (began : List Job) where
     next : cycle_of m ≡ loop.done ++ (here ∷ on (is_empty here.turns))
     next = loop.whole ∙ ap (λ l. loop.done ++ l) (cycle-step m (offers_of loop.done))
 
-    offers-with : offers_of (loop.done ++ here ∷ []) ≡ offers_of loop.done ++ offers_in here.turns
-    offers-with = spins-append loop.done (here ∷ []) ∙ ap (λ l. offers_of loop.done ++ l) (append-nil (offers_in here.turns))
+    spins-offers-with : offers_of (loop.done ++ here ∷ []) ≡ offers_of loop.done ++ offers_in here.turns
+    spins-offers-with = spins-append loop.done (here ∷ []) ∙ ap (λ l. offers_of loop.done ++ l) (append-nil (offers_in here.turns))
 
-    offers-next : offers_of (cycle_of m) ≡ offers_of loop.done ++ (offers_in here.turns ++ offers_of (on (is_empty here.turns)))
-    offers-next = ap offers_of next ∙ spins-append loop.done (here ∷ on (is_empty here.turns))
+    spins-offers-next : offers_of (cycle_of m) ≡ offers_of loop.done ++ (offers_in here.turns ++ offers_of (on (is_empty here.turns)))
+    spins-offers-next = ap offers_of next ∙ spins-append loop.done (here ∷ on (is_empty here.turns))
 
     -- want of memory in the spin
     pub spins-stopped : (later : List Job) → IsPart (offers_in ran.turns) jobs later → IsPart (offers_of (cycle_of m)) began later
     spins-stopped later part =
-        part-behind (offers_of loop.done) (offers_in here.turns) (offers_of (on (is_empty here.turns))) (offers_of (cycle_of m)) began jobs later offers-next loop.table
+        part-behind (offers_of loop.done) (offers_in here.turns) (offers_of (on (is_empty here.turns))) (offers_of (cycle_of m)) began jobs later spins-offers-next loop.table
         (subst (λ (s : PlainSpin ℕ). IsPart (offers_in s.turns) jobs later) spin-ran part)
 
-    table-with : (later : List Job) → later ≡ with_offers (offers_in ran.turns) jobs → later ≡ with_offers (offers_of (loop.done ++ here ∷ [])) began
-    table-with later is =
+    spins-table-with : (later : List Job) → later ≡ with_offers (offers_in ran.turns) jobs → later ≡ with_offers (offers_of (loop.done ++ here ∷ [])) began
+    spins-table-with later is =
         is
         ∙ ap (λ (s : PlainSpin ℕ). with_offers (offers_in s.turns) jobs) spin-ran
         ∙ ap (with_offers (offers_in here.turns)) loop.table
         ∙ sym (offers-ahead (offers_of loop.done) (offers_in here.turns) began)
-        ∙ ap (λ l. with_offers l began) (sym offers-with)
+        ∙ ap (λ l. with_offers l began) (sym spins-offers-with)
 
     -- want of memory behind the spin
     pub spins-stopped-behind : (later : List Job) → later ≡ with_offers (offers_in ran.turns) jobs → IsPart (offers_of (cycle_of m)) began later
     spins-stopped-behind later is =
         part-front (offers_of (loop.done ++ here ∷ [])) (offers_of (on (is_empty here.turns))) (offers_of (cycle_of m)) began later
-        (offers-next ∙ sym (append_assoc (offers_of loop.done) (offers_in here.turns) (offers_of (on (is_empty here.turns)))) ∙ ap (λ l. l ++ offers_of (on (is_empty here.turns))) (sym offers-with))
-        (table-with later is)
+        (spins-offers-next ∙ sym (append_assoc (offers_of loop.done) (offers_in here.turns) (offers_of (on (is_empty here.turns)))) ∙ ap (λ l. l ++ offers_of (on (is_empty here.turns))) (sym spins-offers-with))
+        (spins-table-with later is)
 
     module _ (one : Spin) (one_is : one ≡ spin_named jobs ran) (later_list : List Spin) (pushed : later_list ≡ list ++ one ∷ []) (later : List Job) (is : later ≡ with_offers (offers_in ran.turns) jobs) where
       shown-with : later_list ≡ map (spin_named began) (loop.done ++ here ∷ [])
@@ -246,7 +246,7 @@ module _ (scene : Scene) (began : List Job) where
       spins-list last = shown-with ∙ ap (map (spin_named began)) (sym (spins-all last))
 
       pub spins-table : length one.turns ≡ 0 → later ≡ with_offers (offers_of (cycle_of m)) began
-      spins-table last = table-with later is ∙ ap (λ ss. with_offers (offers_of ss) began) (sym (spins-all last))
+      spins-table last = spins-table-with later is ∙ ap (λ ss. with_offers (offers_of ss) began) (sym (spins-all last))
 
       -- a spin that isn't the last
       pub spins-more : 0 < length one.turns → (later_failed : List Bool) (after : Counts) → IsReady scene later later_failed → ArePaid scene.moment (stock_in scene) began later marks later_failed before after
@@ -257,9 +257,9 @@ module _ (scene : Scene) (began : List Job) where
             next
             ∙ ap (λ b. loop.done ++ (here ∷ on b)) (some-from here.turns (let same = turns-shown in omega (arith, same, some)))
             ∙ sym (append_assoc loop.done (here ∷ []) (cycle_from m (offers_of loop.done ++ offers_in here.turns)))
-            ∙ ap (λ l. (loop.done ++ here ∷ []) ++ cycle_from m l) (sym offers-with);
+            ∙ ap (λ l. (loop.done ++ here ∷ []) ++ cycle_from m l) (sym spins-offers-with);
         shown = shown-with;
-        table = table-with later is;
+        table = spins-table-with later is;
         ready = ready;
         paid = paid;
       }

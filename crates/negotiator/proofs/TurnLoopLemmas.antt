@@ -1,7 +1,7 @@
 -- A user's turn, job by job, as it runs.
-use Rattle.std.proofs.Common.{◌≡◌, ◌≤◌, ◌<◌, ◌+◌, ◌-◌, ◌==◌, ℕ, zero, suc, Bool, true, false, not, ◌&&◌, nat_lt, List, [], ◌∷◌, ◌++◌, All, filter, length, map, drop, get_or, slice_get, cond, unwrap_or, Option, None, Some, refl, ap, sym, ◌∙◌, subst, arith, append_assoc}
+use Rattle.std.proofs.Common.{◌≡◌, ◌≤◌, ◌<◌, ◌+◌, ◌-◌, ◌==◌, ℕ, zero, suc, Bool, true, false, not, ◌&&◌, nat_lt, List, [], ◌∷◌, ◌++◌, All, filter, length, map, drop, get_or, slice_get, bytes_eq, cond, unwrap_or, Option, None, Some, refl, ap, sym, ◌∙◌, subst, arith, append_assoc}
 use Rattle.std.specs.Prelude.{option_map}
-use Rattle.std.proofs.lemmas.List.{append-nil, drop_all, drop_more, map-append}
+use Rattle.std.proofs.lemmas.List.{append-nil, drop_all, drop_more, length-map, map-append}
 use Rattle.claim_table.specs.declared.job.Job.{Job}
 use Rattle.claim_table.specs.declared.job.Standing.{Standing}
 use Rattle.claim_table.specs.Jobs.{with_standing}
@@ -9,10 +9,10 @@ use Rattle.negotiator.specs.declared.answers.Offered.{Offered}
 use Rattle.negotiator.specs.declared.scene.Scene.{Scene}
 use Rattle.negotiator.specs.Budget.{ArePaid, Counts, is_idle_at}
 use Rattle.negotiator.specs.Cycle.{Market, Offer, is_of, is_waiting, places, turn, waits, wants_of}
-use Rattle.negotiator.specs.Markets.{IsPart, found, name_at, offer_named, with_offers}
+use Rattle.negotiator.specs.Markets.{IsPart, found, name_at, offer_named, waiting_of, with_offers}
 use Rattle.negotiator.specs.Scenes.{IsReady, market_in, stock_in}
 use Rattle.negotiator.specs.Settings.{settings_of}
-use Rattle.negotiator.proofs.CycleLemmas.{offer, turn-ends, turn-fails, turn-finds, turn-own, turn-skips}
+use Rattle.negotiator.proofs.CycleLemmas.{offer, turn-ends, turn-fails, turn-finds, turn-own, turn-skips, within-from}
 use Rattle.negotiator.proofs.ShiftLemmas.{idle-all, kept-all, offers-ahead, waiting-is}
 
 -- names stay, so an offer is named as before
@@ -99,7 +99,7 @@ module _ (scene : Scene) (began : List Job) where
         pub turn-stops : (given && nat_lt left (wants_of m i)) ≡ true → turn m user is slice false [] ≡ loop.made
         turn-stops over = loop.whole ∙ ap (λ os. loop.made ++ os) (next ∙ turn-ends m user i (drop (k + 1) is) left given loop.made waiting over) ∙ append-nil loop.made
 
-        module _ (open : (given && nat_lt left (wants_of m i)) ≡ false) where
+        module _ (in_slice : (given && nat_lt left (wants_of m i)) ≡ false) where
           found-here : m.find loop.made i ≡ found scene.moment (stock_in scene) jobs i
           found-here = ap (λ js. found scene.moment (stock_in scene) js i) (sym loop.table)
 
@@ -109,7 +109,7 @@ module _ (scene : Scene) (began : List Job) where
             made = loop.made;
             shown = loop.shown;
             table = same ∙ loop.table;
-            whole = loop.whole ∙ ap (λ os. loop.made ++ os) (next ∙ turn-fails m user i (drop (k + 1) is) left given loop.made waiting open (found-here ∙ none));
+            whole = loop.whole ∙ ap (λ os. loop.made ++ os) (next ∙ turn-fails m user i (drop (k + 1) is) left given loop.made waiting in_slice (found-here ∙ none));
             ready = ready;
             paid = paid;
           }
@@ -118,7 +118,7 @@ module _ (scene : Scene) (began : List Job) where
             more : turn m user is slice false [] ≡ (loop.made ++ offer i slots ∷ []) ++ turn m user (drop (k + 1) is) (left - wants_of m i) true (loop.made ++ offer i slots ∷ [])
             more =
                 loop.whole
-                ∙ ap (λ os. loop.made ++ os) (next ∙ turn-finds m user i (drop (k + 1) is) left given loop.made slots waiting open (found-here ∙ is_found))
+                ∙ ap (λ os. loop.made ++ os) (next ∙ turn-finds m user i (drop (k + 1) is) left given loop.made slots waiting in_slice (found-here ∙ is_found))
                 ∙ sym (append_assoc loop.made (offer i slots ∷ []) (turn m user (drop (k + 1) is) (left - wants_of m i) true (loop.made ++ offer i slots ∷ [])))
 
             table-more : (later : List Job) → later ≡ with_standing jobs i (Standing.Matched slots) → later ≡ with_offers (loop.made ++ offer i slots ∷ []) began
@@ -168,3 +168,8 @@ module _ (scene : Scene) (began : List Job) where
   own-place user is k own within =
       let P : List ℕ → Type 0 = λ l. k < length l → is_of m user (get_or l k 0) ≡ true in
       subst P (sym own) (own-at user (places m.jobs) k) within
+
+  pub own-within : (user : List ℕ) (is : List ℕ) (k : ℕ) → is ≡ filter (is_of m user) (places m.jobs) → k < length is → get_or is k 0 < length began
+  own-within user is k own within =
+      let there = within-from m (λ job. bytes_eq user job.user) m.jobs (get_or is k 0) (own-place user is k own within) in
+      omega (arith, there, length-map began waiting_of)

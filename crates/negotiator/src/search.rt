@@ -27,9 +27,13 @@ pub(crate) fn is_idle(claims: &ClaimTable, i: usize) -> bool
     ensures { result ≡ is_idle_at (jobs_of claims.now) i }
 {
     claims.names_are_apart();
-    match claims.state(claims.job(i).bytes()) {
-        Some(JobState::Idle) => true,
-        _ => false,
+    let Some(state) = claims.state(claims.job(i).bytes()) else {
+        return false;
+    };
+    match state {
+        JobState::Idle => true,
+        JobState::Matched => false,
+        JobState::Claimed => false,
     }
 }
 

@@ -12,6 +12,8 @@ mod index;
 #[cfg(test)]
 mod matching;
 #[cfg(test)]
+mod negotiation;
+#[cfg(test)]
 mod plans;
 #[cfg(test)]
 mod store;

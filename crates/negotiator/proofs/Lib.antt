@@ -2,7 +2,7 @@ mod ActiveLemmas
 pub mod AlikeLemmas
 mod BudgetLemmas
 pub mod CycleLemmas
-mod JobLemmas
+pub mod JobLemmas
 mod PriorityLemmas
 mod QueueLemmas
 mod ReadyLemmas

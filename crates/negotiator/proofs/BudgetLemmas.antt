@@ -37,7 +37,7 @@ marked-set failed i k within h = by (cases_eq k i)
     by (inl e) = subst (λ j. get_or (set failed i true) j false ≡ true) (sym e) (get_or-set_same failed i true false within)
     by (inr ne) = get_or-set_other failed i k true false ne ∙ h
 
-idle-within : (jobs : List Job) (i : ℕ) → is_idle_at jobs i ≡ true → i < length jobs
+pub idle-within : (jobs : List Job) (i : ℕ) → is_idle_at jobs i ≡ true → i < length jobs
 idle-within [] i e = absurd (cc)
 idle-within (j ∷ jobs) zero e = omega arith
 idle-within (j ∷ jobs) (suc i) e = let rest = idle-within jobs i e in omega (arith, rest)

@@ -7,13 +7,14 @@ use Rattle.std.specs.Ordering.{match_ordering}
 use Rattle.std.specs.declared.cmp.Ordering.{Ordering}
 use Rattle.std.proofs.lemmas.List.{append-nil, length-map, map-append, take_all, take_more}
 use Rattle.std.proofs.lemmas.List.Elements.{All-push, filter-append}
+use Rattle.std.proofs.lemmas.List.Sums.{count_by_more_no, count_by_more_yes}
 use Rattle.std.proofs.lemmas.Nat.{div_below, le-div}
 use Rattle.ad_store.specs.Stock.{Stock}
 use Rattle.claim_table.specs.declared.job.Job.{Job}
 use Rattle.negotiator.specs.declared.queues.Queue.{Queue}
 use Rattle.negotiator.specs.Budget.{is_idle_at}
 use Rattle.negotiator.specs.Cycle.{Market, Waiting, all_users, is_of, is_waiting, places, user_order, users_of, waits}
-use Rattle.negotiator.specs.Markets.{market_of, waiting_of}
+use Rattle.negotiator.specs.Markets.{is_free, market_of, waiting_of}
 use Rattle.negotiator.specs.Priorities.{Setting}
 use Rattle.negotiator.specs.Queues.{AreQueues}
 use Rattle.negotiator.specs.Scenes.{users_at}
@@ -116,6 +117,20 @@ module _ (moment : ℕ) (stock : Stock) (settings : List Setting) (jobs : List J
 
   pub active-all : (queues : List Queue) (k : ℕ) (ks : List ℕ) → AreQueues market queues → length queues ≤ k → users_at queues ks ≡ filter active (map (λ (q : Queue). q.user) (take k queues)) → users_at queues ks ≡ users_of market []
   active-all queues k ks are past so_far = so_far ∙ ap (λ l. filter active (map (λ (q : Queue). q.user) l)) (take_all k queues past) ∙ ap (filter active) are.users
+
+-- ---- what is free
+
+read-at : (xs : List ℕ) (i x : ℕ) → slice_get xs i ≡ Some x → (i < length xs) × (get_or xs i 0 ≡ x)
+read-at [] i x e = absurd (cc)
+read-at (y ∷ ys) zero x e = (omega arith, cc)
+read-at (y ∷ ys) (suc i) x e = let rest = read-at ys i x e in (omega (arith, rest.0), rest.1)
+
+module _ (jobs : List Job) (slots : List ℕ) (i slot : ℕ) (at : slice_get slots i ≡ Some slot) where
+  pub free-one : is_free jobs slot ≡ true → count_by (is_free jobs) (take (i + 1) slots) ≡ count_by (is_free jobs) (take i slots) + 1
+  free-one e = let here = read-at slots i slot at in count_by_more_yes (is_free jobs) slots i 0 here.0 (ap (is_free jobs) here.1 ∙ e)
+
+  pub free-none : is_free jobs slot ≡ false → count_by (is_free jobs) (take (i + 1) slots) ≡ count_by (is_free jobs) (take i slots)
+  free-none e = let here = read-at slots i slot at in count_by_more_no (is_free jobs) slots i 0 here.0 (ap (is_free jobs) here.1 ∙ e)
 
 -- ---- an element that passes
 

@@ -9,7 +9,7 @@ mod ReadyLemmas
 mod ShiftLemmas
 mod SearchLemmas
 mod SpinLoopLemmas
-mod StoredLemmas
+pub mod StoredLemmas
 mod SumLemmas
 mod TurnLoopLemmas
 mod UserLemmas

@@ -4,14 +4,17 @@ use Rattle.std.specs.Prelude.{IfSome, option_and_then, option_map}
 use Rattle.std.specs.Option.{option_map_or}
 use Rattle.std.proofs.lemmas.List.Elements.{All-cons, All-nil}
 use Rattle.ad_tree.specs.declared.request.Request.{Request}
+use Rattle.ad_tree.specs.Ad.{ad_frames}
 use Rattle.ad_store.specs.Stock.{Stock}
+use Rattle.bilateral_match.specs.Counts.{entered_for, least_left, open_count}
 use Rattle.claim_table.specs.declared.answers.JobState.{JobState}
 use Rattle.claim_table.specs.declared.job.Job.{Job}
 use Rattle.claim_table.specs.declared.job.Standing.{Standing}
 use Rattle.claim_table.specs.Jobs.{AreFree, AreNamedApart, job_named, numbered, offered_to, state_of, wanted}
 use Rattle.claim_table.proofs.HolderLemmas.{All-found}
-use Rattle.negotiator.specs.Budget.{is_idle_at}
-use Rattle.negotiator.specs.Markets.{found, found_for, is_idle, name_at}
+use Rattle.conjunct_plan.specs.Tests.{tests_of}
+use Rattle.negotiator.specs.Budget.{Counts, IsSearched, entries_for, evaluations_for, is_idle_at, looks_for}
+use Rattle.negotiator.specs.Markets.{found, found_for, is_idle, name_at, pool_for}
 
 abbrev pub state_at : List Job → ℕ → Option JobState
 state_at jobs i = option_map (λ (job : Job). state_of job.standing) (slice_get jobs i)
@@ -75,6 +78,18 @@ module _ (jobs : List Job) (i : ℕ) (request : Request) (at : option_map (λ (j
       by : (o : Option Job) → slice_get jobs i ≡ o → option_map (λ (job : Job). job.request) o ≡ Some request → request.ports ≡ []
       by None here e = absurd (cc)
       by (Some job) here e = let same : job.request ≡ request = cc in subst (λ (r : Request). r.ports ≡ []) same (All-found (λ (job : Job). job.request.ports ≡ []) jobs i job single here)
+
+  -- how much the search counts
+  pub searched : (moment : ℕ) (stock : Stock) (before after : Counts)
+      → after.tops ≤ before.tops + 5 * open_count (pool_for moment stock jobs) (ad_frames request.ad)
+      → after.entry ≤ before.entry + entered_for (pool_for moment stock jobs) (ad_frames request.ad)
+      → after.touch ≤ before.touch + 9 * least_left stock.ads (tests_of (ad_frames request.ad) 0 [])
+      → IsSearched moment stock jobs i before after
+  searched moment stock before after evaluations entries looks = record {
+    tops = subst (λ (n : ℕ). after.tops ≤ before.tops + n) (sym (read-request (evaluations_for moment stock jobs) 0)) evaluations;
+    entry = subst (λ (n : ℕ). after.entry ≤ before.entry + n) (sym (read-request (entries_for moment stock jobs) 0)) entries;
+    touch = subst (λ (n : ℕ). after.touch ≤ before.touch + n) (sym (read-request (looks_for stock jobs) 0)) looks;
+  }
 
 pub one-apart : (slot : ℕ) → AllPairs (λ a b. a ≢ b) (slot ∷ [])
 one-apart slot = λ i j d before within. absurd (omega (arith, before, within))

@@ -100,7 +100,7 @@ module _ (moment : ℕ) (stock : Stock) (settings : List Setting) where
       by (j ∷ js) zero = refl
       by (j ∷ js) (suc k) = by js k
 
-  wants-is : (jobs : List Job) (k : ℕ) → wants_of (market jobs) k ≡ option_map_or (λ (n : ℕ). n) (slice_get (map (λ (job : Job). wanted job.request) jobs) k) 0
+  pub wants-is : (jobs : List Job) (k : ℕ) → wants_of (market jobs) k ≡ option_map_or (λ (n : ℕ). n) (slice_get (map (λ (job : Job). wanted job.request) jobs) k) 0
   wants-is jobs k = by jobs k
     where
       by : (js : List Job) (k : ℕ) → option_map_or (λ (w : Waiting). w.wants) (slice_get (map waiting_of js) k) 0 ≡ option_map_or (λ (n : ℕ). n) (slice_get (map (λ (job : Job). wanted job.request) js) k) 0

@@ -1,21 +1,27 @@
 -- The turns of a spin, and the spins of a cycle, as they run.
-use Rattle.std.proofs.Common.{◌≡◌, ◌≤◌, ◌<◌, ◌+◌, ℕ, zero, suc, Bool, true, false, not, cond, if◌then◌else◌, List, [], ◌∷◌, ◌++◌, All, filter, length, map, drop, get_or, flat_map, refl, ap, sym, ◌∙◌, subst, arith, append_assoc}
+use Rattle.std.proofs.Common.{◌≡◌, ◌≤◌, ◌<◌, ◌+◌, ◌^◌, ℕ, zero, suc, Bool, true, false, not, cond, if◌then◌else◌, List, [], ◌∷◌, ◌++◌, All, filter, length, map, drop, get_or, slice_get, flat_map, sum, refl, ap, sym, ◌∙◌, subst, arith, append_assoc}
 use Rattle.std.specs.Option.{option_map_or}
 use Rattle.std.proofs.lemmas.List.{append-nil, drop_all, drop_more, length-map, map-append}
 use Rattle.std.proofs.lemmas.List.Elements.{filter-append}
 use Rattle.claim_table.specs.declared.job.Job.{Job}
+use Rattle.claim_table.specs.Jobs.{jobs_limit}
 use Rattle.negotiator.specs.declared.answers.Offered.{Offered}
 use Rattle.negotiator.specs.declared.answers.Spin.{Spin}
 use Rattle.negotiator.specs.declared.answers.Turn.{Turn}
 use Rattle.negotiator.specs.declared.scene.Scene.{Scene}
+use Rattle.negotiator.specs.declared.queues.Queue.{Queue}
 use Rattle.negotiator.specs.Budget.{ArePaid, Counts}
-use Rattle.negotiator.specs.Cycle.{Market, Offer, PlainSpin, PlainTurn, cycle_from, cycle_of, has_offer, is_empty, offers_in, offers_of, places, spin, turn, turns}
-use Rattle.negotiator.specs.Markets.{IsPart, offer_named, spin_named, turn_named, with_offers}
-use Rattle.negotiator.specs.Scenes.{IsReady, market_in, stock_in}
+use Rattle.negotiator.specs.Cycle.{Market, Offer, PlainSpin, PlainTurn, cycle_from, cycle_of, has_offer, is_empty, is_of, offers_in, offers_of, places, shares_of, spin, turn, turns, users_of, waiting_count}
+use Rattle.negotiator.specs.Markets.{IsPart, free_among, offer_named, spin_named, turn_named, waiting_of, with_offers}
+use Rattle.negotiator.specs.Priorities.{priority_of}
+use Rattle.negotiator.specs.Scenes.{IsReady, market_in, stock_in, users_at}
+use Rattle.negotiator.specs.Queues.{AreQueues}
 use Rattle.negotiator.specs.Settings.{settings_of}
-use Rattle.negotiator.proofs.CycleLemmas.{cycle-step, offers-append}
-use Rattle.negotiator.proofs.ShiftLemmas.{offers-ahead, shift-places, shift-spin, shift-turn}
+use Rattle.negotiator.proofs.ActiveLemmas.{few-users}
+use Rattle.negotiator.proofs.CycleLemmas.{cycle-step, offers-append, offers-kept, spin-fewer}
+use Rattle.negotiator.proofs.ShiftLemmas.{offers-ahead, shift-count, shift-own, shift-places, shift-queues, shift-spin, shift-turn}
 use Rattle.negotiator.proofs.TurnLoopLemmas.{named-later}
+use Rattle.pie_slices.specs.Slices.{slice_of, slices_of, weight_of}
 
 -- a part of what comes behind a front
 pub part-behind : (front offers rest all : List (Offer ℕ)) (jobs middle later : List Job) → all ≡ front ++ (offers ++ rest) → middle ≡ with_offers front jobs → IsPart offers middle later → IsPart all jobs later
@@ -47,6 +53,17 @@ turns-later jobs made (t ∷ ts) =
 pub spin-later : (jobs : List Job) (made : List (Offer ℕ)) (s : PlainSpin ℕ) → spin_named (with_offers made jobs) s ≡ spin_named jobs s
 spin-later jobs made s = ap (λ ts. let u : Spin = record { free = s.free; turns = ts } in u) (turns-later jobs made s.turns)
 
+-- the user of a queue by its number
+read-user : (queues : List Queue) (j : ℕ) (queue : Queue) → j < length queues → get_or queues j queue ≡ queue → option_map_or (λ (q : Queue). q.user) (slice_get queues j) [] ≡ queue.user
+read-user [] j queue within is = absurd (omega (arith, within))
+read-user (q ∷ qs) zero queue within is = ap (λ (q : Queue). q.user) is
+read-user (q ∷ qs) (suc j) queue within is = read-user qs j queue (omega (arith, within)) is
+
+pub user-here : (queues : List Queue) (active : List ℕ) (k j : ℕ) (queue : Queue) → k < length active → get_or active k 0 ≡ j → j < length queues → get_or queues j queue ≡ queue → get_or (users_at queues active) k [] ≡ queue.user
+user-here queues [] k j queue within here inside is = absurd (omega (arith, within))
+user-here queues (a ∷ as) zero j queue within here inside is = ap (λ a. option_map_or (λ (q : Queue). q.user) (slice_get queues a) []) here ∙ read-user queues j queue inside is
+user-here queues (a ∷ as) (suc k) j queue within here inside is = user-here queues as k j queue (omega (arith, within)) here inside is
+
 module _ (scene : Scene) (began : List Job) where
   abbrev m : Market ℕ
   m = market_in scene began
@@ -75,6 +92,13 @@ module _ (scene : Scene) (began : List Job) where
 
     pub turns-table : length users ≤ k → jobs ≡ with_offers (offers_in (turns m users slices [])) began
     turns-table past = loop.table ∙ ap (λ ts. with_offers (offers_in ts) began) (sym (turns-ended past))
+
+    -- the places of the user's jobs are as they were
+    pub own-here : (queue : Queue) → queue.places ≡ filter (is_of m queue.user) (places m.jobs) → queue.places ≡ filter (is_of (market_in scene jobs) queue.user) (places (market_in scene jobs).jobs)
+    own-here queue own =
+        own
+        ∙ sym (shift-own scene.moment (stock_in scene) (settings_of scene.priorities.now) began (offers_in loop.done) queue.user)
+        ∙ ap (λ js. filter (is_of (market_in scene js) queue.user) (places (market_in scene js).jobs)) (sym loop.table)
 
     module _ (user : List ℕ) (slice : ℕ) (us : k < length users) (ss : k < length slices) (user_is : get_or users k [] ≡ user) (slice_is : get_or slices k 0 ≡ slice) where
       abbrev os : List (Offer ℕ)
@@ -159,6 +183,52 @@ module _ (scene : Scene) (began : List Job) where
           one [] = refl
           one (o ∷ os) = refl
 
+  -- ---- a spin
+
+  abbrev spin-with : ℕ → List Turn → Spin
+  spin-with free list = record { free = free; turns = list }
+
+  pub few-weights : (queues : List Queue) (active weights : List ℕ) → length began ≤ jobs_limit → users_at queues active ≡ users_of m []
+      → weights ≡ map (λ user. weight_of (priority_of user (settings_of scene.priorities.now))) (users_at queues active) → length weights ≤ 10 ^ 4
+  few-weights queues active weights few users weights_are =
+      let all = few-users m in
+      let jobs = length-map began waiting_of in
+      let same = ap length weights_are ∙ length-map (users_at queues active) (λ user. weight_of (priority_of user (settings_of scene.priorities.now))) ∙ ap (length {X = List ℕ}) users in
+      omega (arith, few, all, jobs, same)
+
+  module _ (queues : List Queue) (active weights slices : List ℕ) (free : ℕ) (free_is : free ≡ free_among (stock_in scene) began) (users_are : users_at queues active ≡ users_of m [])
+      (weights_are : weights ≡ map (λ user. weight_of (priority_of user (settings_of scene.priorities.now))) (users_at queues active)) (slices_are : slices ≡ slices_of free weights) where
+    pub slices-length : length slices ≡ length active
+    slices-length =
+        ap length slices_are
+        ∙ length-map weights (slice_of free (sum weights))
+        ∙ ap length weights_are
+        ∙ length-map (users_at queues active) (λ user. weight_of (priority_of user (settings_of scene.priorities.now)))
+        ∙ length-map active (λ k. option_map_or (λ (q : Queue). q.user) (slice_get queues k) [])
+
+    shares-are : slices ≡ shares_of m []
+    shares-are =
+        slices_are
+        ∙ ap (λ n. slices_of n weights) free_is
+        ∙ ap (slices_of (free_among (stock_in scene) began)) (weights_are ∙ ap (map (λ user. weight_of (priority_of user (settings_of scene.priorities.now)))) users_are)
+
+    turns-are : turns m (users_at queues active) slices [] ≡ turns m (users_of m []) (shares_of m []) []
+    turns-are = ap (λ us. turns m us slices []) users_are ∙ ap (λ ss. turns m (users_of m []) ss []) shares-are
+
+    offers-are : offers_in (turns m (users_at queues active) slices []) ≡ offers_in (spin m []).turns
+    offers-are = ap offers_in turns-are ∙ sym (offers-kept (turns m (users_of m []) (shares_of m []) []))
+
+    pub spin-shown : (list : List Turn) → list ≡ map (turn_named began) (filter has_offer (turns m (users_at queues active) slices [])) → spin-with free list ≡ spin_named began (spin m [])
+    spin-shown list is =
+        ap (spin-with free) (is ∙ ap (λ ts. map (turn_named began) (filter has_offer ts)) turns-are)
+        ∙ ap (λ n. spin-with n (map (turn_named began) (filter has_offer (turns m (users_of m []) (shares_of m []) [])))) free_is
+
+    pub spin-table : (later : List Job) → later ≡ with_offers (offers_in (turns m (users_at queues active) slices [])) began → later ≡ with_offers (offers_in (spin m []).turns) began
+    spin-table later is = is ∙ ap (λ os. with_offers os began) offers-are
+
+    pub spin-part : (later : List Job) → IsPart (offers_in (turns m (users_at queues active) slices [])) began later → IsPart (offers_in (spin m []).turns) began later
+    spin-part later part = subst (λ os. IsPart os began later) offers-are part
+
   -- ---- the spins
 
   pub record SpinsLoop (marks : List Bool) (before : Counts) (list : List Spin) (jobs : List Job) (failed : List Bool) (now : Counts) : Type 0 where
@@ -185,6 +255,9 @@ module _ (scene : Scene) (began : List Job) where
 
     spin-ran : ran ≡ here
     spin-ran = ap (λ js. spin (market_in scene js) []) loop.table ∙ shift-spin scene.moment (stock_in scene) (settings_of scene.priorities.now) began (offers_of loop.done)
+
+    pub queues-here : (queues : List Queue) → AreQueues m queues → AreQueues (market_in scene jobs) queues
+    queues-here queues are = subst (λ js. AreQueues (market_in scene js) queues) (sym loop.table) (shift-queues scene.moment (stock_in scene) (settings_of scene.priorities.now) began (offers_of loop.done) queues are)
 
     abbrev on : Bool → List (PlainSpin ℕ)
     on b = if b then [] else cycle_from m (offers_of loop.done ++ offers_in here.turns)
@@ -247,6 +320,13 @@ module _ (scene : Scene) (began : List Job) where
 
       pub spins-table : length one.turns ≡ 0 → later ≡ with_offers (offers_of (cycle_of m)) began
       spins-table last = spins-table-with later is ∙ ap (λ ss. with_offers (offers_of ss) began) (sym (spins-all last))
+
+      -- behind a spin that isn't the last fewer jobs wait
+      pub spins-fewer : 0 < length one.turns → waiting_count (market_in scene later) [] < waiting_count (market_in scene jobs) []
+      spins-fewer some =
+          let same : length one.turns ≡ length ran.turns = ap (λ (s : Spin). length s.turns) one_is ∙ length-map ran.turns (turn_named jobs) in
+          let count = ap (λ js. waiting_count (market_in scene js) []) is ∙ shift-count scene.moment (stock_in scene) (settings_of scene.priorities.now) jobs (offers_in ran.turns) in
+          subst (λ n. n < waiting_count (market_in scene jobs) []) (sym count) (spin-fewer (market_in scene jobs) [] (some-from ran.turns (omega (arith, same, some))))
 
       -- a spin that isn't the last
       pub spins-more : 0 < length one.turns → (later_failed : List Bool) (after : Counts) → IsReady scene later later_failed → ArePaid scene.moment (stock_in scene) began later marks later_failed before after

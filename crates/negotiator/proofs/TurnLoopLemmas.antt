@@ -1,10 +1,12 @@
 -- A user's turn, job by job, as it runs.
 use Rattle.std.proofs.Common.{◌≡◌, ◌≤◌, ◌<◌, ◌+◌, ◌-◌, ◌==◌, ℕ, zero, suc, Bool, true, false, not, ◌&&◌, nat_lt, List, [], ◌∷◌, ◌++◌, All, filter, length, map, drop, get_or, slice_get, bytes_eq, cond, unwrap_or, Option, None, Some, refl, ap, sym, ◌∙◌, subst, arith, append_assoc}
 use Rattle.std.specs.Prelude.{option_map}
+use Rattle.std.specs.Option.{option_map_or}
+use Rattle.std.proofs.lemmas.Bool.Decides.{nat_tests}
 use Rattle.std.proofs.lemmas.List.{append-nil, drop_all, drop_more, length-map, map-append}
 use Rattle.claim_table.specs.declared.job.Job.{Job}
 use Rattle.claim_table.specs.declared.job.Standing.{Standing}
-use Rattle.claim_table.specs.Jobs.{with_standing}
+use Rattle.claim_table.specs.Jobs.{wanted, with_standing}
 use Rattle.negotiator.specs.declared.answers.Offered.{Offered}
 use Rattle.negotiator.specs.declared.scene.Scene.{Scene}
 use Rattle.negotiator.specs.Budget.{ArePaid, Counts, is_idle_at}
@@ -13,7 +15,8 @@ use Rattle.negotiator.specs.Markets.{IsPart, found, name_at, offer_named, waitin
 use Rattle.negotiator.specs.Scenes.{IsReady, market_in, stock_in}
 use Rattle.negotiator.specs.Settings.{settings_of}
 use Rattle.negotiator.proofs.CycleLemmas.{offer, turn-ends, turn-fails, turn-finds, turn-own, turn-skips, within-from}
-use Rattle.negotiator.proofs.ShiftLemmas.{idle-all, kept-all, offers-ahead, waiting-is}
+use Rattle.negotiator.proofs.ShiftLemmas.{idle-all, kept-all, offers-ahead, waiting-is, wants-is}
+use Rattle.negotiator.proofs.JobLemmas.{get-map}
 
 -- names stay, so an offer is named as before
 pub named-later : (jobs : List Job) (made : List (Offer ℕ)) (o : Offer ℕ) → offer_named (with_offers made jobs) o ≡ offer_named jobs o
@@ -37,6 +40,23 @@ found-from jobs i (Some slots) answer e =
 pub none-from : (jobs : List Job) (i : ℕ) (o : Option (List ℕ)) → option_map (λ slots. offer_named jobs (offer i slots)) o ≡ None → o ≡ None
 none-from jobs i None e = refl
 none-from jobs i (Some slots) e = absurd (cc)
+
+-- the test of the slice
+pub over-slice : (given : Bool) (left wants n : ℕ) → wants ≡ n → given ≡ true → left < wants → (given && nat_lt left n) ≡ true
+over-slice given left wants n is e less = ap (λ b. b && nat_lt left n) e ∙ by (omega (arith, is, less))
+  where
+    by : left < n → nat_lt left n ≡ true
+    by h = grind (arith, nat_tests)
+
+pub in-slice : (given : Bool) (left wants n : ℕ) → wants ≡ n → wants ≤ left → (given && nat_lt left n) ≡ false
+in-slice given left wants n is fits = ap (λ b. given && b) (by (omega (arith, is, fits))) ∙ none given
+  where
+    by : n ≤ left → nat_lt left n ≡ false
+    by h = grind (arith, nat_tests)
+
+    none : (b : Bool) → b && false ≡ false
+    none true = refl
+    none false = refl
 
 module _ (scene : Scene) (began : List Job) where
   abbrev m : Market ℕ
@@ -66,6 +86,20 @@ module _ (scene : Scene) (began : List Job) where
 
     pub ended-all : length is ≤ k → turn m user is slice false [] ≡ loop.made
     ended-all past = loop.whole ∙ ap (λ l. loop.made ++ turn m user l left given loop.made) (drop_all k is past) ∙ append-nil loop.made
+
+    -- what stays of the jobs
+    pub length-here : length jobs ≡ length began
+    length-here =
+        ap (length {X = Job}) loop.table
+        ∙ sym (length-map (with_offers loop.made began) (λ (job : Job). job.name))
+        ∙ ap length (kept-all (λ (job : Job). job.name) (λ job s. refl) loop.made began)
+        ∙ length-map began (λ (job : Job). job.name)
+
+    pub wants-here : (i n : ℕ) → option_map (λ (job : Job). wanted job.request) (slice_get jobs i) ≡ Some n → n ≡ wants_of m i
+    wants-here i n e =
+        sym (wants-is scene.moment (stock_in scene) (settings_of scene.priorities.now) began i
+        ∙ ap (λ ns. option_map_or (λ (n : ℕ). n) (slice_get ns i) 0) (sym (kept-all (λ (job : Job). wanted job.request) (λ job s. refl) loop.made began) ∙ ap (map (λ (job : Job). wanted job.request)) (sym loop.table))
+        ∙ ap (λ o. option_map_or (λ (n : ℕ). n) o 0) (get-map (λ (job : Job). wanted job.request) jobs i ∙ e))
 
     -- want of memory here
     pub stopped : IsPart (turn m user is slice false []) began jobs

@@ -15,7 +15,7 @@ use Rattle.negotiator.specs.declared.queues.Queue.{Queue}
 use Rattle.negotiator.specs.Budget.{is_idle_at}
 use Rattle.negotiator.specs.Cycle.{Market, Waiting, all_users, is_of, is_waiting, places, user_order, users_of, waits}
 use Rattle.negotiator.specs.Markets.{is_free, market_of, waiting_of}
-use Rattle.negotiator.specs.Priorities.{Setting}
+use Rattle.negotiator.specs.Priorities.{Setting, priority_of}
 use Rattle.negotiator.specs.Queues.{AreQueues}
 use Rattle.negotiator.specs.Scenes.{users_at}
 use Rattle.negotiator.proofs.AlikeLemmas.{any-same}
@@ -59,6 +59,36 @@ few-users market =
     let all = users-length (user_order market.priority) [] market.jobs in
     let some = filter-length (λ user. list_any (waits market user []) (places market.jobs)) (all_users market) in
     omega (arith, all, some)
+
+-- ---- users by their queues
+
+-- the user of a queue by its number
+pub read-user : (queues : List Queue) (j : ℕ) (queue : Queue) → j < length queues → get_or queues j queue ≡ queue → option_map_or (λ (q : Queue). q.user) (slice_get queues j) [] ≡ queue.user
+read-user [] j queue within is = absurd (omega (arith, within))
+read-user (q ∷ qs) zero queue within is = ap (λ (q : Queue). q.user) is
+read-user (q ∷ qs) (suc j) queue within is = read-user qs j queue (omega (arith, within)) is
+
+pub user-here : (queues : List Queue) (active : List ℕ) (k j : ℕ) (queue : Queue) → k < length active → get_or active k 0 ≡ j → j < length queues → get_or queues j queue ≡ queue → get_or (users_at queues active) k [] ≡ queue.user
+user-here queues [] k j queue within here inside is = absurd (omega (arith, within))
+user-here queues (a ∷ as) zero j queue within here inside is = ap (λ a. option_map_or (λ (q : Queue). q.user) (slice_get queues a) []) here ∙ read-user queues j queue inside is
+user-here queues (a ∷ as) (suc k) j queue within here inside is = user-here queues as k j queue (omega (arith, within)) here inside is
+
+module _ (settings : List Setting) (queues : List Queue) (active : List ℕ) where
+  abbrev weigh : List ℕ → ℕ
+  weigh user = weight_of (priority_of user settings)
+
+  pub weights-more : (i k number w : ℕ) (queue : Queue) (weights later : List ℕ) → i < length active → get_or active i 0 ≡ k → k < length queues → queue ≡ get_or queues k queue
+      → number ≡ priority_of queue.user settings → w ≡ weight_of number → weights ≡ map weigh (users_at queues (take i active)) → later ≡ weights ++ w ∷ []
+      → later ≡ map weigh (users_at queues (take (i + 1) active))
+  weights-more i k number w queue weights later within here inside is number_is w_is so_far pushed =
+      let before = users_at queues (take i active) in
+      pushed
+      ∙ ap (λ (l : List ℕ). l ++ w ∷ []) so_far
+      ∙ ap (λ (v : ℕ). map weigh before ++ v ∷ []) (w_is ∙ ap weight_of number_is)
+      ∙ sym (ap (λ l. map weigh (users_at queues l)) (take_more active i 0 within ∙ ap (λ j. take i active ++ j ∷ []) here)
+        ∙ ap (map weigh) (map-append (λ j. option_map_or (λ (q : Queue). q.user) (slice_get queues j) []) (take i active) (k ∷ []))
+        ∙ map-append weigh before ((option_map_or (λ (q : Queue). q.user) (slice_get queues k) []) ∷ [])
+        ∙ ap (λ (u : List ℕ). map weigh before ++ weigh u ∷ []) (read-user queues k queue inside (sym is)))
 
 -- ---- who is active
 
@@ -109,11 +139,23 @@ module _ (moment : ℕ) (stock : Stock) (settings : List Setting) (jobs : List J
         ∙ ap (λ l. l ++ filter active ((get_or queues k d).user ∷ [])) (sym so_far)
         ∙ ap (λ c. users_at queues ks ++ cond c ((get_or queues k d).user ∷ []) []) e
 
-    pub active-more : (later : List ℕ) → later ≡ ks ++ k ∷ [] → active (get_or queues k d).user ≡ true → users_at queues later ≡ filter active (map (λ (q : Queue). q.user) (take (k + 1) queues))
+    active-more : (later : List ℕ) → later ≡ ks ++ k ∷ [] → active (get_or queues k d).user ≡ true → users_at queues later ≡ filter active (map (λ (q : Queue). q.user) (take (k + 1) queues))
     active-more later pushed e = ap (users_at queues) pushed ∙ users-push queues ks k d within ∙ sym (next true e)
 
-    pub active-same : active (get_or queues k d).user ≡ false → users_at queues ks ≡ filter active (map (λ (q : Queue). q.user) (take (k + 1) queues))
+    active-same : active (get_or queues k d).user ≡ false → users_at queues ks ≡ filter active (map (λ (q : Queue). q.user) (take (k + 1) queues))
     active-same e = sym (next false e ∙ append-nil (users_at queues ks))
+
+  -- a queue, and what is told of its user
+  module _ (queues : List Queue) (k : ℕ) (queue : Queue) (within : k < length queues) (ks : List ℕ) (so_far : users_at queues ks ≡ filter active (map (λ (q : Queue). q.user) (take k queues)))
+      (is : queue ≡ get_or queues k queue) (told : Bool) (told_is : told ≡ active queue.user) where
+    here : active (get_or queues k queue).user ≡ told
+    here = ap (λ (q : Queue). active q.user) (sym is) ∙ sym told_is
+
+    pub active-yes : told ≡ true → (later : List ℕ) → later ≡ ks ++ k ∷ [] → users_at queues later ≡ filter active (map (λ (q : Queue). q.user) (take (k + 1) queues))
+    active-yes yes later pushed = active-more queues k queue within ks so_far later pushed (here ∙ yes)
+
+    pub active-no : told ≡ false → users_at queues ks ≡ filter active (map (λ (q : Queue). q.user) (take (k + 1) queues))
+    active-no no = active-same queues k queue within ks so_far (here ∙ no)
 
   pub active-all : (queues : List Queue) (k : ℕ) (ks : List ℕ) → AreQueues market queues → length queues ≤ k → users_at queues ks ≡ filter active (map (λ (q : Queue). q.user) (take k queues)) → users_at queues ks ≡ users_of market []
   active-all queues k ks are past so_far = so_far ∙ ap (λ l. filter active (map (λ (q : Queue). q.user) l)) (take_all k queues past) ∙ ap (filter active) are.users

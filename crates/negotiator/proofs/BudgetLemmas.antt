@@ -125,6 +125,9 @@ module _ (moment : ℕ) (stock : Stock) where
   pub paid-within : (a b : List Job) (f g : List Bool) (x y : Counts) → ArePaid moment stock a b f g x y → AreWithin moment stock a f x y
   paid-within a b f g x y p = let p0 = p.tops in let p1 = p.entry in let p2 = p.touch in record { tops = omega (arith, p0); entry = omega (arith, p1); touch = omega (arith, p2) }
 
+  pub within-none : (jobs : List Job) (failed : List Bool) (counts : Counts) → AreWithin moment stock jobs failed counts counts
+  within-none jobs failed counts = record { tops = omega arith; entry = omega arith; touch = omega arith }
+
   pub within-on : (a b : List Job) (f g : List Bool) (x y z : Counts) → ArePaid moment stock a b f g x y → AreWithin moment stock b g y z → AreWithin moment stock a f x z
   within-on a b f g x y z p q =
       let p0 = p.tops in let q0 = q.tops in let p1 = p.entry in let q1 = q.entry in let p2 = p.touch in let q2 = q.touch in

@@ -12,9 +12,10 @@ use Rattle.claim_table.specs.declared.job.Job.{Job}
 use Rattle.claim_table.specs.declared.job.Standing.{Standing}
 use Rattle.claim_table.specs.Jobs.{AreFree, AreNamedApart, job_named, numbered, offered_to, state_of, wanted}
 use Rattle.claim_table.proofs.HolderLemmas.{All-found}
+use Rattle.negotiator.specs.declared.answers.Offered.{Offered}
 use Rattle.conjunct_plan.specs.Tests.{tests_of}
 use Rattle.negotiator.specs.Budget.{Counts, IsSearched, entries_for, evaluations_for, is_idle_at, looks_for}
-use Rattle.negotiator.specs.Markets.{found, found_for, is_idle, name_at, pool_for}
+use Rattle.negotiator.specs.Markets.{found, found_for, is_idle, name_at, offer_named, pool_for}
 
 abbrev pub state_at : List Job → ℕ → Option JobState
 state_at jobs i = option_map (λ (job : Job). state_of job.standing) (slice_get jobs i)
@@ -110,3 +111,9 @@ name-is jobs i name at = by (slice_get jobs i) at
     by : (o : Option Job) → option_map (λ (job : Job). job.name) o ≡ Some name → option_map_or (λ (job : Job). job.name) o [] ≡ name
     by None e = absurd (cc)
     by (Some job) e = cc
+
+abbrev as-offered : List ℕ → List ℕ → Offered
+as-offered job slots = record { job = job; slots = slots }
+
+pub offered-is : (jobs : List Job) (i : ℕ) (slots job shown : List ℕ) → job ≡ name_at jobs i → shown ≡ slots → as-offered job shown ≡ offer_named jobs (record { job = i; resources = slots })
+offered-is jobs i slots job shown named same = ap (λ (n : List ℕ). as-offered n shown) named ∙ ap (as-offered (name_at jobs i)) same

@@ -1,5 +1,6 @@
 -- The turns of a spin, and the spins of a cycle, as they run.
 use Rattle.std.proofs.Common.{◌≡◌, ◌≤◌, ◌<◌, ◌+◌, ◌^◌, ℕ, zero, suc, Bool, true, false, not, cond, if◌then◌else◌, List, [], ◌∷◌, ◌++◌, All, filter, length, map, drop, get_or, slice_get, flat_map, sum, refl, ap, sym, ◌∙◌, subst, arith, append_assoc}
+use Rattle.std.specs.Prelude.{OnErr, Result, Ok, Err}
 use Rattle.std.specs.Option.{option_map_or}
 use Rattle.std.proofs.lemmas.List.{append-nil, drop_all, drop_more, length-map, map-append}
 use Rattle.std.proofs.lemmas.List.Elements.{filter-append}
@@ -22,6 +23,14 @@ use Rattle.negotiator.proofs.CycleLemmas.{cycle-step, offers-append, offers-kept
 use Rattle.negotiator.proofs.ShiftLemmas.{offers-ahead, shift-count, shift-own, shift-places, shift-queues, shift-spin, shift-turn}
 use Rattle.negotiator.proofs.TurnLoopLemmas.{named-later}
 use Rattle.pie_slices.specs.Slices.{slice_of, slices_of, weight_of}
+
+pub on_err : {A E P : Type 0} (r : Result A E) → P → OnErr r P
+on_err (Ok x) p = tt
+on_err (Err e) p = p
+
+-- nothing is made yet
+pub part-none : (all : List (Offer ℕ)) (jobs : List Job) → IsPart all jobs jobs
+part-none all jobs = record { front = []; rest = all; all = refl; made = refl }
 
 -- a part of what comes behind a front
 pub part-behind : (front offers rest all : List (Offer ℕ)) (jobs middle later : List Job) → all ≡ front ++ (offers ++ rest) → middle ≡ with_offers front jobs → IsPart offers middle later → IsPart all jobs later
@@ -52,17 +61,6 @@ turns-later jobs made (t ∷ ts) =
 
 pub spin-later : (jobs : List Job) (made : List (Offer ℕ)) (s : PlainSpin ℕ) → spin_named (with_offers made jobs) s ≡ spin_named jobs s
 spin-later jobs made s = ap (λ ts. let u : Spin = record { free = s.free; turns = ts } in u) (turns-later jobs made s.turns)
-
--- the user of a queue by its number
-read-user : (queues : List Queue) (j : ℕ) (queue : Queue) → j < length queues → get_or queues j queue ≡ queue → option_map_or (λ (q : Queue). q.user) (slice_get queues j) [] ≡ queue.user
-read-user [] j queue within is = absurd (omega (arith, within))
-read-user (q ∷ qs) zero queue within is = ap (λ (q : Queue). q.user) is
-read-user (q ∷ qs) (suc j) queue within is = read-user qs j queue (omega (arith, within)) is
-
-pub user-here : (queues : List Queue) (active : List ℕ) (k j : ℕ) (queue : Queue) → k < length active → get_or active k 0 ≡ j → j < length queues → get_or queues j queue ≡ queue → get_or (users_at queues active) k [] ≡ queue.user
-user-here queues [] k j queue within here inside is = absurd (omega (arith, within))
-user-here queues (a ∷ as) zero j queue within here inside is = ap (λ a. option_map_or (λ (q : Queue). q.user) (slice_get queues a) []) here ∙ read-user queues j queue inside is
-user-here queues (a ∷ as) (suc k) j queue within here inside is = user-here queues as k j queue (omega (arith, within)) here inside is
 
 module _ (scene : Scene) (began : List Job) where
   abbrev m : Market ℕ

@@ -1,5 +1,5 @@
 -- A user's turn, job by job, as it runs.
-use Rattle.std.proofs.Common.{◌≡◌, ◌≤◌, ◌<◌, ◌+◌, ◌-◌, ◌==◌, ℕ, zero, suc, Bool, true, false, not, ◌&&◌, nat_lt, List, [], ◌∷◌, ◌++◌, All, filter, length, map, drop, get_or, slice_get, bytes_eq, cond, unwrap_or, Option, None, Some, refl, ap, sym, ◌∙◌, subst, arith, append_assoc}
+use Rattle.std.proofs.Common.{◌≡◌, ◌≤◌, ◌<◌, ◌+◌, ◌-◌, ◌==◌, ℕ, zero, suc, Bool, true, false, not, ◌&&◌, nat_lt, List, [], ◌∷◌, ◌++◌, All, filter, length, map, drop, get_or, slice_get, bytes_eq, cond, unwrap_or, Option, None, Some, refl, ap, sym, ◌∙◌, subst, arith, ◌⊎◌, inl, inr, append_assoc}
 use Rattle.std.specs.Prelude.{option_map}
 use Rattle.std.specs.Option.{option_map_or}
 use Rattle.std.proofs.lemmas.Bool.Decides.{nat_tests}
@@ -14,6 +14,7 @@ use Rattle.negotiator.specs.Cycle.{Market, Offer, is_of, is_waiting, places, tur
 use Rattle.negotiator.specs.Markets.{IsPart, found, name_at, offer_named, waiting_of, with_offers}
 use Rattle.negotiator.specs.Scenes.{IsReady, market_in, stock_in}
 use Rattle.negotiator.specs.Settings.{settings_of}
+use Rattle.negotiator.proofs.BudgetLemmas.{paid-on}
 use Rattle.negotiator.proofs.CycleLemmas.{offer, turn-ends, turn-fails, turn-finds, turn-own, turn-skips, within-from}
 use Rattle.negotiator.proofs.ShiftLemmas.{idle-all, kept-all, offers-ahead, waiting-is, wants-is}
 use Rattle.negotiator.proofs.JobLemmas.{get-map}
@@ -57,6 +58,10 @@ in-slice given left wants n is fits = ap (λ b. given && b) (by (omega (arith, i
     none : (b : Bool) → b && false ≡ false
     none true = refl
     none false = refl
+
+pub in-slice-either : (given : Bool) (left wants n : ℕ) → wants ≡ n → (given ≡ false) ⊎ ((given ≡ true) × (wants ≤ left)) → (given && nat_lt left n) ≡ false
+in-slice-either given left wants n is (inl no) = ap (λ b. b && nat_lt left n) no
+in-slice-either given left wants n is (inr fits) = in-slice given left wants n is fits.1
 
 module _ (scene : Scene) (began : List Job) where
   abbrev m : Market ℕ
@@ -182,6 +187,34 @@ module _ (scene : Scene) (began : List Job) where
               ready = ready;
               paid = paid;
             }
+
+          -- what the try of the job answers
+          module _ (o : Option Offered) (told : o ≡ option_map (λ slots. offer_named jobs (offer i slots)) (found scene.moment (stock_in scene) jobs i)) (later : List Job)
+              (table_is : later ≡ option_map_or (λ slots. with_standing jobs i (Standing.Matched slots)) (found scene.moment (stock_in scene) jobs i) jobs) where
+            table-of : (f : Option (List ℕ)) → found scene.moment (stock_in scene) jobs i ≡ f → later ≡ option_map_or (λ slots. with_standing jobs i (Standing.Matched slots)) f jobs
+            table-of f is = table_is ∙ ap (λ f. option_map_or (λ slots. with_standing jobs i (Standing.Matched slots)) f jobs) is
+
+            pub tried-none : o ≡ None → (later_failed : List Bool) (after : Counts) → IsReady scene later later_failed → ArePaid scene.moment (stock_in scene) jobs later failed later_failed now after
+                → TurnLoop user is slice marks before (k + 1) left given offers later later_failed after
+            tried-none no later_failed after ready paid =
+                let none = none-from jobs i (found scene.moment (stock_in scene) jobs i) (sym told ∙ no) in
+                turn-none later_failed later after none (table-of None none) ready (paid-on scene.moment (stock_in scene) began jobs later marks failed later_failed before now after loop.paid paid)
+
+            module _ (answer : Offered) (yes : o ≡ Some answer) where
+              is_it : (found scene.moment (stock_in scene) jobs i ≡ Some answer.slots) × (answer ≡ offer_named jobs (offer i answer.slots))
+              is_it = found-from jobs i (found scene.moment (stock_in scene) jobs i) answer (sym told ∙ yes)
+
+              -- want of memory behind the offer
+              pub tried-stopped : IsPart (turn m user is slice false []) began later
+              tried-stopped = stopped-behind answer.slots is_it.0 later (table-of (Some answer.slots) is_it.0)
+
+              pub tried-some : (wants : ℕ) → wants ≡ wants_of m i → (later_offers : List Offered) → later_offers ≡ offers ++ answer ∷ [] → (later_left : ℕ) → later_left ≡ left - wants
+                  → (later_failed : List Bool) (after : Counts) → IsReady scene later later_failed → ArePaid scene.moment (stock_in scene) jobs later failed later_failed now after
+                  → TurnLoop user is slice marks before (k + 1) later_left true later_offers later later_failed after
+              tried-some wants wants_is later_offers pushed later_left less later_failed after ready paid =
+                  subst (λ (n : ℕ). TurnLoop user is slice marks before (k + 1) n true later_offers later later_failed after) (sym less)
+                  (turn-some answer.slots is_it.0 wants wants_is answer is_it.1 later_offers pushed later_failed later after (table-of (Some answer.slots) is_it.0) ready
+                    (paid-on scene.moment (stock_in scene) began jobs later marks failed later_failed before now after loop.paid paid))
 
   -- over the user's own places
   pub own-turn : (user : List ℕ) (is : List ℕ) (slice : ℕ) → is ≡ filter (is_of m user) (places m.jobs) → turn m user is slice false [] ≡ turn m user (places m.jobs) slice false []

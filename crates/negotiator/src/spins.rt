@@ -9,7 +9,7 @@ ghost use Rattle.claim_table.specs.Table.{jobs_of};
 ghost use Rattle.literal_index.specs.Shown.{IsIndex};
 ghost use Rattle.negotiator.specs.Budget.{ArePaid, AreWithin, counts, entries_for, left_for, open_for, over_idle};
 ghost use Rattle.negotiator.specs.Cycle.{cycle_from, cycle_of, is_of, offers_in, offers_of, places, spin, users_of, waits};
-ghost use Rattle.negotiator.specs.Markets.{IsPart, free_among, market_of, spin_named, with_offers};
+ghost use Rattle.negotiator.specs.Markets.{IsPart, free_among, is_free, market_of, spin_named, with_offers};
 ghost use Rattle.negotiator.specs.Priorities.{priority_of};
 ghost use Rattle.negotiator.specs.Queues.{AreQueues};
 ghost use Rattle.negotiator.specs.Scenes.{IsReady, market_in, stock_in, users_at};
@@ -159,12 +159,21 @@ fn free_count(store: &Store, claims: &ClaimTable) -> u64
 {
     let mut free = 0;
     for i in 0..store.len() {
-        let slot = store.at(i);
-        if claims.offered_to(slot).is_none() && claims.claimed_by(slot).is_none() {
+        if is_free_slot(claims, store.at(i)) {
             free += 1;
         }
     }
     free
+}
+
+// Whether a slot is neither offered nor claimed.
+fn is_free_slot(claims: &ClaimTable, slot: usize) -> bool
+    ensures { result ≡ is_free (jobs_of claims.now) slot }
+{
+    if claims.offered_to(slot).is_some() {
+        return false;
+    }
+    claims.claimed_by(slot).is_none()
 }
 
 // The numbers of the queues whose users have an idle job.

@@ -1,6 +1,0 @@
-pub mod Answers
-pub mod Candidates
-pub mod Counts
-pub mod Docks
-pub mod Rows
-pub mod Scan

@@ -1,0 +1,2 @@
+pub mod Gangs
+pub mod Ports

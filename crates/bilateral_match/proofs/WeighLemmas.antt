@@ -1,0 +1,54 @@
+-- What one dock is worth, and what it takes.
+use Rattle.std.proofs.Common.{◌≡◌, ◌*◌, ℕ, ℤ, Bool, true, false, not, List, [], ◌∷◌, Option, None, Some, option_map, if◌then◌else◌, ap, sym, ◌∙◌}
+use Rattle.std.specs.Option.{option_and_then, option_map_or}
+use Rattle.ad_tree.specs.declared.request.Port.{Port}
+use Rattle.ad_tree.specs.Frames.{Frame}
+use Rattle.ad_store.specs.Stock.{Advert}
+use Rattle.eval_scope.specs.World.{PlainWorld, attribute_count, request_side, with_docked}
+use Rattle.ad_eval.specs.Dock.{is_docked, rank_by}
+use Rattle.conjunct_plan.specs.Decided.{is_dock_decided}
+use Rattle.bilateral_match.specs.declared.hit.Match.{Match}
+use Rattle.bilateral_match.specs.Answers.{match_with}
+use Rattle.bilateral_match.specs.Counts.{attributes_most, evaluations_most}
+use Rattle.bilateral_match.specs.Docks.{pair_world, rank_of_dock, ranked}
+use Rattle.bilateral_match.proofs.ScanLemmas.{decided-docks}
+
+module _ (moment : ℕ) (request ad : List Frame) where
+  -- the world of the code, whose request has no ports
+  pub world-is : (ports : List Port) (w v : PlainWorld) → w ≡ record { moment = moment; request = request; ports = ports; docked = [] } → v ≡ with_docked w ad → ports ≡ [] → v ≡ pair_world moment request ad
+  world-is ports w v new docked single =
+      docked
+      ∙ ap (λ (u : PlainWorld). with_docked u ad) new
+      ∙ ap (λ (ps : List Port). record { moment = moment; request = request; ports = ps; docked = ad ∷ [] }) single
+
+  pub ranked-decided : is_dock_decided request 0 [] ad ≡ true → ranked moment request ad ≡ None
+  ranked-decided decided = ap (λ (b : Bool). if b then Some (rank_of_dock moment request ad) else None) (decided-docks moment request ad (ap not decided))
+
+  pub ranked-undocked : (w : PlainWorld) → w ≡ pair_world moment request ad → is_docked w ≡ false → ranked moment request ad ≡ None
+  ranked-undocked w same undocked = ap (λ (b : Bool). if b then Some (rank_of_dock moment request ad) else None) (ap is_docked (sym same) ∙ undocked)
+
+  pub ranked-docked : (w : PlainWorld) (n : ℤ) → w ≡ pair_world moment request ad → is_docked w ≡ true → n ≡ rank_by w (request_side w) → Some n ≡ ranked moment request ad
+  ranked-docked w n same docked rank =
+      ap Some (rank ∙ ap (λ (u : PlainWorld). rank_by u (request_side u)) same)
+      ∙ sym (ap (λ (b : Bool). if b then Some (rank_of_dock moment request ad) else None) (ap is_docked (sym same) ∙ docked))
+
+  pub three-evaluations : is_dock_decided request 0 [] ad ≡ false → evaluations_most request ad ≡ 3
+  three-evaluations undecided = ap (λ (b : Bool). if not b then 3 else 0) undecided
+
+  pub three-worlds : (w : PlainWorld) → w ≡ pair_world moment request ad → is_dock_decided request 0 [] ad ≡ false → attributes_most moment request ad ≡ 3 * attribute_count w
+  three-worlds w same undecided =
+      ap (λ n. n * attribute_count (pair_world moment request ad)) (three-evaluations undecided)
+      ∙ ap (λ (u : PlainWorld). 3 * attribute_count u) (sym same)
+
+-- ---- at a place
+
+module _ (fs : List Frame) where
+  pub match-there : (moment : ℕ) (request : List Frame) (place : ℕ) (o : Option Advert) → option_map (λ a. a.ad) o ≡ Some fs
+      → option_and_then (match_with moment request place) o ≡ option_map (λ rank. record { place = place; rank = rank }) (ranked moment request fs)
+  match-there moment request place None is = absurd (cc)
+  match-there moment request place (Some a) is =
+      let same : a.ad ≡ fs = cc in ap (λ (ad : List Frame). option_map {U = Match} (λ rank. record { place = place; rank = rank }) (ranked moment request ad)) same
+
+  pub number-there : (f : List Frame → ℕ) (o : Option Advert) → option_map (λ a. a.ad) o ≡ Some fs → option_map_or (λ (a : Advert). f a.ad) o 0 ≡ f fs
+  number-there f None is = absurd (cc)
+  number-there f (Some a) is = let same : a.ad ≡ fs = cc in ap f same

@@ -1,0 +1,40 @@
+-- The ads at places, as a query goes through them.
+use Rattle.std.specs.Prelude.{ℕ, List, Option, None, Some, slice_get, if◌then◌else◌}
+use Rattle.std.specs.Option.{option_and_then, option_map_or}
+use Rattle.ad_tree.specs.Frames.{Frame}
+use Rattle.ad_store.specs.Stock.{Advert}
+use Rattle.bilateral_match.specs.declared.hit.Match.{Match}
+use Rattle.bilateral_match.specs.Answers.{match_with}
+use Rattle.bilateral_match.specs.declared.member.Member.{Member}
+use Rattle.bilateral_match.specs.declared.member.Ranks.{Ranks}
+use Rattle.bilateral_match.specs.Counts.{attributes_most, attributes_weighed, evaluations_most, is_open}
+use Rattle.bilateral_match.specs.Docks.{docks, rank_of_dock}
+use Rattle.bilateral_match.specs.Members.{member_with, regard}
+use Rattle.bilateral_match.specs.Pool.{Pool}
+
+-- the match with the ad at a place
+abbrev pub match_at : ℕ → List Frame → List Advert → ℕ → Option Match
+match_at moment request ads place = option_and_then (match_with moment request place) (slice_get ads place)
+
+-- how many evaluations the ad at a place may take, and how many attributes may be entered in them
+abbrev pub evaluations_at : List Frame → List Advert → ℕ → ℕ
+evaluations_at request ads place = option_map_or (λ advert. evaluations_most request advert.ad) (slice_get ads place) 0
+
+abbrev pub attributes_at : ℕ → List Frame → List Advert → ℕ → ℕ
+attributes_at moment request ads place = option_map_or (λ advert. attributes_most moment request advert.ad) (slice_get ads place) 0
+
+-- ---- the resources at places, as the best is sought among them
+
+-- what the sides rank each other where they dock
+abbrev pub ranks_of_dock : ℕ → List Frame → List Frame → Option Ranks
+ranks_of_dock moment request ad = if docks moment request ad then Some (record { rank = rank_of_dock moment request ad; regard = regard moment request ad }) else None
+
+abbrev pub member_at : Pool → List Frame → ℕ → Option Member
+member_at pool request place = option_and_then (member_with pool request place) (slice_get pool.ads place)
+
+-- how many evaluations the resource at a place may take, and how many attributes may be entered in them
+abbrev pub evaluations_for : Pool → List Frame → ℕ → ℕ
+evaluations_for pool request place = option_map_or (λ advert. if is_open pool request place advert then 5 else 0) (slice_get pool.ads place) 0
+
+abbrev pub attributes_for : Pool → List Frame → ℕ → ℕ
+attributes_for pool request place = option_map_or (λ advert. if is_open pool request place advert then attributes_weighed pool request place advert else 0) (slice_get pool.ads place) 0

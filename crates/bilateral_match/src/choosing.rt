@@ -1,0 +1,61 @@
+// The best resource for a job.
+ghost use Rattle.std.specs.Prelude.{◌≡◌, ◌≤◌, ◌<◌, ◌+◌, ◌*◌, [], false, length, slice_index, sum_by, All, Contains, IfOk, IfSome, option_map};
+ghost use Rattle.std.specs.List.{filter_map};
+ghost use Rattle.ad_tree.specs.Ad.{ad_frames};
+ghost use Rattle.ad_store.specs.Store.{stock_of};
+ghost use Rattle.conjunct_plan.specs.Tests.{tests_of};
+ghost use Rattle.literal_index.specs.Shown.{IsIndex};
+ghost use Rattle.bilateral_match.specs.Counts.{entered_for, least_left, open_count};
+ghost use Rattle.bilateral_match.specs.Members.{IsBest, best_slot};
+ghost use Rattle.bilateral_match.specs.Members as members;
+ghost use Rattle.bilateral_match.specs.Pool.{AreStored, pool_of};
+ghost use Rattle.bilateral_match.specs.Rows.{rows_of};
+ghost use Rattle.bilateral_match.specs.Scan as scan;
+
+use ad_store::{Holdings, Store};
+use ad_tree::Request;
+use literal_index::Index;
+use pool_steps::Steps;
+use pool_text::OutOfMemory;
+use std::alloc::Global;
+use std::sync::ledger::Ledger;
+
+/// The slot of the best resource for a job without ports, `None` exactly where it may be given none. It may be given a
+/// live resource that isn't offered, whose dock with it is true, and that is unclaimed or ranks its holder strictly lower
+/// than the job, in the dock by which it is held. Best is what the job ranks highest; of these an unclaimed resource comes
+/// before a claimed one, then one that ranks the job higher, then the one that stands first in the store (the ranks of both
+/// sides are those of Raman, Livny and Solomon 1998; the order is this pool's own). The index is that of the ads of the
+/// store, and what `held` tells of is in the store.
+///
+/// Of the tests of the request the one that leaves the fewest ads says which ads are looked at; without one all are. For
+/// each it counts at most nine in `touch`: the ad, and up to eight to rank its holder. In `tops` and `entry` it counts what
+/// evaluations count: five at most for a resource that isn't offered and whose dock no test of either side decides, and
+/// none for any other.
+pub fn best<H: Holdings, F: Ledger, E: Ledger, T: Ledger>(
+    alloc: Global,
+    store: &Store,
+    index: &Index,
+    held: &H,
+    request: &Request,
+    moment: u64,
+    tops: &mut Steps<F>,
+    entry: &mut Steps<E>,
+    touch: &mut Steps<T>,
+) -> Result<Option<usize>, OutOfMemory>
+    requires index { IsIndex index.now (rows_of (stock_of store.now)) }
+    requires stored { AreStored (stock_of store.now) (H.holding held.now) }
+    requires single { request.now.ports ≡ [] }
+    ensures best { IfOk result (λ slot. slot
+        ≡ best_slot (stock_of store.now) (pool_of moment (stock_of store.now) (H.is_offered held.now) (H.holding held.now)) (ad_frames request.now.ad)) }
+    ensures held { IfOk result (λ slot. IfSome slot (Contains (stock_of store.now).slots)) }
+    ensures free { IfOk result (λ slot. IfSome slot (λ s. H.is_offered held.now s ≡ false)) }
+    ensures evaluations { tops.new ≤ tops.old
+        + 5 * open_count (pool_of moment (stock_of store.now) (H.is_offered held.now) (H.holding held.now)) (ad_frames request.now.ad) }
+    ensures entries { entry.new ≤ entry.old
+        + entered_for (pool_of moment (stock_of store.now) (H.is_offered held.now) (H.holding held.now)) (ad_frames request.now.ad) }
+    ensures looks { touch.new ≤ touch.old
+        + 9 * least_left (stock_of store.now).ads (tests_of (ad_frames request.now.ad) 0 []) }
+{
+    // STUB until the proof of `best` is merged: want of memory is free.
+    Err(OutOfMemory)
+}

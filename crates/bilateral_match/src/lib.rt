@@ -1,0 +1,20 @@
+//! What a request and single ads make of each other: the ads that a query finds, and the best resource for a job.
+#![tactic(auto)]
+
+mod candidates;
+mod choosing;
+mod hit;
+mod laws;
+mod member;
+mod querying;
+mod weighing;
+
+pub use choosing::best;
+pub use hit::{Hit, Hits, Match};
+pub use laws::{
+    a_conjunct_has_the_value_of_its_test, a_conjunction_is_true_only_where_its_conjuncts_are,
+    a_decided_dock_is_never_true, answers_are_all_matches_in_order,
+    more_offers_leave_no_more_members, no_other_member_comes_before_the_best,
+};
+pub use member::Member;
+pub use querying::query;

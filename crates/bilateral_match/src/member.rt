@@ -1,0 +1,38 @@
+// The members for a job, and their order.
+ghost use Rattle.std.specs.Prelude.{◌≡◌};
+
+use std::cmp::Ordering;
+
+/// What the sides of a dock rank each other: the request the resource, and the resource the request.
+#[derive(Clone, Copy, Debug)]
+pub struct Ranks {
+    pub rank: i64,
+    pub regard: i64,
+}
+
+/// A resource that a job may be given: the rank that the job gives it, whether it is claimed, the rank that it gives the
+/// job, and its place in the order of the store, counted from 0.
+#[derive(Clone, Copy, Debug)]
+pub struct Member {
+    pub rank: i64,
+    pub claimed: bool,
+    pub regard: i64,
+    pub place: usize,
+}
+
+impl Member {
+    ghost use Rattle.bilateral_match.specs.Members.{member_order};
+
+    // By the job's rank falling, then unclaimed before claimed, then by the resource's rank of the job falling, then by
+    // place.
+    pub(crate) fn compare(&self, other: &Member) -> Ordering
+        ensures { result ≡ member_order self.now other.now }
+    {
+        other
+            .rank
+            .cmp(&self.rank)
+            .then(self.claimed.cmp(&other.claimed))
+            .then(other.regard.cmp(&self.regard))
+            .then(self.place.cmp(&other.place))
+    }
+}

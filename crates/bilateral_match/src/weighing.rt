@@ -1,0 +1,117 @@
+// What a query makes of single ads.
+ghost use Rattle.std.specs.Prelude.{◌≡◌, ◌≤◌, ◌<◌, ◌+◌, ◌*◌, [], length, slice_get, sum_by, All, IfOk, OnOk, ◌++◌};
+ghost use Rattle.std.specs.List.{cons_option, filter_map};
+ghost use Rattle.ad_tree.specs.Ad.{ad_frames};
+ghost use Rattle.ad_store.specs.Store.{stock_of};
+ghost use Rattle.conjunct_plan.specs.Decided.{is_dock_decided};
+ghost use Rattle.bilateral_match.specs.Counts.{attributes_most, evaluations_most};
+ghost use Rattle.bilateral_match.specs.Docks as docks;
+ghost use Rattle.bilateral_match.specs.Scan.{attributes_at, evaluations_at, match_at};
+
+use crate::hit::Match;
+use ad_eval::{dock, rank};
+use ad_store::Store;
+use ad_tree::{Ad, Ports, Request};
+use conjunct_plan::rules_out;
+use eval_scope::World;
+use pool_steps::Steps;
+use pool_text::{OutOfMemory, Slots};
+use std::alloc::Global;
+use std::convert::AsSlice;
+use std::sync::ledger::Ledger;
+
+/// The rank that the request gives the ad, where their dock is true. Nothing is evaluated where a test of either side is
+/// decided against, since then it isn't.
+fn ranked<F: Ledger, E: Ledger>(
+    alloc: Global,
+    request: &Request,
+    ad: &Ad,
+    moment: u64,
+    tops: &mut Steps<F>,
+    entry: &mut Steps<E>,
+) -> Result<Option<i64>, OutOfMemory>
+    requires { request.now.ports ≡ [] }
+    ensures rank { IfOk result (λ rank. rank ≡ docks.ranked moment (ad_frames request.now.ad) (ad_frames ad.now)) }
+    ensures evaluations { tops.new ≤ tops.old + evaluations_most (ad_frames request.now.ad) (ad_frames ad.now) }
+    ensures entries { entry.new ≤ entry.old + attributes_most moment (ad_frames request.now.ad) (ad_frames ad.now) }
+{
+    if is_decided(alloc, request, ad) {
+        return Ok(None);
+    }
+    let world = World::new(moment, &request.ad, &request.ports).with(ad);
+    if !dock(alloc, &world, tops, entry)? {
+        return Ok(None);
+    }
+    Ok(Some(rank(alloc, &world, world.request_place(), tops, entry)?))
+}
+
+// Whether a test of either side is decided against by the other.
+fn is_decided(alloc: Global, request: &Request, ad: &Ad) -> bool
+    requires { request.now.ports ≡ [] }
+    ensures { result ≡ is_dock_decided (ad_frames request.now.ad) 0 [] (ad_frames ad.now) }
+{
+    let no_ports = Ports::new(alloc);
+    rules_out(&request.ad, 0, &request.ports, ad, 0) || rules_out(ad, 0, &no_ports, &request.ad, 0)
+}
+
+// The match with the ad at a place, if it docks. It counts one in `touch`.
+fn weigh<F: Ledger, E: Ledger, T: Ledger>(
+    alloc: Global,
+    store: &Store,
+    request: &Request,
+    moment: u64,
+    place: usize,
+    tops: &mut Steps<F>,
+    entry: &mut Steps<E>,
+    touch: &mut Steps<T>,
+) -> Result<Option<Match>, OutOfMemory>
+    requires single { request.now.ports ≡ [] }
+    requires held { place < length (stock_of store.now).slots }
+    ensures found { IfOk result (λ found. found ≡ match_at moment (ad_frames request.now.ad) (stock_of store.now).ads place) }
+    ensures evaluations { tops.new ≤ tops.old + evaluations_at (ad_frames request.now.ad) (stock_of store.now).ads place }
+    ensures entries { entry.new ≤ entry.old + attributes_at moment (ad_frames request.now.ad) (stock_of store.now).ads place }
+    ensures looks { touch.new ≡ touch.old + 1 }
+{
+    let ad = store.look(store.at(place), touch);
+    let Some(rank) = ranked(alloc, request, ad, moment, tops, entry)? else {
+        return Ok(None);
+    };
+    Ok(Some(Match { place, rank }))
+}
+
+/// The matches with the ads at places, one after another.
+pub fn matches_at<F: Ledger, E: Ledger, T: Ledger>(
+    alloc: Global,
+    store: &Store,
+    request: &Request,
+    moment: u64,
+    places: &Slots,
+    tops: &mut Steps<F>,
+    entry: &mut Steps<E>,
+    touch: &mut Steps<T>,
+) -> Result<Vec<Match>, OutOfMemory>
+    requires single { request.now.ports ≡ [] }
+    requires held { All (λ place. place < length (stock_of store.now).slots) places.now }
+    ensures found { IfOk result (λ found. found.items
+        ≡ filter_map (match_at moment (ad_frames request.now.ad) (stock_of store.now).ads) places.now) }
+    ensures evaluations { tops.new ≤ tops.old + sum_by (evaluations_at (ad_frames request.now.ad) (stock_of store.now).ads) places.now }
+    ensures entries { entry.new ≤ entry.old + sum_by (attributes_at moment (ad_frames request.now.ad) (stock_of store.now).ads) places.now }
+    ensures looks { touch.new ≤ touch.old + length places.now }
+{
+    let mut found = Vec::new(alloc);
+    for place in places.as_slice() {
+        let weighed = weigh(alloc, store, request, moment, *place, tops, entry, touch)?;
+        keep(&mut found, weighed)?;
+    }
+    Ok(found)
+}
+
+// Adds a match, if there is one.
+fn keep(found: &mut Vec<Match>, next: Option<Match>) -> Result<(), OutOfMemory>
+    ensures { OnOk result (found.new.items ≡ found.old.items ++ cons_option next []) }
+{
+    if let Some(next) = next {
+        found.push(next)?;
+    }
+    Ok(())
+}

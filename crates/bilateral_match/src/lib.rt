@@ -9,6 +9,7 @@ mod member;
 mod querying;
 mod weighing;
 
+pub use candidates::candidates_at;
 pub use choosing::best;
 pub use hit::{Hit, Hits, Match};
 pub use laws::{

@@ -1,23 +1,18 @@
--- Gangs: which resources the ports of a request are given.
-use Rattle.std.specs.Prelude.{◌≡◌, ◌⊎◌, ℕ, zero, suc, ℤ, Bool, ◌&&◌, not, false, List, [], ◌∷◌, ◌++◌, filter, length, map, slice_get, Option, None, Some, is_some, All, Contains, if◌then◌else◌}
-use Rattle.std.specs.List.{flat_map, list_any, range_with_len}
+-- Gangs: which resources of a pool the ports of a request are given.
+use Rattle.std.specs.Prelude.{ℕ, suc, ◌+◌, ◌*◌, Bool, ◌&&◌, not, false, List, [], ◌∷◌, ◌++◌, filter, length, map, slice_get, sum_by, Option, is_some}
+use Rattle.std.specs.List.{range_with_len}
 use Rattle.std.specs.Option.{option_map_or}
-use Rattle.std.specs.Ordering.{int_cmp, is_lt, nat_cmp, ordering_then}
-use Rattle.std.specs.declared.cmp.Ordering.{Ordering}
 use Rattle.ad_tree.specs.Frames.{Frame}
 use Rattle.ad_tree.specs.declared.request.Port.{Port}
 use Rattle.ad_store.specs.Stock.{is_live}
 use Rattle.ad_eval.specs.Dock.{is_docked, rank_by}
+use Rattle.conjunct_plan.specs.Decided.{is_dock_decided}
+use Rattle.conjunct_plan.specs.Tests.{labels_of}
 use Rattle.bilateral_match.specs.Pool.{Pool}
-use Rattle.eval_scope.specs.World.{PlainWorld, request_side}
+use Rattle.eval_scope.specs.World.{PlainWorld, attribute_count, port_frame, request_side}
+use Rattle.gang_ports.specs.Choice.{Choice, first_of, is_among, over_prefixes, tuples}
 
--- ---- what is chosen from
-
--- the places of the resources that may be taken, in order; whether the next port docks with a resource, and how it ranks it, once resources are docked to the ports before it
-pub record Choice : Type 0 where
-  pub free : List ℕ
-  pub dock : List ℕ → ℕ → Bool
-  pub rank : List ℕ → ℕ → ℤ
+-- ---- the choice
 
 -- the frames of the ad at a place
 abbrev pub ad_at : Pool → ℕ → List Frame
@@ -31,57 +26,43 @@ gang_world pool request ports places = record { moment = pool.moment; request = 
 abbrev pub is_free : Pool → ℕ → Bool
 is_free pool place = option_map_or (is_live pool.moment) (slice_get pool.ads place) false && (not (pool.is_offered place) && not (is_some (pool.held_in place)))
 
+unfoldable pub free_places : Pool → List ℕ
+free_places pool = filter (is_free pool) (range_with_len 0 (length pool.ads))
+
 -- the choice of a gang in a pool
 abbrev pub choice_of : Pool → List Frame → List Port → Choice
 choice_of pool request ports = record {
-  free = filter (is_free pool) (range_with_len 0 (length pool.ads));
+  free = free_places pool;
   dock = λ before place. is_docked (gang_world pool request ports (before ++ place ∷ []));
   rank = λ before place. let world = gang_world pool request ports (before ++ place ∷ []) in rank_by world (request_side world);
 }
 
--- ---- valid tuples
-
--- the resource isn't docked yet, and its dock is true
-abbrev pub fits : Choice → List ℕ → ℕ → Bool
-fits choice before place = not (list_any (λ other. other == place) before) && choice.dock before place
-
--- the resources that the next port may be given
-abbrev pub next : Choice → List ℕ → List ℕ
-next choice before = filter (fits choice before) choice.free
-
--- the tuples for n more ports
-abbrev pub tuples : Choice → ℕ → List ℕ → List (List ℕ)
-tuples choice zero before = [] ∷ []
-tuples choice (suc n) before = flat_map (λ place. map (λ tuple. place ∷ tuple) (tuples choice n (before ++ place ∷ []))) (next choice before)
-
--- ---- their order
-
--- by the greater rank at the first port where they differ, and there at equal rank by place
-abbrev pub tuple_order : Choice → List ℕ → List ℕ → List ℕ → Ordering
-tuple_order choice before [] [] = Ordering.Equal
-tuple_order choice before [] (b ∷ bs) = Ordering.Less
-tuple_order choice before (a ∷ as) [] = Ordering.Greater
-tuple_order choice before (a ∷ as) (b ∷ bs) = ordering_then (ordering_then (int_cmp (choice.rank before b) (choice.rank before a)) (nat_cmp a b)) (tuple_order choice (before ++ a ∷ []) as bs)
-
--- one of these, before which no other comes
-pub record IsFirst (choice : Choice) (ts : List (List ℕ)) (t : List ℕ) : Type 0 where
-  pub among : Contains ts t
-  pub none_before : All (λ other. is_lt (tuple_order choice [] other t) ≡ false) ts
-
--- the first of these, or none where there are none
-abbrev pub IsGang : Choice → List (List ℕ) → Option (List ℕ) → Type 0
-IsGang choice ts None = ts ≡ []
-IsGang choice ts (Some t) = IsFirst choice ts t
-
--- the one that is so
-abbrev pub earlier : Choice → List ℕ → Option (List ℕ) → Option (List ℕ)
-earlier choice a None = Some a
-earlier choice a (Some b) = if is_lt (tuple_order choice [] b a) then Some b else Some a
-
-abbrev pub first_of : Choice → List (List ℕ) → Option (List ℕ)
-first_of choice [] = None
-first_of choice (t ∷ ts) = earlier choice t (first_of choice ts)
-
 -- the gang for the ports of a request in a pool: the valid tuple before all others
 abbrev pub gang : Pool → List Frame → List Port → Option (List ℕ)
 gang pool request ports = first_of (choice_of pool request ports) (tuples (choice_of pool request ports) (length ports) [])
+
+-- ---- what a search may take
+
+-- no test decides the dock of port i with the resource at a place
+abbrev pub is_open : Pool → List Frame → List Port → ℕ → ℕ → Bool
+is_open pool request ports i place = not (is_dock_decided request (port_frame ports (suc i)) (labels_of ports) (ad_at pool place))
+
+-- the resources that may be taken and with which the dock of port i is undecided
+unfoldable pub open_places : Pool → List Frame → List Port → ℕ → List ℕ
+open_places pool request ports i = filter (is_open pool request ports i) (free_places pool)
+
+-- those of them that aren't docked, once resources are docked to the ports before it
+unfoldable pub open_docks : Pool → List Frame → List Port → List ℕ → List ℕ
+open_docks pool request ports before = filter (λ place. not (is_among before place)) (open_places pool request ports (length before))
+
+-- how many docks are undecided, over all valid prefixes
+abbrev pub docks_open : Pool → List Frame → List Port → ℕ
+docks_open pool request ports = over_prefixes (choice_of pool request ports) (λ before. length (open_docks pool request ports before)) (length ports) []
+
+-- how many attributes may be entered to weigh these docks, in three evaluations each
+abbrev pub attributes_behind : Pool → List Frame → List Port → List ℕ → ℕ
+attributes_behind pool request ports before =
+    sum_by (λ place. 3 * attribute_count (gang_world pool request ports (before ++ place ∷ []))) (open_docks pool request ports before)
+
+abbrev pub attributes_open : Pool → List Frame → List Port → ℕ
+attributes_open pool request ports = over_prefixes (choice_of pool request ports) (attributes_behind pool request ports) (length ports) []

@@ -10,9 +10,14 @@ use Rattle.ad_tree.specs.Names.{are_apart}
 use Rattle.ad_tree.specs.Requests.{port_limit}
 use Rattle.ad_tree.specs.Tree.{Tree, Trees, frame, list, literal, more, name, node, none}
 
+-- bytes, where there are some
+abbrev pub some_bytes : List ℕ → Option (List ℕ)
+some_bytes [] = None
+some_bytes (b ∷ bytes) = Some (b ∷ bytes)
+
 -- the label that an expression spells: a string of some bytes, or a bare name
 abbrev pub label_of : Tree → Option (List ℕ)
-label_of (node (literal (Lit.Str (b ∷ bytes))) ts) = Some (b ∷ bytes)
+label_of (node (literal (Lit.Str bytes)) ts) = some_bytes bytes
 label_of (node (name Scope.Bare n) ts) = Some n
 label_of t = None
 

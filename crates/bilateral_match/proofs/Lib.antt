@@ -1,5 +1,5 @@
 mod ConjunctLemmas
-mod DecidedLemmas
+pub mod DecidedLemmas
 mod FindLemmas
 mod LoopLemmas
 mod MemberLemmas

@@ -35,27 +35,27 @@ module _ (choice : Choice) (before : List ℕ) where
 
 module _ (choice : Choice) where
   -- two tuples of which neither is before the other are one
-  pub tied-tuples : (before as bs : List ℕ) → is_lt (tuple_order choice before as bs) ≡ false → is_lt (tuple_order choice before bs as) ≡ false → as ≡ bs
+  pub tied-tuples : (before xs ys : List ℕ) → is_lt (tuple_order choice before xs ys) ≡ false → is_lt (tuple_order choice before ys xs) ≡ false → xs ≡ ys
   unfolding tuple_order
   tied-tuples before [] [] h k = refl
-  tied-tuples before [] (b ∷ bs) h k = absurd (cc)
-  tied-tuples before (a ∷ as) [] h k = absurd (cc)
-  tied-tuples before (a ∷ as) (b ∷ bs) h k =
-      by (λ f g. tied-tuples (before ++ a ∷ []) as bs f g) (place_order choice before a b) (place_order choice before b a) refl ((place_total choice before).antisymm b a) h k
+  tied-tuples before [] (b ∷ ys) h k = absurd (cc)
+  tied-tuples before (a ∷ xs) [] h k = absurd (cc)
+  tied-tuples before (a ∷ xs) (b ∷ ys) h k =
+      by (λ f g. tied-tuples (before ++ a ∷ []) xs ys f g) (place_order choice before a b) (place_order choice before b a) refl ((place_total choice before).antisymm b a) h k
     where
-      by : (is_lt (tuple_order choice (before ++ a ∷ []) as bs) ≡ false → is_lt (tuple_order choice (before ++ a ∷ []) bs as) ≡ false → as ≡ bs)
+      by : (is_lt (tuple_order choice (before ++ a ∷ []) xs ys) ≡ false → is_lt (tuple_order choice (before ++ a ∷ []) ys xs) ≡ false → xs ≡ ys)
           → (r s : Ordering) → place_order choice before a b ≡ r → s ≡ ordering_reverse (place_order choice before a b)
-          → is_lt (ordering_then r (tuple_order choice (before ++ a ∷ []) as bs)) ≡ false → is_lt (ordering_then s (tuple_order choice (before ++ b ∷ []) bs as)) ≡ false → a ∷ as ≡ b ∷ bs
+          → is_lt (ordering_then r (tuple_order choice (before ++ a ∷ []) xs ys)) ≡ false → is_lt (ordering_then s (tuple_order choice (before ++ b ∷ []) ys xs)) ≡ false → a ∷ xs ≡ b ∷ ys
       by behind Less s places turned f g = absurd (cc)
       by behind Equal s places turned f g =
           let same : s ≡ Equal = turned ∙ ap ordering_reverse places in
           let one : a ≡ b = tied-places choice before a b places in
-          let tail : is_lt (tuple_order choice (before ++ b ∷ []) bs as) ≡ false = subst (λ (o : Ordering). is_lt (ordering_then o (tuple_order choice (before ++ b ∷ []) bs as)) ≡ false) same g in
-          let rest : as ≡ bs = behind f (subst (λ (p : ℕ). is_lt (tuple_order choice (before ++ p ∷ []) bs as) ≡ false) (sym one) tail) in
+          let tail : is_lt (tuple_order choice (before ++ b ∷ []) ys xs) ≡ false = subst (λ (o : Ordering). is_lt (ordering_then o (tuple_order choice (before ++ b ∷ []) ys xs)) ≡ false) same g in
+          let rest : xs ≡ ys = behind f (subst (λ (p : ℕ). is_lt (tuple_order choice (before ++ p ∷ []) ys xs) ≡ false) (sym one) tail) in
           cc
       by behind Greater s places turned f g =
           let same : s ≡ Less = turned ∙ ap ordering_reverse places in
-          let wrong : true ≡ false = subst (λ (o : Ordering). is_lt (ordering_then o (tuple_order choice (before ++ b ∷ []) bs as)) ≡ false) same g in
+          let wrong : true ≡ false = subst (λ (o : Ordering). is_lt (ordering_then o (tuple_order choice (before ++ b ∷ []) ys xs)) ≡ false) same g in
           absurd (cc)
 
   -- ---- the first of some tuples
@@ -79,30 +79,31 @@ module _ (choice : Choice) where
       by behind None rest is = at-head x t ts (cc)
       by behind (Some b) rest is = by_test b (behind b rest) (is_lt (tuple_order choice [] b x)) is
 
+  -- a tuple isn't before another
+  abbrev NotFirst : List ℕ → List ℕ → Type 0
+  NotFirst t o = is_lt (tuple_order choice [] o t) ≡ false
+
   -- a tuple of the list before which no other comes is the one that is computed
   pub first-is : (ts : List (List ℕ)) (t : List ℕ) → IsFirst choice [] ts t → first_of choice ts ≡ Some t
   unfolding first_of
   first-is [] t h = absurd (omega (arith, h.among.1))
   first-is (x ∷ ts) t h = by (λ k. first-is ts t k) h.among
     where
-      abbrev NotBefore : List ℕ → Type 0
-      NotBefore o = is_lt (tuple_order choice [] o t) ≡ false
-
-      rest : All NotBefore ts
-      rest = All-tail NotBefore x ts h.none_before
+      rest : All (NotFirst t) ts
+      rest = All-tail (NotFirst t) x ts h.none_before
 
       -- where the head is the tuple
       head-first : x ≡ t → (o : Option (List ℕ)) → first_of choice ts ≡ o → Some (earlier choice x o) ≡ Some t
       head-first is None e = ap Some is
       head-first is (Some b) e =
           let there = first-among ts b e in
-          let after : NotBefore b = subst NotBefore there.2 (rest there.0 b there.1) in
+          let after : NotFirst t b = subst (NotFirst t) there.2 (rest there.0 b there.1) in
           ap (λ (c : Bool). Some (if c then b else x)) (subst (λ (z : List ℕ). is_lt (tuple_order choice [] b z) ≡ false) (sym is) after) ∙ ap Some is
 
       -- where it is behind the head
       rest-first : (c : Bool) → is_lt (tuple_order choice [] t x) ≡ c → Some (if c then t else x) ≡ Some t
       rest-first true e = refl
-      rest-first false e = ap Some (tied-tuples [] x t (All-head NotBefore x ts h.none_before) e)
+      rest-first false e = ap Some (tied-tuples [] x t (All-head (NotFirst t) x ts h.none_before) e)
 
       by : (IsFirst choice [] ts t → first_of choice ts ≡ Some t) → Contains (x ∷ ts) t → Some (earlier choice x (first_of choice ts)) ≡ Some t
       by behind (zero, within, is) = head-first is (first_of choice ts) refl

@@ -37,9 +37,9 @@ place_order choice before a b = ordering_then (int_cmp (choice.rank before b) (c
 -- by the first place at which they differ
 unfoldable pub tuple_order : Choice → List ℕ → List ℕ → List ℕ → Ordering
 tuple_order choice before [] [] = Ordering.Equal
-tuple_order choice before [] (b ∷ bs) = Ordering.Less
-tuple_order choice before (a ∷ as) [] = Ordering.Greater
-tuple_order choice before (a ∷ as) (b ∷ bs) = ordering_then (place_order choice before a b) (tuple_order choice (before ++ a ∷ []) as bs)
+tuple_order choice before [] (b ∷ ys) = Ordering.Less
+tuple_order choice before (a ∷ xs) [] = Ordering.Greater
+tuple_order choice before (a ∷ xs) (b ∷ ys) = ordering_then (place_order choice before a b) (tuple_order choice (before ++ a ∷ []) xs ys)
 
 -- one of these, before which no other comes
 pub record IsFirst (choice : Choice) (before : List ℕ) (ts : List (List ℕ)) (t : List ℕ) : Type 0 where

@@ -59,7 +59,11 @@ open_docks pool request ports before = filter (λ place. not (is_among before pl
 abbrev pub docks_open : Pool → List Frame → List Port → ℕ
 docks_open pool request ports = over_prefixes (choice_of pool request ports) (λ before. length (open_docks pool request ports before)) (length ports) []
 
--- how many attributes may be entered to weigh these docks, in three evaluations each
+-- three evaluations for each of these docks: the requirements of both sides, and the rank
+abbrev pub evaluations_behind : Pool → List Frame → List Port → List ℕ → ℕ
+evaluations_behind pool request ports before = 3 * length (open_docks pool request ports before)
+
+-- in each of which each attribute of the request and of the docked ads is entered once at most
 abbrev pub attributes_behind : Pool → List Frame → List Port → List ℕ → ℕ
 attributes_behind pool request ports before =
     sum_by (λ place. 3 * attribute_count (gang_world pool request ports (before ++ place ∷ []))) (open_docks pool request ports before)

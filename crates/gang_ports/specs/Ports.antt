@@ -31,9 +31,10 @@ abbrev pub ports_of_all : List Frame → Trees → Option (List Port)
 ports_of_all fs none = Some []
 ports_of_all fs (more t ts) = option_and_then (λ port. option_map (λ ports. port ∷ ports) (ports_of_all fs ts)) (port_of fs t)
 
-abbrev pub ports_listed : List Frame → Tree → Option (List Port)
-ports_listed fs (node list ts) = ports_of_all fs ts
-ports_listed fs t = None
+-- the trees of a list
+abbrev pub list_in : Tree → Option Trees
+list_in (node list ts) = Some ts
+list_in t = None
 
 -- one port to eight, no two of them with one label
 abbrev pub are_ports : List Port → Bool
@@ -41,4 +42,6 @@ are_ports ports = nat_le 1 (length ports) && (nat_le (length ports) port_limit &
 
 -- the ports of an ad: what its root's attribute `Ports` lists
 abbrev pub ports_of : List Frame → Option (List Port)
-ports_of fs = option_and_then (λ ports. if are_ports ports then Some ports else None) (option_and_then (ports_listed fs) (expr_named fs 0 (codes "Ports")))
+ports_of fs =
+    option_and_then (λ ports. if are_ports ports then Some ports else None)
+    (option_and_then (ports_of_all fs) (option_and_then list_in (expr_named fs 0 (codes "Ports"))))

@@ -14,7 +14,7 @@ use Rattle.gang_ports.specs.declared.searching.Side.{Side}
 use Rattle.gang_ports.specs.declared.weighing.Candidate.{Candidate}
 use Rattle.gang_ports.specs.declared.weighing.Resource.{Resource}
 use Rattle.gang_ports.specs.Choice.{Choice, IsFirst, is_among, over_prefixes, tuples}
-use Rattle.gang_ports.specs.Gangs.{ad_at, attributes_behind, choice_of, gang_world, open_docks, open_places}
+use Rattle.gang_ports.specs.Gangs.{ad_at, attributes_behind, choice_of, evaluations_behind, gang_world, open_places}
 
 -- ---- a port's resources
 
@@ -68,9 +68,9 @@ abbrev pub Outcome : Choice → ℕ → List ℕ → List ℕ → Bool → Type 
 Outcome choice n before after true = (tuple : List ℕ) × (after ≡ before ++ tuple) × IsFirst choice before (tuples choice n before) tuple
 Outcome choice n before after false = (after ≡ before) × (tuples choice n before ≡ [])
 
--- the undecided docks over all prefixes behind one, and the attributes that may be entered in them
-abbrev pub docks_from : Pool → PlainWorld → ℕ → List ℕ → ℕ
-docks_from pool w n before = over_prefixes (choice_in pool w) (λ b. length (open_docks pool w.request w.ports b)) n before
+-- the evaluations over all prefixes behind one, and the attributes that may be entered in them
+abbrev pub evaluations_from : Pool → PlainWorld → ℕ → List ℕ → ℕ
+evaluations_from pool w n before = over_prefixes (choice_in pool w) (evaluations_behind pool w.request w.ports) n before
 
 abbrev pub attributes_from : Pool → PlainWorld → ℕ → List ℕ → ℕ
 attributes_from pool w n before = over_prefixes (choice_in pool w) (attributes_behind pool w.request w.ports) n before

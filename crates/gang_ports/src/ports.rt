@@ -1,13 +1,14 @@
 // The ports of a gang, as the root of its ad lists them.
-ghost use Rattle.std.specs.Prelude.{◌≡◌, ◌<◌, ℕ, All, length, map, option_map, IfErr, IfOk, None, Some, Contains};
+ghost use Rattle.std.specs.Prelude.{◌≡◌, ◌<◌, All, codes, length, map, option_map, IfErr, IfOk, IfSome, None, Some};
 ghost use Rattle.std.specs.List.{list_any};
+ghost use Rattle.std.specs.Option.{option_and_then};
 ghost use Rattle.ad_tree.specs.Ad.{ad_frames};
 ghost use Rattle.ad_tree.specs.Enclosing.{expr_named};
 ghost use Rattle.ad_tree.specs.Names.{are_apart, same_name};
 ghost use Rattle.ad_tree.specs.Requests.{ArePorts};
-ghost use Rattle.ad_tree.specs.Tree.{cited_all, frame, pack, tree, trees};
-ghost use Rattle.gang_ports.specs.Ports.{label_of, port_of, ports_of, ports_of_all, some_bytes};
-ghost use Rattle.gang_ports.specs.declared.ports.PortsFault.{PortsFault};
+ghost use Rattle.ad_tree.specs.Tree.{pack, tree, trees};
+ghost use Rattle.gang_ports.specs.Ports.{are_ports, label_of, list_in, port_of, ports_of, ports_of_all, some_bytes};
+ghost use Rattle.gang_ports.specs.declared.ports.PortsFault.TheVariants as faults;
 
 use ad_tree::{Ad, Expr, Exprs, Port, Ports, Scope};
 use pool_text::{Lit, OutOfMemory, Text, same_folded};
@@ -30,6 +31,8 @@ pub enum PortsFault {
 }
 
 impl From<OutOfMemory> for PortsFault {
+    ghost from_gives = { λ _ fault. fault ≡ faults.OutOfMemory };
+
     fn from(_: OutOfMemory) -> Self {
         PortsFault::OutOfMemory
     }
@@ -42,63 +45,73 @@ impl From<OutOfMemory> for PortsFault {
 pub fn read_ports(alloc: Global, ad: &Ad) -> Result<Ports, PortsFault>
     ensures ports { IfOk result (λ ports. ports_of (ad_frames ad.now) ≡ Some ports) }
     ensures are_ports { IfOk result (ArePorts (ad_frames ad.now)) }
-    ensures bad { IfErr result (λ fault. fault ≡ PortsFault.Bad → ports_of (ad_frames ad.now) ≡ None) }
+    ensures bad { IfErr result (λ fault. fault ≡ faults.Bad → ports_of (ad_frames ad.now) ≡ None) }
 {
-    let Some(Expr::List(items)) = own(ad, 0, b"Ports") else {
+    let Some(items) = listed(ad) else {
         return Err(PortsFault::Bad);
     };
-    if items.len() == 0 || items.len() > MOST_PORTS {
+    let Some(ports) = ports_in(alloc, ad, items)? else {
         return Err(PortsFault::Bad);
-    }
-    let ports = ports_in(alloc, ad, items)?;
-    if !are_apart(ports.as_slice()) {
+    };
+    if !are_ports(ports.as_slice()) {
         return Err(PortsFault::Bad);
     }
     Ok(ports)
 }
 
-// The ports that the ad literals of a list open.
-fn ports_in(alloc: Global, ad: &Ad, items: &Exprs) -> Result<Ports, PortsFault>
-    requires { (f : ℕ) → Contains (cited_all (pack (trees items.now))) f → f < length (ad_frames ad.now) }
-    ensures ports { IfOk result (λ ports. ports_of_all (ad_frames ad.now) (pack (trees items.now)) ≡ Some ports) }
-    ensures many { IfOk result (λ ports. length ports ≡ length (trees items.now)) }
-    ensures within { IfOk result (All (λ port. port.frame < length (ad_frames ad.now))) }
-    ensures bad { IfErr result (λ fault. fault ≡ PortsFault.Bad → ports_of_all (ad_frames ad.now) (pack (trees items.now)) ≡ None) }
+// The list that the root's attribute `Ports` is.
+fn listed<'a>(ad: &'a Ad) -> Option<&'a Exprs>
+    ensures { option_map (λ items. pack (trees items.now)) result ≡ option_and_then list_in (expr_named (ad_frames ad.now) 0 (codes "Ports")) }
+{
+    match own(ad, 0, b"Ports") {
+        Some(Expr::List(items)) => Some(items),
+        _ => None,
+    }
+}
+
+// The ports that the ad literals of a list open, where each opens one.
+fn ports_in(alloc: Global, ad: &Ad, items: &Exprs) -> Result<Option<Ports>, OutOfMemory>
+    ensures ports { IfOk result (λ ports. ports ≡ ports_of_all (ad_frames ad.now) (pack (trees items.now))) }
+    ensures within { IfOk result (λ ports. IfSome ports (All (λ port. port.frame < length (ad_frames ad.now)))) }
 {
     let mut ports = Ports::new(alloc);
     for i in 0..items.len() {
-        ports.push(port_of(ad, items.at(i))?)?;
+        let Some(port) = port_of(ad, items.at(i))? else {
+            return Ok(None);
+        };
+        ports.push(port)?;
     }
-    Ok(ports)
+    Ok(Some(ports))
 }
 
 // The port that an ad literal opens.
-fn port_of(ad: &Ad, expr: &Expr) -> Result<Port, PortsFault>
-    requires { (f : ℕ) → tree expr.now ≡ frame f → f < length (ad_frames ad.now) }
-    ensures port { IfOk result (λ port. port_of (ad_frames ad.now) (tree expr.now) ≡ Some port) }
-    ensures within { IfOk result (λ port. port.frame < length (ad_frames ad.now)) }
-    ensures bad { IfErr result (λ fault. fault ≡ PortsFault.Bad → port_of (ad_frames ad.now) (tree expr.now) ≡ None) }
+fn port_of(ad: &Ad, expr: &Expr) -> Result<Option<Port>, OutOfMemory>
+    ensures port { IfOk result (λ port. port ≡ port_of (ad_frames ad.now) (tree expr.now)) }
+    ensures within { IfOk result (λ port. IfSome port (λ p. p.frame < length (ad_frames ad.now))) }
 {
     let Expr::Frame(frame) = expr else {
-        return Err(PortsFault::Bad);
+        return Ok(None);
     };
     let Some(spelled) = own(ad, *frame, b"Label") else {
-        return Err(PortsFault::Bad);
+        return Ok(None);
     };
     let Some(label) = label_of(spelled) else {
-        return Err(PortsFault::Bad);
+        return Ok(None);
     };
-    Ok(Port {
+    Ok(Some(Port {
         label: label.copy()?,
         frame: *frame,
-    })
+    }))
 }
 
-// The expression that a name has in the frame alone.
+// The expression that a name has in the frame alone, where there is such a frame.
 fn own<'a>(ad: &'a Ad, frame: u32, name: &[u8]) -> Option<&'a Expr>
-    requires { frame < length (ad_frames ad.now) }
-    ensures { option_map (λ e. tree e.now) result ≡ expr_named (ad_frames ad.now) frame name.now }
+    ensures expr { option_map (λ e. tree e.now) result ≡ expr_named (ad_frames ad.now) frame name.now }
+    ensures within { IfSome result (λ e. frame < length (ad_frames ad.now)) }
 {
+    if frame >= ad.frames() {
+        return None;
+    }
     let attr = ad.position(frame, name)?;
     Some(ad.expr(frame, attr))
 }
@@ -123,6 +136,13 @@ fn some_bytes<'a>(text: &'a Text) -> Option<&'a Text>
     } else {
         Some(text)
     }
+}
+
+// Whether these are as many ports as a gang has, of which no two have equal labels.
+fn are_ports(ports: &[Port]) -> bool
+    ensures { result ≡ are_ports ports.now }
+{
+    !ports.is_empty() && ports.len() <= MOST_PORTS && are_apart(ports)
 }
 
 // Whether no two of the ports have equal labels.

@@ -1,8 +1,8 @@
 // The search for a gang: port by port, from the best resource on, and back where a port finds none.
-ghost use Rattle.std.specs.Prelude.{◌≡◌, ◌≤◌, ◌<◌, ◌+◌, ◌*◌, length, IfOk};
+ghost use Rattle.std.specs.Prelude.{◌≤◌, ◌+◌, length, IfOk};
 ghost use Rattle.eval_scope.specs.Shown.{world_of};
 ghost use Rattle.bilateral_match.specs.Pool.{Pool};
-ghost use Rattle.gang_ports.specs.Search.{IsBehind, Outcome, attributes_from, choice_in, docks_from};
+ghost use Rattle.gang_ports.specs.Search.{IsBehind, Outcome, attributes_from, choice_in, evaluations_from};
 
 use crate::weighing::{Resource, candidates};
 use eval_scope::World;
@@ -33,14 +33,14 @@ pub fn search<'a, F: Ledger, E: Ledger>(
     ensures outcome { IfOk result (λ found. (pool : Pool) → IsBehind pool (world_of world.now) before.old.items sides.now
         → Outcome (choice_in pool (world_of world.now)) (length sides.now) before.old.items before.new.items found) }
     ensures evaluations { (pool : Pool) → IsBehind pool (world_of world.now) before.old.items sides.now
-        → tops.new ≤ tops.old + 3 * docks_from pool (world_of world.now) (length sides.now) before.old.items }
+        → tops.new ≤ tops.old + evaluations_from pool (world_of world.now) (length sides.now) before.old.items }
     ensures entries { (pool : Pool) → IsBehind pool (world_of world.now) before.old.items sides.now
         → entry.new ≤ entry.old + attributes_from pool (world_of world.now) (length sides.now) before.old.items }
 {
     let Some((side, others)) = sides.split_first() else {
         return Ok(true);
     };
-    let tries = candidates(alloc, world, before, &side.resources, tops, entry)?;
+    let tries = candidates(alloc, world, before.as_slice(), side.resources.as_slice(), tops, entry)?;
     for candidate in &tries {
         let deeper = world.with(candidate.ad);
         before.push(candidate.place)?;

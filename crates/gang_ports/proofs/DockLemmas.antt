@@ -12,13 +12,9 @@ use Rattle.bilateral_match.specs.Pool.{Pool}
 use Rattle.bilateral_match.proofs.DecidedLemmas.{not-docked}
 use Rattle.gang_ports.specs.Choice.{fits, is_among, next}
 use Rattle.gang_ports.specs.Gangs.{ad_at, choice_of, free_places, gang_world, is_open, open_places}
-use Rattle.gang_ports.proofs.ListLemmas.{filter-narrow, length-mapped, length-more}
+use Rattle.gang_ports.proofs.ListLemmas.{filter-narrow, length-mapped, length-more, map-more}
 
 -- ---- the ad docked last
-
-map-more : {X Y : Type 0} (f : X → Y) (xs : List X) (x : X) → map f (xs ++ x ∷ []) ≡ map f xs ++ f x ∷ []
-map-more f [] x = refl
-map-more f (y ∷ xs) x = ap (λ ys. f y ∷ ys) (map-more f xs x)
 
 get-last : {X : Type 0} (xs : List X) (x : X) → slice_get (xs ++ x ∷ []) (length xs) ≡ Some x
 get-last [] x = refl
@@ -48,7 +44,7 @@ module _ (pool : Pool) (request : List Frame) (ports : List Port) (before : List
       ∙ ap (is_dock_decided request (port_frame ports (suc (length before))) (labels_of ports)) last-is
 
   -- a dock that is true is undecided
-  pub docks-open : is_docked world ≡ true → is_open pool request ports (length before) place ≡ true
+  pub docks-open : is_docked world ≡ true → is_open pool request ports (port_frame ports (suc (length before))) place ≡ true
   docks-open docks = by (is_dock_decided request (port_frame ports (suc (length before))) (labels_of ports) (ad_at pool place)) refl
     where
       by : (b : Bool) → is_dock_decided request (port_frame ports (suc (length before))) (labels_of ports) (ad_at pool place) ≡ b → not b ≡ true
@@ -59,7 +55,7 @@ module _ (pool : Pool) (request : List Frame) (ports : List Port) (before : List
 
 -- the next places are among the open ones
 module _ (pool : Pool) (request : List Frame) (ports : List Port) (before : List ℕ) where
-  fits-open : (place : ℕ) → fits (choice_of pool request ports) before place ≡ true → is_open pool request ports (length before) place ≡ true
+  fits-open : (place : ℕ) → fits (choice_of pool request ports) before place ≡ true → is_open pool request ports (port_frame ports (suc (length before))) place ≡ true
   unfolding fits
   fits-open place e = docks-open pool request ports before place (second (not (is_among before place)) (is_docked (gang_world pool request ports (before ++ place ∷ []))) e)
     where
@@ -67,6 +63,6 @@ module _ (pool : Pool) (request : List Frame) (ports : List Port) (before : List
       second true b e = e
       second false b e = absurd (cc)
 
-  pub next-open : filter (fits (choice_of pool request ports) before) (open_places pool request ports (length before)) ≡ next (choice_of pool request ports) before
+  pub next-open : filter (fits (choice_of pool request ports) before) (open_places pool request ports (port_frame ports (suc (length before)))) ≡ next (choice_of pool request ports) before
   unfolding next open_places
-  next-open = filter-narrow (fits (choice_of pool request ports) before) (is_open pool request ports (length before)) fits-open (free_places pool)
+  next-open = filter-narrow (fits (choice_of pool request ports) before) (is_open pool request ports (port_frame ports (suc (length before)))) fits-open (free_places pool)

@@ -62,6 +62,15 @@ filter-narrow {X} p q gives (x ∷ xs) = by (q x) (p x) refl refl (filter-narrow
     by false true asked passed rest = absurd (cc (gives x passed))
     by false false asked passed rest = rest
 
+-- two tests one after another are both in one
+pub filter-both : {X : Type 0} (p q : X → Bool) (xs : List X) → filter q (filter p xs) ≡ filter (λ x. p x && q x) xs
+filter-both p q [] = refl
+filter-both {X} p q (x ∷ xs) = by (p x) (filter-both p q xs)
+  where
+    by : (b : Bool) → filter q (filter p xs) ≡ filter (λ y. p y && q y) xs → filter q (cond b (x ∷ filter p xs) (filter p xs)) ≡ cond (b && q x) (x ∷ filter (λ y. p y && q y) xs) (filter (λ y. p y && q y) xs)
+    by true rest = ap (λ (ys : List X). cond (q x) (x ∷ ys) ys) rest
+    by false rest = rest
+
 -- ---- permutations and tests
 
 module _ {X : Type 0} (p : X → Bool) where
@@ -145,6 +154,10 @@ mapped-at f (x ∷ xs) (suc k) d e within = mapped-at f xs k d e (omega (arith, 
 pub length-mapped : {X Y : Type 0} (f : X → Y) (xs : List X) → length (map f xs) ≡ length xs
 length-mapped f [] = refl
 length-mapped f (x ∷ xs) = ap suc (length-mapped f xs)
+
+pub map-more : {X Y : Type 0} (f : X → Y) (xs : List X) (x : X) → map f (xs ++ x ∷ []) ≡ map f xs ++ f x ∷ []
+map-more f [] x = refl
+map-more f (y ∷ xs) x = ap (λ ys. f y ∷ ys) (map-more f xs x)
 
 pub length-more : {X : Type 0} (xs : List X) (x : X) → length (xs ++ x ∷ []) ≡ suc (length xs)
 length-more [] x = refl

@@ -10,7 +10,7 @@ use Rattle.ad_tree.specs.Ad.{ad_frames}
 use Rattle.ad_tree.specs.Frames.{Frame}
 use Rattle.ad_tree.specs.declared.request.Port.{Port}
 use Rattle.ad_eval.specs.Dock.{is_docked, rank_by}
-use Rattle.eval_scope.specs.World.{PlainWorld, attribute_count, request_side, with_docked}
+use Rattle.eval_scope.specs.World.{PlainWorld, attribute_count, port_frame, request_side, with_docked}
 use Rattle.bilateral_match.specs.Pool.{Pool}
 use Rattle.gang_ports.specs.declared.searching.Side.{Side}
 use Rattle.gang_ports.specs.declared.weighing.Candidate.{Candidate}
@@ -108,9 +108,9 @@ module _ (pool : Pool) (w : PlainWorld) (before : List ℕ) (same : w ≡ gang_w
 
   -- ---- the resources of the next port
 
-  module _ (rs : List Resource) (resources : AreResources pool (open_places pool w.request w.ports (length before)) rs) where
+  module _ (rs : List Resource) (resources : AreResources pool (open_places pool w.request w.ports (port_frame w.ports (suc (length before)))) rs) where
     abbrev open : List ℕ
-    open = open_places pool w.request w.ports (length before)
+    open = open_places pool w.request w.ports (port_frame w.ports (suc (length before)))
 
     abbrev places : List ℕ
     places = map (λ r. r.place) rs

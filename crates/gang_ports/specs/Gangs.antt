@@ -4,10 +4,11 @@ use Rattle.std.specs.List.{range_with_len}
 use Rattle.std.specs.Option.{option_map_or}
 use Rattle.ad_tree.specs.Frames.{Frame}
 use Rattle.ad_tree.specs.declared.request.Port.{Port}
-use Rattle.ad_store.specs.Stock.{is_live}
+use Rattle.ad_store.specs.Stock.{Advert, is_live}
 use Rattle.ad_eval.specs.Dock.{is_docked, rank_by}
 use Rattle.conjunct_plan.specs.Decided.{is_dock_decided}
-use Rattle.conjunct_plan.specs.Tests.{labels_of}
+use Rattle.conjunct_plan.specs.Tests.{labels_of, tests_of}
+use Rattle.bilateral_match.specs.Counts.{least_left}
 use Rattle.bilateral_match.specs.Pool.{Pool}
 use Rattle.eval_scope.specs.World.{PlainWorld, attribute_count, port_frame, request_side}
 use Rattle.gang_ports.specs.Choice.{Choice, first_of, is_among, over_prefixes, tuples}
@@ -43,17 +44,17 @@ gang pool request ports = first_of (choice_of pool request ports) (tuples (choic
 
 -- ---- what a search may take
 
--- no test decides the dock of port i with the resource at a place
+-- no test decides the dock of a frame of the request with the resource at a place
 abbrev pub is_open : Pool → List Frame → List Port → ℕ → ℕ → Bool
-is_open pool request ports i place = not (is_dock_decided request (port_frame ports (suc i)) (labels_of ports) (ad_at pool place))
+is_open pool request ports frame place = not (is_dock_decided request frame (labels_of ports) (ad_at pool place))
 
--- the resources that may be taken and with which the dock of port i is undecided
+-- the resources that may be taken and whose dock with a frame is undecided
 unfoldable pub open_places : Pool → List Frame → List Port → ℕ → List ℕ
-open_places pool request ports i = filter (is_open pool request ports i) (free_places pool)
+open_places pool request ports frame = filter (is_open pool request ports frame) (free_places pool)
 
--- those of them that aren't docked, once resources are docked to the ports before it
+-- those of them that aren't docked, for the next port once resources are docked to the ports before it
 unfoldable pub open_docks : Pool → List Frame → List Port → List ℕ → List ℕ
-open_docks pool request ports before = filter (λ place. not (is_among before place)) (open_places pool request ports (length before))
+open_docks pool request ports before = filter (λ place. not (is_among before place)) (open_places pool request ports (port_frame ports (suc (length before))))
 
 -- how many docks are undecided, over all valid prefixes
 abbrev pub docks_open : Pool → List Frame → List Port → ℕ
@@ -70,3 +71,7 @@ attributes_behind pool request ports before =
 
 abbrev pub attributes_open : Pool → List Frame → List Port → ℕ
 attributes_open pool request ports = over_prefixes (choice_of pool request ports) (attributes_behind pool request ports) (length ports) []
+
+-- the sum over the ports of the least number of ads that one of a port's tests leaves
+abbrev pub looks_most : List Advert → List Frame → List Port → ℕ
+looks_most ads request ports = sum_by (λ port. least_left ads (tests_of request port.frame (labels_of ports))) ports

@@ -7,7 +7,7 @@ use Rattle.std.specs.declared.cmp.Ordering.{Ordering}
 use Rattle.ad_tree.specs.Ad.{ad_frames}
 use Rattle.ad_tree.specs.Frames.{Frame}
 use Rattle.ad_tree.specs.declared.request.Port.{Port}
-use Rattle.eval_scope.specs.World.{PlainWorld, attribute_count, request_side, with_docked}
+use Rattle.eval_scope.specs.World.{PlainWorld, attribute_count, port_frame, request_side, with_docked}
 use Rattle.ad_eval.specs.Dock.{is_docked, rank_by}
 use Rattle.bilateral_match.specs.Pool.{Pool}
 use Rattle.gang_ports.specs.declared.searching.Side.{Side}
@@ -51,7 +51,7 @@ pub record AreResources (pool : Pool) (places : List ℕ) (resources : List Reso
 -- for the ports from i on, the resources with which the dock may be true
 abbrev pub AreSides : Pool → List Frame → List Port → ℕ → List Side → Type 0
 AreSides pool request ports i [] = Unit {0}
-AreSides pool request ports i (side ∷ sides) = AreResources pool (open_places pool request ports i) side.resources.items × AreSides pool request ports (suc i) sides
+AreSides pool request ports i (side ∷ sides) = AreResources pool (open_places pool request ports (port_frame ports (suc i))) side.resources.items × AreSides pool request ports (suc i) sides
 
 -- ---- behind a prefix
 

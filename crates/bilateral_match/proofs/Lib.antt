@@ -1,5 +1,5 @@
 mod ConjunctLemmas
-pub mod DecidedLemmas
+mod DecidedLemmas
 mod FindLemmas
 mod LoopLemmas
 mod MemberLemmas
@@ -10,4 +10,5 @@ pub mod PlaceLemmas
 pub mod RowLemmas
 mod ScanLemmas
 mod TestLemmas
+pub mod UndecidedLemmas
 mod WeighLemmas

@@ -81,10 +81,10 @@ module _ (pool : Pool) (request : List Frame) (ports : List Port) where
     docks-fewer : (before : List ℕ) → open_docks later request ports before ≡ filter unoffered (open_docks pool request ports before)
     unfolding open_docks open_places
     docks-fewer before =
-        let open = is_open pool request ports (port_frame ports (suc (length before))) in
-        ap (λ ps. filter (λ p. not (is_among before p)) (filter open ps)) free-fewer
-        ∙ ap (filter (λ p. not (is_among before p))) (filter-turned unoffered open (free_places pool))
-        ∙ filter-turned unoffered (λ p. not (is_among before p)) (filter open (free_places pool))
+        let asked = is_open pool request ports (port_frame ports (suc (length before))) in
+        ap (λ ps. filter (λ p. not (is_among before p)) (filter asked ps)) free-fewer
+        ∙ ap (filter (λ p. not (is_among before p))) (filter-turned unoffered asked (free_places pool))
+        ∙ filter-turned unoffered (λ p. not (is_among before p)) (filter asked (free_places pool))
 
     pub gang-later : gang pool request ports ≡ None → gang later request ports ≡ None
     gang-later none =

@@ -1,5 +1,5 @@
 -- A search behind a prefix: what its candidates are, what they take, and what is found behind each.
-use Rattle.std.proofs.Common.{◌≡◌, ◌<◌, ◌≤◌, ◌+◌, ◌*◌, ℕ, zero, suc, Bool, true, false, not, ◌&&◌, cond, if◌then◌else◌, refl, List, [], ◌∷◌, ◌++◌, length, map, filter, get_or, sum_by, Option, None, Some, option_map, All, ap, sym, ◌∙◌, subst, arith, append_assoc, ℤ, IsSorted}
+use Rattle.std.proofs.Common.{◌≡◌, ◌<◌, ◌≤◌, ◌+◌, ◌*◌, ℕ, zero, suc, Bool, true, false, not, ◌&&◌, cond, if◌then◌else◌, refl, List, [], ◌∷◌, ◌++◌, length, map, filter, get_or, take, sum_by, below_more, Option, None, Some, option_map, All, ap, sym, ◌∙◌, subst, arith, append_assoc, ℤ, IsSorted}
 use Rattle.std.specs.List.{cons_option, filter_map}
 use Rattle.std.specs.List.Sorted.{IsPermutation}
 use Rattle.std.specs.Ordering.{int_cmp, is_lt, nat_cmp, ordering_then}
@@ -18,6 +18,7 @@ use Rattle.gang_ports.specs.declared.weighing.Resource.{Resource}
 use Rattle.gang_ports.specs.Choice.{Choice, IsFirst, fits, is_among, next, over_prefixes, place_order, tuple_order, tuples}
 use Rattle.gang_ports.specs.Gangs.{ad_at, attributes_behind, choice_of, evaluations_behind, gang_world, open_docks, open_places}
 use Rattle.gang_ports.specs.Search.{AreResources, AreSides, IsBehind, Outcome, attributes_from, attributes_of, candidate_of, candidate_order, choice_in, evaluations_from, evaluations_of, weighed, worth}
+use Rattle.gang_ports.proofs.CountLemmas.{at-deeper, at-first, at-next, at-place, behind}
 use Rattle.gang_ports.proofs.DockLemmas.{gang-with, next-open}
 use Rattle.gang_ports.proofs.ListLemmas.{IsPermutation-filter, length-mapped, length-more, mapped-at, sum_by-agree, sum_by-constant, sum_by-map, sum_by-passing}
 use Rattle.gang_ports.proofs.OrderLemmas.{first-behind, none-behind}
@@ -109,8 +110,8 @@ module _ (pool : Pool) (w : PlainWorld) (before : List ℕ) (same : w ≡ gang_w
   -- ---- the resources of the next port
 
   module _ (rs : List Resource) (resources : AreResources pool (open_places pool w.request w.ports (port_frame w.ports (suc (length before)))) rs) where
-    abbrev open : List ℕ
-    open = open_places pool w.request w.ports (port_frame w.ports (suc (length before)))
+    abbrev asked : List ℕ
+    asked = open_places pool w.request w.ports (port_frame w.ports (suc (length before)))
 
     abbrev places : List ℕ
     places = map (λ r. r.place) rs
@@ -120,8 +121,8 @@ module _ (pool : Pool) (w : PlainWorld) (before : List ℕ) (same : w ≡ gang_w
     unfolding open_docks
     sum-open f =
         sym (sum_by-map (λ p. if is_among before p then 0 else f p) (λ (r : Resource). r.place) rs)
-        ∙ sum_by-IsPermutation (λ p. if is_among before p then 0 else f p) open places resources.all
-        ∙ sum_by-passing (is_among before) f open
+        ∙ sum_by-IsPermutation (λ p. if is_among before p then 0 else f p) asked places resources.all
+        ∙ sum_by-passing (is_among before) f asked
 
     pub evaluations-are : sum_by (evaluations_of before) rs ≡ evaluations_behind pool w.request w.ports before
     evaluations-are = sum-open (λ p. 3) ∙ sum_by-constant 3 (open_docks pool w.request w.ports before)
@@ -141,9 +142,9 @@ module _ (pool : Pool) (w : PlainWorld) (before : List ℕ) (same : w ≡ gang_w
       pub tries-next : IsPermutation (next choice before) (map place_of tries)
       tries-next =
           let found = map place_of (weighed w before rs) in
-          let passing : IsPermutation (filter (fits choice before) open) (filter (fits choice before) places) = IsPermutation-filter (fits choice before) open places resources.all in
+          let passing : IsPermutation (filter (fits choice before) asked) (filter (fits choice before) places) = IsPermutation-filter (fits choice before) asked places resources.all in
           let step : IsPermutation (next choice before) found =
-          subst (λ (xs : List ℕ). IsPermutation xs found) (next-open pool w.request w.ports before) (subst (λ (ys : List ℕ). IsPermutation (filter (fits choice before) open) ys) (sym (places-next rs resources.ads)) passing) in
+          subst (λ (xs : List ℕ). IsPermutation xs found) (next-open pool w.request w.ports before) (subst (λ (ys : List ℕ). IsPermutation (filter (fits choice before) asked) ys) (sym (places-next rs resources.ads)) passing) in
           IsPermutation-trans (next choice before) found (map place_of tries) step (IsPermutation-map place_of (weighed w before rs) tries all)
 
   -- ---- behind a candidate
@@ -195,3 +196,101 @@ outcome-whole choice before after same =
       among = (zero, omega arith, refl);
       none_before = All-cons (λ o. is_lt (tuple_order choice before o []) ≡ false) [] [] refl (All-nil (λ o. is_lt (tuple_order choice before o []) ≡ false));
     })
+
+-- ---- a turn of the search: the next port, and the candidates for it one after another
+
+module _ (pool : Pool) (w : PlainWorld) (before : List ℕ) (side : Side) (sides others : List Side) (cut : sides ≡ side ∷ others) (h : IsBehind pool w before sides) where
+  next_port : AreResources pool (open_places pool w.request w.ports (port_frame w.ports (suc (length before)))) side.resources.items
+  next_port = (subst (AreSides pool w.request w.ports (length before)) cut h.sides).0
+
+  ports_left : AreSides pool w.request w.ports (suc (length before)) others
+  ports_left = (subst (AreSides pool w.request w.ports (length before)) cut h.sides).1
+
+  -- what weighing the resources takes
+  pub first-evaluations : (start weighed : ℕ) → weighed ≤ start + sum_by (evaluations_of before) side.resources.items → weighed ≤ start + evaluations_behind pool w.request w.ports before
+  first-evaluations start weighed step = omega (arith, step, evaluations-are pool w before h.world side.resources.items next_port)
+
+  pub first-attributes : (start weighed : ℕ) → weighed ≤ start + sum_by (attributes_of w before) side.resources.items → weighed ≤ start + attributes_behind pool w.request w.ports before
+  first-attributes start weighed step = omega (arith, step, attributes-are pool w before h.world side.resources.items next_port)
+
+  module _ (count : List ℕ → ℕ) (start weighed : ℕ) (first : weighed ≤ start + count before) where
+    pub turn-first : weighed ≤ start + over_prefixes (choice_in pool w) count (length sides) before
+    turn-first = subst (λ n. weighed ≤ start + over_prefixes (choice_in pool w) count n before) (sym (ap length cut)) (at-first (choice_in pool w) count (length others) before start weighed first)
+
+  module _ (tries : List Candidate) (all : IsPermutation (weighed w before side.resources.items) tries) where
+    abbrev cs : List ℕ
+    cs = map place_of tries
+
+    in-order : IsPermutation (next (choice_in pool w) before) cs
+    in-order = tries-next pool w before h.world side.resources.items next_port tries all
+
+    module _ (count : List ℕ → ℕ) (start weighed : ℕ) (first : weighed ≤ start + count before) (i now : ℕ) (so_far : now ≤ weighed + behind (choice_in pool w) count (length others) before (take i cs)) where
+      pub turn-place : now ≤ start + over_prefixes (choice_in pool w) count (length sides) before
+      turn-place =
+          subst (λ n. now ≤ start + over_prefixes (choice_in pool w) count n before) (sym (ap length cut))
+          (at-place (choice_in pool w) count (length others) before start weighed first cs in-order i now so_far)
+
+      module _ (c : Candidate) (within : i < length tries) (at : c ≡ get_or tries i c) (after : ℕ) (step : after ≤ now + over_prefixes (choice_in pool w) count (length others) (before ++ c.place ∷ [])) where
+        here : after ≤ now + over_prefixes (choice_in pool w) count (length others) (before ++ get_or cs i 0 ∷ [])
+        here = subst (λ p. after ≤ now + over_prefixes (choice_in pool w) count (length others) (before ++ p ∷ [])) (ap place_of at ∙ sym (mapped-at place_of tries i 0 c within)) step
+
+        inside : i < length cs
+        inside = omega (arith, within, length-mapped place_of tries)
+
+        pub turn-deeper : after ≤ start + over_prefixes (choice_in pool w) count (length sides) before
+        turn-deeper =
+            subst (λ n. after ≤ start + over_prefixes (choice_in pool w) count n before) (sym (ap length cut))
+            (at-deeper (choice_in pool w) count (length others) before start weighed first cs in-order i now so_far 0 after inside here)
+
+        pub turn-next : after ≤ weighed + behind (choice_in pool w) count (length others) before (take (i + 1) cs)
+        turn-next = at-next (choice_in pool w) count (length others) before start weighed first cs in-order i now so_far 0 after inside here
+
+    -- behind a candidate
+    module _ (i : ℕ) (c : Candidate) (within : i < length tries) (at : c ≡ get_or tries i c) (deeper : PlainWorld) (new : deeper ≡ with_docked w (ad_frames c.ad.now)) where
+      is-candidate : IsCandidate pool w before h.world c
+      is-candidate = subst (IsCandidate pool w before h.world) (sym at) (tries-are pool w before h.world side.resources.items next_port tries all i c within)
+
+      pub turn-behind : (longer : List ℕ) → longer ≡ before ++ c.place ∷ [] → IsBehind pool deeper longer others
+      turn-behind longer is = subst (λ b. IsBehind pool deeper b others) (sym is) (behind-candidate pool w before h.world c is-candidate deeper new others ports_left)
+
+      -- a count behind it, in the world of the prefix
+      pub turn-evaluations : (longer : List ℕ) → longer ≡ before ++ c.place ∷ [] → (now after : ℕ) → after ≤ now + evaluations_from pool deeper (length others) longer
+          → after ≤ now + evaluations_from pool w (length others) (before ++ c.place ∷ [])
+      turn-evaluations longer is now after step =
+          subst (λ m. after ≤ now + m) (ap (evaluations_from pool deeper (length others)) is ∙ evaluations-same pool w before h.world c is-candidate deeper new (length others) (before ++ c.place ∷ [])) step
+
+      pub turn-attributes : (longer : List ℕ) → longer ≡ before ++ c.place ∷ [] → (now after : ℕ) → after ≤ now + attributes_from pool deeper (length others) longer
+          → after ≤ now + attributes_from pool w (length others) (before ++ c.place ∷ [])
+      turn-attributes longer is now after step =
+          subst (λ m. after ≤ now + m) (ap (attributes_from pool deeper (length others)) is ∙ attributes-same pool w before h.world c is-candidate deeper new (length others) (before ++ c.place ∷ [])) step
+
+      -- what is found behind it, and what is not
+      module _ (ordered : IsSorted candidate_order tries) (passed : (j : ℕ) → j < i → tuples (choice_in pool w) (length others) (before ++ get_or cs j 0 ∷ []) ≡ []) where
+        place-is : c.place ≡ get_or cs i 0
+        place-is = ap place_of at ∙ sym (mapped-at place_of tries i 0 c within)
+
+        pub turn-found : (longer after : List ℕ) → longer ≡ before ++ c.place ∷ [] → Outcome (choice_in pool deeper) (length others) longer after true → Outcome (choice_in pool w) (length sides) before after true
+        turn-found longer after is o =
+            let ranked : IsSorted (place_order (choice_in pool w) before) cs = tries-ordered pool w before h.world tries (tries-are pool w before h.world side.resources.items next_port tries all) ordered in
+            let same : longer ≡ before ++ get_or cs i 0 ∷ [] = is ∙ ap (λ p. before ++ p ∷ []) place-is in
+            let behind_it : Outcome (choice_in pool w) (length others) (before ++ get_or cs i 0 ∷ []) after true =
+            subst (λ b. Outcome (choice_in pool w) (length others) b after true) same (subst (λ k. Outcome k (length others) longer after true) (choice-same pool w before h.world c is-candidate deeper new) o) in
+            subst (λ n. Outcome (choice_in pool w) n before after true) (sym (ap length cut))
+            (outcome-found (choice_in pool w) (length others) before cs in-order ranked i (omega (arith, within, length-mapped place_of tries)) passed after behind_it)
+
+        pub turn-passed : (longer after : List ℕ) → longer ≡ before ++ c.place ∷ [] → Outcome (choice_in pool deeper) (length others) longer after false
+            → (j : ℕ) → j < i + 1 → tuples (choice_in pool w) (length others) (before ++ get_or cs j 0 ∷ []) ≡ []
+        turn-passed longer after is o = below_more (λ j. tuples (choice_in pool w) (length others) (before ++ get_or cs j 0 ∷ []) ≡ []) i passed here
+          where
+            here : tuples (choice_in pool w) (length others) (before ++ get_or cs i 0 ∷ []) ≡ []
+            here =
+                ap (λ p. tuples (choice_in pool w) (length others) (before ++ p ∷ [])) (sym place-is)
+                ∙ ap (tuples (choice_in pool w) (length others)) (sym is)
+                ∙ ap (λ k. tuples k (length others) longer) (sym (choice-same pool w before h.world c is-candidate deeper new))
+                ∙ o.1
+
+    pub turn-none : (i : ℕ) → length tries ≤ i → ((j : ℕ) → j < i → tuples (choice_in pool w) (length others) (before ++ get_or cs j 0 ∷ []) ≡ []) → (after : List ℕ) → after ≡ before
+        → Outcome (choice_in pool w) (length sides) before after false
+    turn-none i past passed after same =
+        subst (λ n. Outcome (choice_in pool w) n before after false) (sym (ap length cut))
+        (outcome-none (choice_in pool w) (length others) before cs in-order (λ j within. passed j (omega (arith, within, past, length-mapped place_of tries))) after same)

@@ -36,10 +36,10 @@ pub fn read_sides<'a, H: Holdings, T: Ledger>(
     moment: u64,
     touch: &mut Steps<T>,
 ) -> Result<Vec<Side<'a>>, OutOfMemory>
-    requires { IsIndex index.now (rows_of (stock_of store.entry.now)) }
-    ensures sides { IfOk result (λ sides. AreSides (pool_of moment (stock_of store.entry.now) (H.is_offered held.now) (H.holding held.now)) (ad_frames request.now.ad) request.now.ports 0 sides.items) }
+    requires { IsIndex index.now (rows_of (stock_of store.now)) }
+    ensures sides { IfOk result (λ sides. AreSides (pool_of moment (stock_of store.now) (H.is_offered held.now) (H.holding held.now)) (ad_frames request.now.ad) request.now.ports 0 sides.items) }
     ensures many { IfOk result (λ sides. length sides.items ≡ length request.now.ports) }
-    ensures looks { touch.new ≤ touch.old + looks_most (stock_of store.entry.now).ads (ad_frames request.now.ad) request.now.ports }
+    ensures looks { touch.new ≤ touch.old + looks_most (stock_of store.now).ads (ad_frames request.now.ad) request.now.ports }
 {
     let mut sides = Vec::new(alloc);
     for port in request.ports.as_slice() {
@@ -60,12 +60,12 @@ fn read_side<'a, H: Holdings, T: Ledger>(
     moment: u64,
     touch: &mut Steps<T>,
 ) -> Result<Side<'a>, OutOfMemory>
-    requires index { IsIndex index.now (rows_of (stock_of store.entry.now)) }
+    requires index { IsIndex index.now (rows_of (stock_of store.now)) }
     requires frame { frame < length (ad_frames request.now.ad) }
-    ensures side { IfOk result (λ side. AreResources (pool_of moment (stock_of store.entry.now) (H.is_offered held.now) (H.holding held.now))
-        (open_places (pool_of moment (stock_of store.entry.now) (H.is_offered held.now) (H.holding held.now)) (ad_frames request.now.ad) request.now.ports frame) side.resources.items) }
+    ensures side { IfOk result (λ side. AreResources (pool_of moment (stock_of store.now) (H.is_offered held.now) (H.holding held.now))
+        (open_places (pool_of moment (stock_of store.now) (H.is_offered held.now) (H.holding held.now)) (ad_frames request.now.ad) request.now.ports frame) side.resources.items) }
     ensures looks { touch.new ≤ touch.old
-        + least_left (stock_of store.entry.now).ads (tests_of (ad_frames request.now.ad) frame (labels_of request.now.ports)) }
+        + least_left (stock_of store.now).ads (tests_of (ad_frames request.now.ad) frame (labels_of request.now.ports)) }
 {
     let places = candidates_at(alloc, store, index, request, frame)?;
     let mut resources = Vec::new(alloc);
@@ -87,12 +87,12 @@ fn resource_at<'a, H: Holdings, T: Ledger>(
     place: usize,
     touch: &mut Steps<T>,
 ) -> Option<Resource<'a>>
-    requires place { place < length (stock_of store.entry.now).slots }
+    requires place { place < length (stock_of store.now).slots }
     requires frame { frame < length (ad_frames request.now.ad) }
-    ensures found { option_map (λ r. r.place) result ≡ (if is_free (pool_of moment (stock_of store.entry.now) (H.is_offered held.now) (H.holding held.now)) place
-        && is_open (pool_of moment (stock_of store.entry.now) (H.is_offered held.now) (H.holding held.now)) (ad_frames request.now.ad) request.now.ports frame place
+    ensures found { option_map (λ r. r.place) result ≡ (if is_free (pool_of moment (stock_of store.now) (H.is_offered held.now) (H.holding held.now)) place
+        && is_open (pool_of moment (stock_of store.now) (H.is_offered held.now) (H.holding held.now)) (ad_frames request.now.ad) request.now.ports frame place
         then Some place else None) }
-    ensures ad { IfSome result (λ r. ad_frames r.ad.now ≡ ad_at (pool_of moment (stock_of store.entry.now) (H.is_offered held.now) (H.holding held.now)) r.place) }
+    ensures ad { IfSome result (λ r. ad_frames r.ad.now ≡ ad_at (pool_of moment (stock_of store.now) (H.is_offered held.now) (H.holding held.now)) r.place) }
     ensures looks { touch.new ≤ touch.old + 1 }
 {
     let slot = store.at(place);

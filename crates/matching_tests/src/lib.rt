@@ -1,10 +1,12 @@
-//! Tests of worlds, evaluation, tests of requirements, the index, the store, jobs and queries.
+//! Tests of worlds, evaluation, tests of requirements, the index, the store, jobs, queries and gangs.
 #![tactic(auto)]
 
 #[cfg(test)]
 mod claims;
 #[cfg(test)]
 mod evaluation;
+#[cfg(test)]
+mod gangs;
 #[cfg(test)]
 mod guard;
 #[cfg(test)]

@@ -56,7 +56,7 @@ fn request(alloc: Global, rank: Expr) -> Result<Request, OutOfMemory>
 }
 
 // The index of the ads of a store.
-fn index_of<T: Ledger>(
+pub(crate) fn index_of<T: Ledger>(
     alloc: Global,
     store: &Store,
     touch: &mut Steps<T>,

@@ -98,7 +98,8 @@ fn weigh<'a, F: Ledger, E: Ledger>(
     if is_among(before, resource.place) {
         return Ok(None);
     }
-    let Some(rank) = rank_where_docked(alloc, &world.with(resource.ad), tops, entry)? else {
+    let docked = world.with(resource.ad);
+    let Some(rank) = rank_where_docked(alloc, &docked, tops, entry)? else {
         return Ok(None);
     };
     Ok(Some(Candidate {

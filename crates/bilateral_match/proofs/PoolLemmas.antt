@@ -1,5 +1,5 @@
 -- Pools that say the same of each place have the same members, and as many open docks.
-use Rattle.std.proofs.Common.{◌≡◌, ◌<◌, ◌+◌, ℕ, suc, Bool, not, ◌&&◌, refl, List, [], ◌∷◌, Option, None, Some, is_some, if◌then◌else◌, length, ap, sym, ◌∙◌, subst, arith, int_lt}
+use Rattle.std.proofs.Common.{◌≡◌, ◌<◌, ◌+◌, ℕ, suc, Bool, true, not, ◌&&◌, refl, List, [], ◌∷◌, Option, None, Some, is_some, if◌then◌else◌, length, ap, sym, ◌∙◌, subst, arith, int_lt, zero-add}
 use Rattle.std.specs.List.{cons_option}
 use Rattle.std.specs.Option.{option_map_or}
 use Rattle.ad_tree.specs.Frames.{Frame}
@@ -46,7 +46,7 @@ module _ (moment : ℕ) (ads : List Advert) (request : List Frame) (off_a off_b 
       ∙ ap (cons_option (member_with other request k a)) (members-same (suc k) xs behind)
 
   pub best-same : ((i : ℕ) → i < length ads → SameAt i) → best one request ≡ best other request
-  best-same same = ap first_of (members-same 0 ads same)
+  best-same same = ap first_of (members-same 0 ads (λ i inside. subst SameAt (sym (zero-add i)) (same i inside)))
 
   sum-same : (k : ℕ) (xs : List Advert) → ((i : ℕ) → i < length xs → SameAt (k + i))
       → sum_from (λ place a. if is_open one request place a then 1 else 0) k xs ≡ sum_from (λ place a. if is_open other request place a then 1 else 0) k xs
@@ -59,4 +59,4 @@ module _ (moment : ℕ) (ads : List Advert) (request : List Frame) (off_a off_b 
       omega (arith, rest, now)
 
   pub open-same : ((i : ℕ) → i < length ads → SameAt i) → open_count one request ≡ open_count other request
-  open-same same = sum-same 0 ads same
+  open-same same = sum-same 0 ads (λ i inside. subst SameAt (sym (zero-add i)) (same i inside))

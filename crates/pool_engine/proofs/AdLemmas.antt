@@ -8,6 +8,7 @@ use Rattle.ad_store.specs.Store.{stock_of}
 use Rattle.pool_replies.specs.declared.rows.AdRow.{AdRow}
 use Rattle.ad_tree.specs.Frames.{Frame}
 use Rattle.ad_store.specs.Stock.{Advert, has, is_live, is_named, slot_beside, without}
+use Rattle.pool_engine.specs.State.{QueuedJob}
 use Rattle.pool_engine.specs.Step.{ad_row, live_ads}
 
 -- an ad that passes a test, with its place and the slot beside it
@@ -46,10 +47,10 @@ pub stock-length : (store : Store) → length (stock_of store).ads ≡ length (s
 stock-length store = length-map store.names.entries _ ∙ sym (length-map store.names.entries _)
 
 -- the rows of the first ads and the next
-pub rows_more : (ads : List Advert) (i : ℕ) (row : AdRow) → option_map ad_row (slice_get ads i) ≡ Some row → map ad_row (take i ads) ++ row ∷ [] ≡ map ad_row (take (suc i) ads)
-rows_more [] i row is = absurd (cc)
-rows_more (x ∷ ads) zero row is = let same : ad_row x ≡ row = cc in ap (λ (r : AdRow). r ∷ []) (sym same)
-rows_more (x ∷ ads) (suc i) row is = ap (λ (rows : List AdRow). ad_row x ∷ rows) (rows_more ads i row is)
+pub rows_more : (jobs : List QueuedJob) (ads : List Advert) (i : ℕ) (row : AdRow) → option_map (ad_row jobs) (slice_get ads i) ≡ Some row → map (ad_row jobs) (take i ads) ++ row ∷ [] ≡ map (ad_row jobs) (take (suc i) ads)
+rows_more jobs [] i row is = absurd (cc)
+rows_more jobs (x ∷ ads) zero row is = let same : ad_row jobs x ≡ row = cc in ap (λ (r : AdRow). r ∷ []) (sym same)
+rows_more jobs (x ∷ ads) (suc i) row is = ap (λ (rows : List AdRow). ad_row jobs x ∷ rows) (rows_more jobs ads i row is)
 
 pub named : (name : List ℕ) (x : Advert) → is_named name x ≡ true → name ≡ x.name
 named name x is = (bytes_decides name x.name).0 is
@@ -75,7 +76,7 @@ has_at name (x ∷ ads) (suc i) a at is =
 abbrev pub AreApart : List Advert → Type 0
 AreApart ads = (i j : ℕ) (a b : Advert) → slice_get ads i ≡ Some a → slice_get ads j ≡ Some b → a.name ≡ b.name → i ≡ j
 
-apart_behind : (x : Advert) (ads : List Advert) → AreApart (x ∷ ads) → AreApart ads
+pub apart_behind : (x : Advert) (ads : List Advert) → AreApart (x ∷ ads) → AreApart ads
 apart_behind x ads apart = λ i j a b at_a at_b same. let is : suc i ≡ suc j = apart (suc i) (suc j) a b at_a at_b same in omega arith
 
 live_step : (now : ℕ) (x : Advert) (a b : List Advert) → live_ads now a ≡ live_ads now b → live_ads now (x ∷ a) ≡ live_ads now (x ∷ b)

@@ -1,6 +1,5 @@
 -- The turns of a spin, and the spins of a cycle, as they run.
-use Rattle.std.proofs.Common.{◌≡◌, ◌≤◌, ◌<◌, ◌+◌, ◌^◌, ℕ, zero, suc, Bool, true, false, not, cond, if◌then◌else◌, List, [], ◌∷◌, ◌++◌, All, filter, length, map, drop, get_or, slice_get, flat_map, sum, refl, ap, sym, ◌∙◌, subst, arith, append_assoc}
-use Rattle.std.specs.Prelude.{OnErr, Result, Ok, Err}
+use Rattle.std.proofs.Common.{◌≡◌, ◌≤◌, ◌<◌, ◌+◌, ◌^◌, ℕ, zero, suc, Bool, true, false, not, cond, if◌then◌else◌, List, [], ◌∷◌, ◌++◌, All, filter, length, map, drop, get_or, slice_get, flat_map, sum, refl, ap, sym, ◌∙◌, subst, arith, Result, Ok, Err, OnErr, append_assoc}
 use Rattle.std.specs.Option.{option_map_or}
 use Rattle.std.proofs.lemmas.List.{append-nil, drop_all, drop_more, length-map, map-append}
 use Rattle.std.proofs.lemmas.List.Elements.{filter-append}
@@ -191,7 +190,7 @@ module _ (scene : Scene) (began : List Job) where
   few-weights queues active weights few users weights_are =
       let all = few-users m in
       let jobs = length-map began waiting_of in
-      let same = ap length weights_are ∙ length-map (users_at queues active) (λ user. weight_of (priority_of user (settings_of scene.priorities.now))) ∙ ap (length {X = List ℕ}) users in
+      let same = ap length weights_are ∙ length-map (users_at queues active) (λ user. weight_of (priority_of user (settings_of scene.priorities.now))) ∙ ap (λ (us : List (List ℕ)). length us) users in
       omega (arith, few, all, jobs, same)
 
   module _ (queues : List Queue) (active weights slices : List ℕ) (free : ℕ) (free_is : free ≡ free_among (stock_in scene) began) (users_are : users_at queues active ≡ users_of m [])

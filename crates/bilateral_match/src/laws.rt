@@ -72,10 +72,10 @@ pub fn no_other_member_comes_before_the_best(request: &Ad)
 /// More offers leave no more to choose among: a job that finds no resource finds none once more are offered, and there are
 /// no more docks to evaluate for it, and no more attributes to enter.
 pub fn more_offers_leave_no_more_members(request: &Ad)
-    ensures none { (pool : Pool) (offered : ℕ → Bool) → ((slot : ℕ) → pool.is_offered slot ≡ true → offered slot ≡ true)
+    ensures none { (pool : Pool) (offered : ℕ → Bool) → ((place : ℕ) → pool.is_offered place ≡ true → offered place ≡ true)
         → best pool (ad_frames request.now) ≡ None → best (record pool { is_offered = offered }) (ad_frames request.now) ≡ None }
-    ensures undecided { (pool : Pool) (offered : ℕ → Bool) → ((slot : ℕ) → pool.is_offered slot ≡ true → offered slot ≡ true)
+    ensures undecided { (pool : Pool) (offered : ℕ → Bool) → ((place : ℕ) → pool.is_offered place ≡ true → offered place ≡ true)
         → open_count (record pool { is_offered = offered }) (ad_frames request.now) ≤ open_count pool (ad_frames request.now) }
-    ensures entered { (pool : Pool) (offered : ℕ → Bool) → ((slot : ℕ) → pool.is_offered slot ≡ true → offered slot ≡ true)
+    ensures entered { (pool : Pool) (offered : ℕ → Bool) → ((place : ℕ) → pool.is_offered place ≡ true → offered place ≡ true)
         → entered_for (record pool { is_offered = offered }) (ad_frames request.now) ≤ entered_for pool (ad_frames request.now) }
 {}

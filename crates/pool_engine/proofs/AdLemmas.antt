@@ -1,5 +1,5 @@
 -- Ads beside their slots, and ads that leave.
-use Rattle.std.proofs.Common.{◌≡◌, ℕ, zero, suc, ◌+◌, ◌<◌, ◌≤◌, if◌then◌else◌, Bool, true, false, not, List, [], ◌∷◌, ◌++◌, length, map, take, find, None, Some, slice_get, option_map, Result, Ok, Err, OnOk, OnErr, refl, sym, ◌∙◌, ap, inl, inr, arith}
+use Rattle.std.proofs.Common.{◌≡◌, ℕ, zero, suc, ◌+◌, ◌<◌, ◌≤◌, if◌then◌else◌, Bool, true, false, not, List, [], ◌∷◌, ◌++◌, length, map, take, find, Option, None, Some, slice_get, option_map, Result, Ok, Err, OnOk, OnErr, refl, sym, ◌∙◌, ap, inl, inr, arith}
 use Rattle.std.proofs.lemmas.Bool.{cases_Bool}
 use Rattle.std.proofs.lemmas.List.{length-map}
 use Rattle.std.specs.Cmp.Lexicographic.{bytes_decides}
@@ -8,6 +8,8 @@ use Rattle.ad_store.specs.Store.{stock_of}
 use Rattle.pool_replies.specs.declared.rows.AdRow.{AdRow}
 use Rattle.ad_tree.specs.Frames.{Frame}
 use Rattle.ad_store.specs.Stock.{Advert, has, is_live, is_named, slot_beside, without}
+use Rattle.pool_engine.specs.Queue.{claimed_by, offered_to}
+use Rattle.pool_engine.specs.State.{QueuedJob}
 use Rattle.pool_engine.specs.Step.{ad_row, live_ads}
 
 -- an ad that passes a test, with its place and the slot beside it
@@ -46,10 +48,29 @@ pub stock-length : (store : Store) → length (stock_of store).ads ≡ length (s
 stock-length store = length-map store.names.entries _ ∙ sym (length-map store.names.entries _)
 
 -- the rows of the first ads and the next
-pub rows_more : (ads : List Advert) (i : ℕ) (row : AdRow) → option_map ad_row (slice_get ads i) ≡ Some row → map ad_row (take i ads) ++ row ∷ [] ≡ map ad_row (take (suc i) ads)
-rows_more [] i row is = absurd (cc)
-rows_more (x ∷ ads) zero row is = let same : ad_row x ≡ row = cc in ap (λ (r : AdRow). r ∷ []) (sym same)
-rows_more (x ∷ ads) (suc i) row is = ap (λ (rows : List AdRow). ad_row x ∷ rows) (rows_more ads i row is)
+pub rows_more : (jobs : List QueuedJob) (ads : List Advert) (i : ℕ) (row : AdRow) → option_map (ad_row jobs) (slice_get ads i) ≡ Some row → map (ad_row jobs) (take i ads) ++ row ∷ [] ≡ map (ad_row jobs) (take (suc i) ads)
+rows_more jobs [] i row is = absurd (cc)
+rows_more jobs (x ∷ ads) zero row is = let same : ad_row jobs x ≡ row = cc in ap (λ (r : AdRow). r ∷ []) (sym same)
+rows_more jobs (x ∷ ads) (suc i) row is = ap (λ (rows : List AdRow). ad_row jobs x ∷ rows) (rows_more jobs ads i row is)
+
+-- the row of an ad, from what was asked of it
+pub row-is : (jobs : List QueuedJob) (ads : List Advert) (i : ℕ) (name : List ℕ) (born lifetime : ℕ) (claimed offered : Option (List ℕ))
+    → option_map (λ a. a.name) (slice_get ads i) ≡ Some name → option_map (λ a. a.born) (slice_get ads i) ≡ Some born → option_map (λ a. a.lifetime) (slice_get ads i) ≡ Some lifetime
+    → ((a : Advert) → slice_get ads i ≡ Some a → claimed ≡ option_map (λ job. job.name) (claimed_by a.name jobs))
+    → ((a : Advert) → slice_get ads i ≡ Some a → offered ≡ option_map (λ job. job.name) (offered_to a.name jobs))
+    → option_map (ad_row jobs) (slice_get ads i) ≡ Some (record { name = name; born = born; lifetime = lifetime; claimed = claimed; offered = offered })
+row-is jobs ads i name born lifetime claimed offered = by (slice_get ads i)
+  where
+    by : (o : Option Advert) → option_map (λ a. a.name) o ≡ Some name → option_map (λ a. a.born) o ≡ Some born → option_map (λ a. a.lifetime) o ≡ Some lifetime
+        → ((a : Advert) → o ≡ Some a → claimed ≡ option_map (λ job. job.name) (claimed_by a.name jobs))
+        → ((a : Advert) → o ≡ Some a → offered ≡ option_map (λ job. job.name) (offered_to a.name jobs))
+        → option_map (ad_row jobs) o ≡ Some (record { name = name; born = born; lifetime = lifetime; claimed = claimed; offered = offered })
+    by None called birth life claims offers = absurd (cc)
+    by (Some a) called birth life claims offers =
+        let n : a.name ≡ name = cc in
+        let b : a.born ≡ born = cc in
+        let l : a.lifetime ≡ lifetime = cc in
+        λ k. Some (record { name = n k; born = b k; lifetime = l k; claimed = (sym (claims a refl)) k; offered = (sym (offers a refl)) k })
 
 pub named : (name : List ℕ) (x : Advert) → is_named name x ≡ true → name ≡ x.name
 named name x is = (bytes_decides name x.name).0 is
@@ -75,7 +96,7 @@ has_at name (x ∷ ads) (suc i) a at is =
 abbrev pub AreApart : List Advert → Type 0
 AreApart ads = (i j : ℕ) (a b : Advert) → slice_get ads i ≡ Some a → slice_get ads j ≡ Some b → a.name ≡ b.name → i ≡ j
 
-apart_behind : (x : Advert) (ads : List Advert) → AreApart (x ∷ ads) → AreApart ads
+pub apart_behind : (x : Advert) (ads : List Advert) → AreApart (x ∷ ads) → AreApart ads
 apart_behind x ads apart = λ i j a b at_a at_b same. let is : suc i ≡ suc j = apart (suc i) (suc j) a b at_a at_b same in omega arith
 
 live_step : (now : ℕ) (x : Advert) (a b : List Advert) → live_ads now a ≡ live_ads now b → live_ads now (x ∷ a) ≡ live_ads now (x ∷ b)

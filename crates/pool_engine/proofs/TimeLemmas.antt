@@ -1,5 +1,5 @@
 -- No reply is empty, so a sink that took nothing took no reply.
-use Rattle.std.proofs.Common.{◌≡◌, ◌≢◌, ℕ, ◌<◌, ◌==◌, Bool, true, false, List, [], ◌∷◌, ◌++◌, codes, length, take, nat_lt, if◌then◌else◌, Option, None, Some, Result, Ok, Err, refl, ap, arith, length-append, length-take}
+use Rattle.std.proofs.Common.{◌≡◌, ◌≢◌, ℕ, ◌<◌, ◌==◌, Bool, true, false, List, [], ◌∷◌, ◌++◌, codes, length, take, nat_lt, if◌then◌else◌, nat_le, ◌+◌, Option, None, Some, Result, Ok, Err, refl, ap, arith, length-append, length-take}
 use Rattle.std.specs.Io.KnownBytes.{Appends}
 use Rattle.ad_tree.specs.Inline.{Inline, phrase_of, phrase_tree}
 use Rattle.ad_tree.specs.Tree.{Tree}
@@ -9,11 +9,13 @@ use Rattle.ad_parser.specs.declared.fault.ParseFault.TheVariants as faults
 use Rattle.ad_parser.specs.Outcomes.{HasAdOutcome, HasExprOutcome}
 use Rattle.ad_parser.proofs.Outcomes.{ad_outcome, ad_outcome-has, expr_outcome, expr_outcome-has}
 use Rattle.ad_store.specs.Stock.{Advert, has, lack, placed, without}
+use Rattle.std.specs.Option.{option_map_or}
 use Rattle.ad_store.specs.declared.answers.PutFault.{PutFault}
 use Rattle.pool_io.specs.Flow.{Supply}
 use Rattle.pool_script.specs.Commands.{ended_commands}
 use Rattle.pool_script.specs.declared.command.Command.{Command}
 use Rattle.pool_script.specs.declared.command.Command.TheVariants as command
+use Rattle.pool_replies.specs.declared.refusal.Refusal.{Refusal}
 use Rattle.pool_replies.specs.declared.refusal.Refusal.TheVariants as why
 use Rattle.pool_replies.specs.declared.refusal.Room.{Room}
 use Rattle.pool_replies.specs.declared.refusal.Room.TheVariants as room
@@ -25,8 +27,12 @@ use Rattle.pool_replies.specs.Refusals.{fault_text, is_fault_of_text, line_refus
 use Rattle.pool_replies.specs.Replies.{reply_text}
 use Rattle.pool_engine.specs.Ends.{AnswersFirst, Effects, IsWriteFault, before_last}
 use Rattle.pool_engine.specs.Events.{events_of, replies_text, state_after}
-use Rattle.pool_engine.specs.State.{State, opening}
-use Rattle.pool_engine.specs.Step.{ad_named, advertise, clock, eval, eval_beside, eval_in, live_ads, put_ad, query, refused, room_of, show_ad, step, withdraw}
+use Rattle.ad_printer.specs.Values.{printed_frame}
+use Rattle.negotiator.specs.Priorities.{lacks_place, with_setting}
+use Rattle.pool_engine.specs.Queue.{has_job, job_refusal, job_text, without_job}
+use Rattle.claim_table.specs.Jobs.{jobs_limit, text_limit}
+use Rattle.pool_engine.specs.State.{QueuedJob, State, idle, opening}
+use Rattle.pool_engine.specs.Step.{ad_named, advertise, clock, eval, eval_beside, eval_in, is_gang, live_ads, put_ad, query, refused, remove, room_of, set_priority, show, step, submit, take_job, withdraw}
 
 -- ---- no reply is empty
 
@@ -116,6 +122,22 @@ evaluated_told : (s : State) (text : List ℕ) → IsTold (s, reply.Evaluated te
 unfolding reply_text
 evaluated_told s text = back_some text (codes "\n") (omega arith)
 
+used_told : (s : State) → IsTold (refused s why.NameInUse)
+unfolding reply_text refusal_text
+used_told s = omega arith
+
+submitted_told : (s : State) (name : List ℕ) → IsTold (s, reply.Submitted name)
+unfolding reply_text
+submitted_told s name = front_some (codes "submitted ") _ (omega arith)
+
+removed_told : (s : State) (name : List ℕ) → IsTold (s, reply.Removed name)
+unfolding reply_text
+removed_told s name = front_some (codes "removed ") _ (omega arith)
+
+priority_told : (s : State) (user : List ℕ) (n : ℕ) → IsTold (s, reply.Priority user n)
+unfolding reply_text
+priority_told s user n = front_some (codes "priority ") _ (omega arith)
+
 ads_told : (s : State) (rows : List AdRow) → IsTold (s, reply.Ads rows)
 unfolding reply_text
 ads_told s rows = front_some (codes "ads ") _ (omega arith)
@@ -127,14 +149,14 @@ hits_told s rows = front_some (codes "hits ") _ (omega arith)
 -- ---- the replies to commands
 
 clock_told : (s : State) (n : ℕ) → IsTold (clock s n)
-clock_told s n = holds_if IsTold (nat_lt n s.moment) (refused s why.ClockBack) _ (back_told s) (moment_told (record { moment = n; ads = live_ads n s.ads }) n _)
+clock_told s n = holds_if IsTold (nat_lt n s.moment) (refused s why.ClockBack) _ (back_told s) (moment_told s n _)
 
 named_told : (s : State) (name : List ℕ) (b : Bool) → IsTold (s, if b then reply.Replaced name else reply.Advertised name)
 named_told s name b = holds_if (λ (r : Reply). IsTold (s, r)) b (reply.Replaced name) (reply.Advertised name) (replaced_told s name) (advertised_told s name)
 
 put_told : (s : State) (advert : Advert) (lacking : Option PutFault) → IsTold (put_ad s advert lacking)
 put_told s advert (Some lacking) = full_told s (room_of lacking)
-put_told s advert None = named_told (record { moment = s.moment; ads = placed advert s.ads }) advert.name (has advert.name s.ads)
+put_told s advert None = named_told s advert.name (has advert.name s.ads)
 
 -- a fault that isn't want of memory is one of a text
 told_fault : (fault : ParseFault) → fault ≢ faults.OutOfMemory → is_fault_of_text fault ≡ true
@@ -151,41 +173,69 @@ advertise_told s name text lifetime size (Ok x) has_outcome = put_told s _ (lack
 advertise_told s name text lifetime size (Err fault) has_outcome = text_told s fault (told_fault fault has_outcome.1)
 
 withdraw_told : (s : State) (name : List ℕ) → IsTold (withdraw s name)
-withdraw_told s name = holds_if IsTold (has name s.ads) _ (refused s why.UnknownName) (withdrawn_told (record { moment = s.moment; ads = without name s.ads }) name) (unknown_told s)
+withdraw_told s name = holds_if IsTold (has name s.ads) _ (refused s why.UnknownName) (withdrawn_told s name) (unknown_told s)
 
-show_told : (s : State) (found : Option Advert) → IsTold (show_ad s found)
-show_told s None = unknown_told s
-show_told s (Some advert) = shown_told s _
+show_told : (s : State) (name : List ℕ) (ads : List Advert) → IsTold (s, show name ads)
+show_told s name ads = by (ad_named name ads)
+  where
+    by : (found : Option Advert) → IsTold (s, option_map_or (λ advert. reply.Shown (printed_frame advert.ad 0)) found (reply.Refused why.UnknownName))
+    by None = unknown_told s
+    by (Some advert) = shown_told s _
 
-eval_told : (s : State) (text : List ℕ) (outcome : Result Inline ParseFault) → HasExprOutcome text outcome → IsTold (eval s outcome)
-eval_told s text (Ok x) has_outcome = evaluated_told s _
-eval_told s text (Err fault) has_outcome = text_told s fault (told_fault fault has_outcome.1)
+eval_told : (s : State) (moment : ℕ) (text : List ℕ) (outcome : Result Inline ParseFault) → HasExprOutcome text outcome → IsTold (s, eval moment outcome)
+eval_told s moment text (Ok x) has_outcome = evaluated_told s _
+eval_told s moment text (Err fault) has_outcome = text_told s fault (told_fault fault has_outcome.1)
 
-beside_told : (s : State) (frames : List Frame) (t : Tree) (found : Option Advert) → IsTold (eval_beside s frames t found)
-beside_told s frames t None = unknown_told s
-beside_told s frames t (Some advert) = evaluated_told s _
+beside_told : (s : State) (moment : ℕ) (frames : List Frame) (t : Tree) (found : Option Advert) → IsTold (s, eval_beside moment frames t found)
+beside_told s moment frames t None = unknown_told s
+beside_told s moment frames t (Some advert) = evaluated_told s _
 
-eval_in_told : (s : State) (name text : List ℕ) (outcome : Result Inline ParseFault) → HasExprOutcome text outcome → IsTold (eval_in s name outcome)
-eval_in_told s name text (Ok x) has_outcome = beside_told s (phrase_of x) (phrase_tree x) (ad_named name s.ads)
-eval_in_told s name text (Err fault) has_outcome = text_told s fault (told_fault fault has_outcome.1)
+eval_in_told : (s : State) (moment : ℕ) (ads : List Advert) (name text : List ℕ) (outcome : Result Inline ParseFault) → HasExprOutcome text outcome → IsTold (s, eval_in moment ads name outcome)
+eval_in_told s moment ads name text (Ok x) has_outcome = beside_told s moment (phrase_of x) (phrase_tree x) (ad_named name ads)
+eval_in_told s moment ads name text (Err fault) has_outcome = text_told s fault (told_fault fault has_outcome.1)
 
-query_told : (s : State) (text : List ℕ) (outcome : Result Inline ParseFault) → HasAdOutcome text outcome → IsTold (query s outcome)
-query_told s text (Ok x) has_outcome = hits_told s _
-query_told s text (Err fault) has_outcome = text_told s fault (told_fault fault has_outcome.1)
+query_told : (s : State) (moment : ℕ) (ads : List Advert) (text : List ℕ) (outcome : Result Inline ParseFault) → HasAdOutcome text outcome → IsTold (s, query moment ads outcome)
+query_told s moment ads text (Ok x) has_outcome = hits_told s _
+query_told s moment ads text (Err fault) has_outcome = text_told s fault (told_fault fault has_outcome.1)
+
+-- the refusal, where there is one, has a text
+abbrev IsRefusalTold : State → Option Refusal → Type 0
+IsRefusalTold s None = Unit {0}
+IsRefusalTold s (Some reason) = IsTold (refused s reason)
+
+refusal_told : (s : State) (name : List ℕ) (size : ℕ) (jobs : List QueuedJob) → IsRefusalTold s (job_refusal name size jobs)
+refusal_told s name size jobs =
+    holds_if (IsRefusalTold s) (has_job name jobs) _ _ (used_told s)
+    (holds_if (IsRefusalTold s) (nat_le jobs_limit (length jobs)) _ _ (full_told s room.Jobs)
+    (holds_if (IsRefusalTold s) (nat_lt text_limit (job_text jobs + size)) _ _ (full_told s room.JobText) tt))
+
+take_told : (s : State) (job : QueuedJob) (reason : Option Refusal) → IsRefusalTold s reason → IsTold (take_job s job reason)
+take_told s job (Some reason) told = told
+take_told s job None told = holds_if IsTold (is_gang job.ad) (refused s why.NotBuilt) _ (unbuilt_told s) (submitted_told s job.name)
+
+submit_told : (s : State) (name user text : List ℕ) (size : ℕ) (outcome : Result Inline ParseFault) → HasAdOutcome text outcome → IsTold (submit s name user size outcome)
+submit_told s name user text size (Ok x) has_outcome = take_told s _ (job_refusal name size s.jobs) (refusal_told s name size s.jobs)
+submit_told s name user text size (Err fault) has_outcome = text_told s fault (told_fault fault has_outcome.1)
+
+remove_told : (s : State) (name : List ℕ) → IsTold (remove s name)
+remove_told s name = holds_if IsTold (has_job name s.jobs) _ (refused s why.UnknownName) (removed_told s name) (unknown_told s)
+
+set_priority_told : (s : State) (user : List ℕ) (n : ℕ) → IsTold (set_priority s user n)
+set_priority_told s user n = holds_if IsTold (lacks_place user s.priorities) (refused s (why.Full room.Users)) _ (full_told s room.Users) (priority_told s user n)
 
 pub step_told : (s : State) (c : Command) → IsTold (step s c)
 unfolding step
 step_told s (command.Clock n) = clock_told s n
 step_told s (command.Advertise name lifetime block) = advertise_told s name block lifetime (length block) (ad_outcome block) (ad_outcome-has block)
 step_told s (command.Withdraw name) = withdraw_told s name
-step_told s (command.Show name) = show_told s (ad_named name s.ads)
+step_told s (command.Show name) = show_told s name s.ads
 step_told s command.List = ads_told s _
-step_told s (command.Eval expr) = eval_told s expr (expr_outcome expr) (expr_outcome-has expr)
-step_told s (command.EvalIn name expr) = eval_in_told s name expr (expr_outcome expr) (expr_outcome-has expr)
-step_told s (command.Query block) = query_told s block (ad_outcome block) (ad_outcome-has block)
-step_told s (command.Submit job user block) = unbuilt_told s
-step_told s (command.Remove job) = unbuilt_told s
-step_told s (command.Priority user n) = unbuilt_told s
+step_told s (command.Eval expr) = eval_told s s.moment expr (expr_outcome expr) (expr_outcome-has expr)
+step_told s (command.EvalIn name expr) = eval_in_told s s.moment s.ads name expr (expr_outcome expr) (expr_outcome-has expr)
+step_told s (command.Query block) = query_told s s.moment s.ads block (ad_outcome block) (ad_outcome-has block)
+step_told s (command.Submit job user block) = submit_told s job user block (length block) (ad_outcome block) (ad_outcome-has block)
+step_told s (command.Remove job) = remove_told s job
+step_told s (command.Priority user n) = set_priority_told s user n
 step_told s (command.Gang block) = unbuilt_told s
 step_told s command.Negotiate = unbuilt_told s
 step_told s (command.Claim job) = unbuilt_told s

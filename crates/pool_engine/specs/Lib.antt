@@ -1,9 +1,15 @@
+pub mod Books
+pub mod Changes
 pub mod Ends
 pub mod Events
 pub mod Indexed
 pub mod Limits
+pub mod Negotiation
 pub mod Pool
+pub mod Queue
+pub mod Rows
 pub mod Session
 pub mod State
 pub mod Step
 pub mod Stocks
+pub mod Stored

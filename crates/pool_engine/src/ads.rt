@@ -1,18 +1,23 @@
 // The commands on the ads of the pool.
-ghost use Rattle.std.specs.Prelude.{◌≡◌, ◌+◌, ◌-◌, ◌<◌, ◌≤◌, ℕ, length, map, option_map, slice_get, Some, Contains, IfOk, IsTrue, OnErr, OnOk};
+ghost use Rattle.std.specs.Prelude.{◌≡◌, ◌+◌, ◌<◌, ◌≤◌, ℕ, List, length, map, option_map, slice_get, Some, Contains, IfOk, IfSome, IsTrue};
+ghost use Rattle.std.specs.Option.{option_and_then};
 ghost use Rattle.ad_parser.proofs.Outcomes.{ad_outcome};
-ghost use Rattle.ad_store.specs.Stock.{first_expired};
 ghost use Rattle.ad_store.specs.Store.{stock_of};
+ghost use Rattle.claim_table.specs.Table.{jobs_of};
+ghost use Rattle.negotiator.specs.Priorities.{Setting};
 ghost use Rattle.pool_script.specs.Form.{is_block_text};
 ghost use Rattle.pool_replies.specs.Replies.{is_printable};
+ghost use Rattle.pool_engine.specs.Books.{queue_of};
 ghost use Rattle.pool_engine.specs.Indexed.{ads_of};
+ghost use Rattle.pool_engine.specs.Pool.{state_with};
 ghost use Rattle.pool_engine.specs.Step as steps;
 
-use crate::indexed::IndexedStore;
+use crate::books::Books;
 use crate::pool::told;
 use ad_parser::parse_ad;
 use ad_printer::print_ad;
-use ad_store::{NoName, Put, PutFault, Store};
+use ad_store::{Put, PutFault, Store};
+use claim_table::ClaimTable;
 use pool_replies::{AdRow, AdRows, Refusal, Reply, Room};
 use pool_steps::Steps;
 use pool_text::{OutOfMemory, Text};
@@ -23,7 +28,7 @@ use std::sync::ledger::Ledger;
 #[tactic(auto, unfolding(pool_replies::specs::Replies::is_printable, pool_replies::specs::Refusals::is_printable_refusal))]
 pub(crate) fn advertise<T: Ledger>(
     alloc: Global,
-    ads: &mut IndexedStore,
+    books: &mut Books,
     moment: u64,
     name: &Text,
     lifetime: u64,
@@ -31,9 +36,9 @@ pub(crate) fn advertise<T: Ledger>(
     touch: &mut Steps<T>,
 ) -> Result<Reply, OutOfMemory>
     requires { IsTrue (is_block_text block.now) }
-    ensures step { IfOk result (λ reply.
-        steps.advertise (record { moment = moment; ads = ads_of ads.old }) name.now lifetime (length block.now) (ad_outcome block.now)
-        ≡ (record { moment = moment; ads = ads_of ads.new }, reply)) }
+    ensures step { IfOk result (λ reply. (priorities : List Setting)
+        → steps.advertise (state_with moment priorities books.old) name.now lifetime (length block.now) (ad_outcome block.now)
+        ≡ (state_with moment priorities books.new, reply)) }
     ensures printable { IfOk result (λ reply. IsTrue (is_printable reply)) }
     ensures looks { touch.new ≤ touch.old + 2 }
 {
@@ -42,14 +47,8 @@ pub(crate) fn advertise<T: Ledger>(
         Err(fault) => return Ok(Reply::Refused(Refusal::AdText(told(fault)?))),
     };
     let named = name.copy()?;
-    match ads.put(
-        name.bytes(),
-        moment,
-        lifetime,
-        block.len() as u64,
-        ad,
-        touch,
-    ) {
+    let size = block.len() as u64;
+    match books.put(alloc, name.bytes(), moment, lifetime, size, ad, touch) {
         Ok(Put::Added(_)) => Ok(Reply::Advertised(named)),
         Ok(Put::Replaced(_)) => Ok(Reply::Replaced(named)),
         Err(PutFault::Full) => Ok(Reply::Refused(Refusal::Full(Room::Ads))),
@@ -61,59 +60,21 @@ pub(crate) fn advertise<T: Ledger>(
 /// `withdraw`: the ad of the name is taken out. It counts one at most in `touch`.
 #[tactic(auto, unfolding(pool_replies::specs::Replies::is_printable, pool_replies::specs::Refusals::is_printable_refusal))]
 pub(crate) fn withdraw<T: Ledger>(
-    ads: &mut IndexedStore,
-    moment: u64,
+    books: &mut Books,
     name: &Text,
     touch: &mut Steps<T>,
 ) -> Result<Reply, OutOfMemory>
-    ensures step { IfOk result (λ reply.
-        steps.withdraw (record { moment = moment; ads = ads_of ads.old }) name.now
-        ≡ (record { moment = moment; ads = ads_of ads.new }, reply)) }
+    ensures step { IfOk result (λ reply. (moment : ℕ) (priorities : List Setting)
+        → steps.withdraw (state_with moment priorities books.old) name.now ≡ (state_with moment priorities books.new, reply)) }
     ensures printable { IfOk result (λ reply. IsTrue (is_printable reply)) }
     ensures looks { touch.new ≤ touch.old + 1 }
 {
     let named = name.copy()?;
-    match ads.withdraw(name.bytes(), touch) {
-        Ok(()) => Ok(Reply::Withdrawn(named)),
-        Err(NoName) => Ok(Reply::Refused(Refusal::UnknownName)),
+    if books.withdraw(name.bytes(), touch)? {
+        Ok(Reply::Withdrawn(named))
+    } else {
+        Ok(Reply::Refused(Refusal::UnknownName))
     }
-}
-
-/// The ads that are no longer live leave. Answers how many they were, and counts one at most in `touch` for each.
-pub(crate) fn expire<T: Ledger>(
-    ads: &mut IndexedStore,
-    now: u64,
-    touch: &mut Steps<T>,
-) -> Result<u64, OutOfMemory>
-    ensures ads { OnOk result (ads_of ads.new ≡ steps.live_ads now (ads_of ads.old)) }
-    ensures count { IfOk result (λ n. n ≡ length (ads_of ads.old) - length (steps.live_ads now (ads_of ads.old))) }
-    ensures looks { touch.new ≤ touch.old + (length (ads_of ads.old) - length (steps.live_ads now (ads_of ads.old))) }
-{
-    let before = ads.store.len();
-    while let Some(slot) = ads.store.next_expired(now) {
-        take_out(ads, now, slot, touch)?;
-    }
-    Ok((before - ads.store.len()) as u64)
-}
-
-/// Takes out an ad that is no longer live.
-fn take_out<T: Ledger>(
-    ads: &mut IndexedStore,
-    now: u64,
-    slot: usize,
-    touch: &mut Steps<T>,
-) -> Result<(), OutOfMemory>
-    requires first { first_expired now (stock_of ads.old.store) ≡ Some slot }
-    requires held { Contains (stock_of ads.old.store).slots slot }
-    ensures live { OnOk result (steps.live_ads now (ads_of ads.new) ≡ steps.live_ads now (ads_of ads.old)) }
-    ensures fewer { OnOk result (length (ads_of ads.new) < length (ads_of ads.old)) }
-    ensures looks { OnOk result (touch.new ≤ touch.old + 1) }
-    ensures none { OnErr result (touch.new ≡ touch.old) }
-{
-    ads.store.names_are_apart();
-    let name = ads.store.name(slot).copy()?;
-    let _ = ads.withdraw(name.bytes(), touch);
-    Ok(())
 }
 
 /// `show`: the ad of the name is printed. It counts one in `touch`.
@@ -121,13 +82,10 @@ fn take_out<T: Ledger>(
 pub(crate) fn show<T: Ledger>(
     alloc: Global,
     store: &Store,
-    moment: u64,
     name: &[u8],
     touch: &mut Steps<T>,
 ) -> Result<Reply, OutOfMemory>
-    ensures step { IfOk result (λ reply.
-        steps.show (record { moment = moment; ads = (stock_of store.now).ads }) name.now
-        ≡ (record { moment = moment; ads = (stock_of store.now).ads }, reply)) }
+    ensures reply { IfOk result (λ reply. steps.show name.now (stock_of store.now).ads ≡ reply) }
     ensures printable { IfOk result (λ reply. IsTrue (is_printable reply)) }
     ensures looks { touch.new ≤ touch.old + 1 }
 {
@@ -138,26 +96,44 @@ pub(crate) fn show<T: Ledger>(
 }
 
 /// `list`: a row for each ad in order.
-pub(crate) fn rows(alloc: Global, store: &Store) -> Result<AdRows, OutOfMemory>
-    ensures { IfOk result (λ rows. rows ≡ map steps.ad_row (stock_of store.now).ads) }
+pub(crate) fn rows(alloc: Global, books: &Books) -> Result<AdRows, OutOfMemory>
+    ensures { IfOk result (λ rows. rows ≡ map (steps.ad_row (queue_of books.now)) (ads_of books.now.ads)) }
 {
+    let store = &books.ads.store;
     let mut rows = AdRows::new(alloc);
     for i in 0..store.len() {
-        rows.push(row(store, store.at(i))?)?;
+        rows.push(row(books, store.at(i))?)?;
     }
     Ok(rows)
 }
 
-fn row(store: &Store, slot: usize) -> Result<AdRow, OutOfMemory>
-    requires { Contains (stock_of store.now).slots slot }
-    ensures { IfOk result (λ row. (i : ℕ) → slice_get (stock_of store.now).slots i ≡ Some slot
-        → option_map steps.ad_row (slice_get (stock_of store.now).ads i) ≡ Some row) }
+// The row of the ad in a slot.
+fn row(books: &Books, slot: usize) -> Result<AdRow, OutOfMemory>
+    requires { Contains (stock_of books.now.ads.store).slots slot }
+    ensures { IfOk result (λ row. (i : ℕ) → slice_get (stock_of books.now.ads.store).slots i ≡ Some slot
+        → option_map (steps.ad_row (queue_of books.now)) (slice_get (ads_of books.now.ads) i) ≡ Some row) }
 {
+    let store = &books.ads.store;
+    store.names_are_apart();
+    store.slots_are_apart();
+    let claims = &books.claims;
     Ok(AdRow {
         name: store.name(slot).copy()?,
         born: store.born(slot),
         lifetime: store.lifetime(slot),
-        claimed: None,
-        offered: None,
+        claimed: job_name(claims, claims.claimed_by(slot))?,
+        offered: job_name(claims, claims.offered_to(slot))?,
     })
+}
+
+// The name of the job of a number, where there is one.
+fn job_name(claims: &ClaimTable, number: Option<usize>) -> Result<Option<Text>, OutOfMemory>
+    requires { IfSome number (λ i. i < length (jobs_of claims.now)) }
+    ensures { IfOk result (λ name. name
+        ≡ option_map (λ job. job.name) (option_and_then (λ i. slice_get (jobs_of claims.now) i) number)) }
+{
+    match number {
+        Some(i) => Ok(Some(claims.job(i).copy()?)),
+        None => Ok(None),
+    }
 }

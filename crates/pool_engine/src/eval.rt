@@ -25,16 +25,13 @@ use std::sync::ledger::Ledger;
 #[tactic(auto, unfolding(pool_replies::specs::Replies::is_printable, pool_replies::specs::Refusals::is_printable_refusal))]
 pub(crate) fn eval<F: Ledger, E: Ledger>(
     alloc: Global,
-    store: &Store,
     moment: u64,
     expr: &[u8],
     tops: &mut Steps<F>,
     entry: &mut Steps<E>,
 ) -> Result<Reply, OutOfMemory>
     requires { IsTrue (is_expr expr.now) }
-    ensures step { IfOk result (λ reply.
-        steps.eval (record { moment = moment; ads = (stock_of store.now).ads }) (expr_outcome expr.now)
-        ≡ (record { moment = moment; ads = (stock_of store.now).ads }, reply)) }
+    ensures reply { IfOk result (λ reply. steps.eval moment (expr_outcome expr.now) ≡ reply) }
     ensures printable { IfOk result (λ reply. IsTrue (is_printable reply)) }
     ensures cost { tops.new ≤ tops.old + 1 }
 {
@@ -61,9 +58,7 @@ pub(crate) fn eval_in<F: Ledger, E: Ledger, T: Ledger>(
     touch: &mut Steps<T>,
 ) -> Result<Reply, OutOfMemory>
     requires { IsTrue (is_expr expr.now) }
-    ensures step { IfOk result (λ reply.
-        steps.eval_in (record { moment = moment; ads = (stock_of store.now).ads }) name.now (expr_outcome expr.now)
-        ≡ (record { moment = moment; ads = (stock_of store.now).ads }, reply)) }
+    ensures reply { IfOk result (λ reply. steps.eval_in moment (stock_of store.now).ads name.now (expr_outcome expr.now) ≡ reply) }
     ensures printable { IfOk result (λ reply. IsTrue (is_printable reply)) }
     ensures cost { tops.new ≤ tops.old + 1 }
     ensures looks { touch.new ≤ touch.old + 1 }
@@ -89,10 +84,8 @@ fn eval_beside<F: Ledger, E: Ledger, T: Ledger>(
     entry: &mut Steps<E>,
     touch: &mut Steps<T>,
 ) -> Result<Reply, OutOfMemory>
-    ensures step { IfOk result (λ reply.
-        steps.eval_beside (record { moment = moment; ads = (stock_of store.now).ads }) (ad_frames phrase.now.ad) (tree phrase.now.expr)
-        (steps.ad_named name.now (stock_of store.now).ads)
-        ≡ (record { moment = moment; ads = (stock_of store.now).ads }, reply)) }
+    ensures reply { IfOk result (λ reply. steps.eval_beside moment (ad_frames phrase.now.ad) (tree phrase.now.expr)
+        (steps.ad_named name.now (stock_of store.now).ads) ≡ reply) }
     ensures printable { IfOk result (λ reply. IsTrue (is_printable reply)) }
     ensures cost { tops.new ≤ tops.old + 1 }
     ensures looks { touch.new ≤ touch.old + 1 }

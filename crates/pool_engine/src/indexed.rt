@@ -1,8 +1,8 @@
 // The ads of a pool with the index of their literals.
 ghost use Rattle.std.specs.Prelude.{◌≡◌, ◌≢◌, ◌+◌, ◌≤◌, [], true, false, not, IfErr, IfOk, None, OnErr, OnOk, Some};
 ghost use Rattle.std.proofs.Props.{props};
-ghost use Rattle.ad_store.specs.Answers.{is_added};
-ghost use Rattle.ad_store.specs.Stock.{has, lack, placed, without};
+ghost use Rattle.ad_store.specs.Answers.{is_added, slots_put};
+ghost use Rattle.ad_store.specs.Stock.{has, lack, placed, slots_without, without};
 ghost use Rattle.ad_store.specs.Store.{stock_of};
 ghost use Rattle.ad_tree.specs.Ad.{ad_frames};
 ghost use Rattle.literal_index.specs.Shown.{IsIndex};
@@ -51,10 +51,11 @@ impl IndexedStore {
     ) -> Result<Put, PutFault>
         ensures ads { OnOk result (ads_of self.new
             ≡ placed (record { name = name.now; born = born; lifetime = lifetime; size = text_len; ad = ad_frames ad }) (ads_of self.old)) }
+        ensures slots { IfOk result (λ put. (stock_of self.new.store).slots ≡ slots_put put (stock_of self.old.store).slots) }
         ensures added { IfOk result (λ put. is_added put ≡ not (has name.now (ads_of self.old))) }
         ensures room { OnOk result (lack name.now text_len (ads_of self.old) ≡ None) }
         ensures cause { IfErr result (λ fault. fault ≢ PutFault.OutOfMemory
-            → (lack name.now text_len (ads_of self.old) ≡ Some fault) × (ads_of self.new ≡ ads_of self.old)) }
+            → (lack name.now text_len (ads_of self.old) ≡ Some fault) × (stock_of self.new.store ≡ stock_of self.old.store)) }
         ensures looks { touch.new ≤ touch.old + 2 }
     {
         forget(&self.store, &mut self.index, name, touch);
@@ -73,8 +74,10 @@ impl IndexedStore {
     ) -> Result<(), NoName>
         ensures held { OnOk result (has name.now (ads_of self.old) ≡ true) }
         ensures ads { OnOk result (ads_of self.new ≡ without name.now (ads_of self.old)) }
+        ensures slots { OnOk result ((stock_of self.new.store).slots
+            ≡ slots_without name.now (ads_of self.old) (stock_of self.old.store).slots) }
         ensures none { OnErr result (has name.now (ads_of self.old) ≡ false) }
-        ensures err { OnErr result (ads_of self.new ≡ ads_of self.old) }
+        ensures err { OnErr result (stock_of self.new.store ≡ stock_of self.old.store) }
         ensures looks { touch.new ≤ touch.old + 1 }
     {
         forget(&self.store, &mut self.index, name, touch);

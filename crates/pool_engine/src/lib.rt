@@ -2,9 +2,12 @@
 #![tactic(auto)]
 
 mod ads;
+mod books;
 mod eval;
 mod indexed;
+mod jobs;
 mod laws;
+mod negotiation;
 mod pool;
 mod query;
 mod run;

@@ -3,14 +3,18 @@ ghost use Rattle.std.specs.Prelude.{◌≡◌, ◌+◌, ◌≤◌, true, false, 
 ghost use Rattle.pool_script.specs.Form.{is_within_form};
 ghost use Rattle.pool_replies.specs.Refusals.{is_fault_of_text};
 ghost use Rattle.pool_replies.specs.Replies.{is_printable};
+ghost use Rattle.pool_engine.specs.Changes.{changes_nothing};
 ghost use Rattle.pool_engine.specs.State.{opening};
 ghost use Rattle.pool_engine.specs.Step as steps;
 
-use crate::ads::{advertise, expire, rows, show, withdraw};
+use crate::ads::{advertise, rows, show, withdraw};
+use crate::books::Books;
 use crate::eval::{eval, eval_in};
-use crate::indexed::IndexedStore;
+use crate::jobs::{remove, set_priority, submit};
+use crate::negotiation::negotiate;
 use crate::query::query;
 use ad_parser::ParseFault;
+use negotiator::Priorities;
 use pool_replies::{Refusal, Reply};
 use pool_script::Command;
 use pool_steps::Steps;
@@ -23,14 +27,15 @@ use std::sync::ledger::Ledger;
 pub struct Pool {
     alloc: Global,
     moment: u64,
-    ads: IndexedStore,
+    books: Books,
+    priorities: Priorities,
     spent: bool,
 }
 
 impl Pool {
     ghost use Rattle.pool_engine.specs.Pool.{is_spent, state_of};
 
-    /// The pool at moment 0, with no ads.
+    /// The pool at moment 0, with no ads, jobs and priorities.
     #[tactic(auto, unfolding(crate::specs::Pool::state_of, crate::specs::Pool::is_spent))]
     pub fn new(alloc: Global) -> Pool
         ensures state { state_of result ≡ opening }
@@ -39,7 +44,8 @@ impl Pool {
         Pool {
             alloc,
             moment: 0,
-            ads: IndexedStore::new(alloc),
+            books: Books::new(alloc),
+            priorities: Priorities::new(alloc),
             spent: false,
         }
     }
@@ -93,33 +99,57 @@ impl Pool {
                 block,
             } => advertise(
                 self.alloc,
-                &mut self.ads,
+                &mut self.books,
                 self.moment,
                 name,
                 *lifetime,
                 block.bytes(),
                 touch,
             ),
-            Command::Withdraw(name) => withdraw(&mut self.ads, self.moment, name, touch),
-            Command::Show(name) => show(
+            Command::Withdraw(name) => withdraw(&mut self.books, name, touch),
+            Command::Submit { job, user, block } => {
+                submit(self.alloc, &mut self.books, job, user, block.bytes())
+            }
+            Command::Remove(job) => remove(&mut self.books, job),
+            Command::Priority { user, n } => set_priority(&mut self.priorities, user, *n),
+            Command::Negotiate => negotiate(
                 self.alloc,
-                &self.ads.store,
+                &mut self.books,
+                &self.priorities,
                 self.moment,
-                name.bytes(),
-                touch,
-            ),
-            Command::List => Ok(Reply::Ads(rows(self.alloc, &self.ads.store)?)),
-            Command::Eval(expr) => eval(
-                self.alloc,
-                &self.ads.store,
-                self.moment,
-                expr.bytes(),
                 tops,
                 entry,
+                touch,
             ),
+            _ => self.tell(command, tops, entry, touch),
+        }
+    }
+
+    // Runs a command that changes nothing.
+    #[tactic(auto, unfolding(crate::specs::Pool::state_of, crate::specs::Step::step, crate::specs::Step::allowance, crate::specs::Step::undecided, crate::specs::Step::looks, pool_script::specs::Form::is_within_form, pool_replies::specs::Replies::is_printable, pool_replies::specs::Refusals::is_printable_refusal))]
+    fn tell<F: Ledger, E: Ledger, T: Ledger>(
+        &self,
+        command: &Command,
+        tops: &mut Steps<F>,
+        entry: &mut Steps<E>,
+        touch: &mut Steps<T>,
+    ) -> Result<Reply, OutOfMemory>
+        requires form { IsTrue (is_within_form command.now) }
+        requires kept { IsTrue (changes_nothing command.now) }
+        ensures step { IfOk result (λ reply. steps.step (state_of self.now) command.now ≡ (state_of self.now, reply)) }
+        ensures printable { IfOk result (λ reply. IsTrue (is_printable reply)) }
+        ensures cost { tops.new ≤ tops.old + steps.allowance (state_of self.now) command.now }
+        ensures looks { touch.new ≤ touch.old + steps.looks (state_of self.now) command.now }
+    {
+        let alloc = self.alloc;
+        let store = &self.books.ads.store;
+        match command {
+            Command::Show(name) => show(alloc, store, name.bytes(), touch),
+            Command::List => Ok(Reply::Ads(rows(alloc, &self.books)?)),
+            Command::Eval(expr) => eval(alloc, self.moment, expr.bytes(), tops, entry),
             Command::EvalIn { name, expr } => eval_in(
-                self.alloc,
-                &self.ads.store,
+                alloc,
+                store,
                 self.moment,
                 name.bytes(),
                 expr.bytes(),
@@ -128,8 +158,8 @@ impl Pool {
                 touch,
             ),
             Command::Query(block) => query(
-                self.alloc,
-                &self.ads,
+                alloc,
+                &self.books.ads,
                 self.moment,
                 block.bytes(),
                 tops,
@@ -150,7 +180,7 @@ impl Pool {
         if n < self.moment {
             return Ok(Reply::Refused(Refusal::ClockBack));
         }
-        let expired = expire(&mut self.ads, n, touch)?;
+        let expired = self.books.expire(n, touch)?;
         self.moment = n;
         Ok(Reply::Clock { moment: n, expired })
     }

@@ -39,14 +39,10 @@ pub(crate) fn query<F: Ledger, E: Ledger, T: Ledger>(
     touch: &mut Steps<T>,
 ) -> Result<Reply, OutOfMemory>
     requires { IsTrue (is_block_text block.now) }
-    ensures step { IfOk result (λ reply.
-        steps.query (record { moment = moment; ads = ads_of ads.now }) (ad_outcome block.now)
-        ≡ (record { moment = moment; ads = ads_of ads.now }, reply)) }
+    ensures reply { IfOk result (λ reply. steps.query moment (ads_of ads.now) (ad_outcome block.now) ≡ reply) }
     ensures printable { IfOk result (λ reply. IsTrue (is_printable reply)) }
-    ensures cost { tops.new ≤ tops.old
-        + 5 * steps.undecided_docks (record { moment = moment; ads = ads_of ads.now }) (ad_outcome block.now) }
-    ensures looks { touch.new ≤ touch.old
-        + steps.narrowest (record { moment = moment; ads = ads_of ads.now }) (ad_outcome block.now) }
+    ensures cost { tops.new ≤ tops.old + 5 * steps.undecided_docks (ads_of ads.now) (ad_outcome block.now) }
+    ensures looks { touch.new ≤ touch.old + steps.narrowest (ads_of ads.now) (ad_outcome block.now) }
 {
     let ad = match parse_ad(alloc, block) {
         Ok(ad) => ad,

@@ -2,20 +2,17 @@ use Rattle.std.proofs.Common.{sym}
 use Rattle.ad_tree.specs.Ad.{ad_frames}
 use Rattle.ad_store.specs.Stock.{is_named}
 use Rattle.ad_store.specs.Store.{stock_of}
-use Rattle.pool_engine.specs.State.{State}
 use Rattle.pool_engine.proofs.AdLemmas.{own_frames, slot_beside-found, slot_beside-none, stock-length}
 use Rattle.pool_engine.proofs.StepLemmas.{show-found, show-unknown}
 use Rattle.pool_engine.proofs.ads.show.Goals as goal
 
-pub returns-in_default-clause-step : goal.returns-in_default-clause-step
-returns-in_default-clause-step g c =
+pub returns-in_default-clause-reply : goal.returns-in_default-clause-reply
+returns-in_default-clause-reply g c =
     let old = stock_of c.args.store.now in
-    let s : State = record { moment = c.args.moment; ads = old.ads } in
-    show-unknown s c.args.name.now (slot_beside-none (is_named c.args.name.now) old.ads old.slots (stock-length c.args.store.now) (sym c.in_default.ensures.slot))
+    show-unknown c.args.name.now old.ads (slot_beside-none (is_named c.args.name.now) old.ads old.slots (stock-length c.args.store.now) (sym c.in_default.ensures.slot))
 
-pub returns-clause-step : goal.returns-clause-step
-returns-clause-step g c =
+pub returns-clause-reply : goal.returns-clause-reply
+returns-clause-reply g c =
     let old = stock_of c.args.store.now in
-    let s : State = record { moment = c.args.moment; ads = old.ads } in
     let beside = slot_beside-found (is_named c.args.name.now) old.ads old.slots c.in-Some.slot (sym c.in-Some.ensures.slot) in
-    show-found s c.args.name.now beside.advert (ad_frames c.look.result.now) c.in_ok-print_ad.field-0 beside.found (own_frames old.ads beside.place beside.advert (ad_frames c.look.result.now) beside.at (c.look.ensures.ad beside.place beside.slot_at)) c.in_ok-print_ad.ensures
+    show-found c.args.name.now old.ads beside.advert (ad_frames c.look.result.now) c.in_ok-print_ad.field-0 beside.found (own_frames old.ads beside.place beside.advert (ad_frames c.look.result.now) beside.at (c.look.ensures.ad beside.place beside.slot_at)) c.in_ok-print_ad.ensures

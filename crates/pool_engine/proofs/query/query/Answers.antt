@@ -4,44 +4,43 @@ use Rattle.ad_parser.proofs.Outcomes.{ad_outcome, ad_outcome-has}
 use Rattle.pool_replies.specs.Refusals.{is_fault_of_text}
 use Rattle.pool_replies.specs.declared.refusal.Refusal.TheVariants.{AdText}
 use Rattle.pool_engine.specs.Indexed.{ads_of}
-use Rattle.pool_engine.specs.State.{State}
-use Rattle.pool_engine.specs.Step.{refused}
+use Rattle.pool_replies.specs.declared.reply.Reply.TheVariants.{Refused}
 use Rattle.pool_engine.proofs.StepLemmas.{narrowest-parsed, query-faulty, query-parsed, undecided-parsed}
 use Rattle.pool_engine.proofs.query.query.Goals as goal
 
-pub returns-in-Err-clause-step : goal.returns-in-Err-clause-step
-returns-in-Err-clause-step g c =
-    let s : State = record { moment = c.args.moment; ads = ads_of c.args.ads.now } in
+pub returns-in-Err-clause-reply : goal.returns-in-Err-clause-reply
+returns-in-Err-clause-reply g c =
+    let ads = ads_of c.args.ads.now in
     let block = c.args.block.now in
     let told = c.in_ok-told-in-Err.ensures in
-    query-faulty s (ad_outcome block) c.in-Err.fault (c.in-Err.ensures.outcome (ad_outcome block) (ad_outcome-has block)) (subst (λ (fault : ParseFault). is_fault_of_text fault ≡ true) told.0 told.1) ∙ ap (λ (fault : ParseFault). refused s (AdText fault)) (sym told.0)
+    query-faulty c.args.moment ads (ad_outcome block) c.in-Err.fault (c.in-Err.ensures.outcome (ad_outcome block) (ad_outcome-has block)) (subst (λ (fault : ParseFault). is_fault_of_text fault ≡ true) told.0 told.1) ∙ ap (λ (fault : ParseFault). Refused (AdText fault)) (sym told.0)
 
-pub returns-clause-step : goal.returns-clause-step
-returns-clause-step g c =
-    let s : State = record { moment = c.args.moment; ads = ads_of c.args.ads.now } in
+pub returns-clause-reply : goal.returns-clause-reply
+returns-clause-reply g c =
+    let ads = ads_of c.args.ads.now in
     let block = c.args.block.now in
-    query-parsed s (ad_outcome block) c.in-Ok.ad c.in_ok-rows.field-0 (c.in-Ok.ensures.outcome (ad_outcome block) (ad_outcome-has block)) c.in_ok-rows.ensures.rows
+    query-parsed c.args.moment ads (ad_outcome block) c.in-Ok.ad c.in_ok-rows.field-0 (c.in-Ok.ensures.outcome (ad_outcome block) (ad_outcome-has block)) c.in_ok-rows.ensures.rows
 
 pub returns-clause-cost : goal.returns-clause-cost
 returns-clause-cost g c =
-    let s : State = record { moment = c.args.moment; ads = ads_of c.args.ads.now } in
+    let ads = ads_of c.args.ads.now in
     let block = c.args.block.now in
-    omega (arith, c.hit_rows-rows.ensures.cost, undecided-parsed s (ad_outcome block) c.in-Ok.ad (c.in-Ok.ensures.outcome (ad_outcome block) (ad_outcome-has block)))
+    omega (arith, c.hit_rows-rows.ensures.cost, undecided-parsed ads (ad_outcome block) c.in-Ok.ad (c.in-Ok.ensures.outcome (ad_outcome block) (ad_outcome-has block)))
 
 pub returns-clause-looks : goal.returns-clause-looks
 returns-clause-looks g c =
-    let s : State = record { moment = c.args.moment; ads = ads_of c.args.ads.now } in
+    let ads = ads_of c.args.ads.now in
     let block = c.args.block.now in
-    omega (arith, c.hit_rows-rows.ensures.looks, narrowest-parsed s (ad_outcome block) c.in-Ok.ad (c.in-Ok.ensures.outcome (ad_outcome block) (ad_outcome-has block)))
+    omega (arith, c.hit_rows-rows.ensures.looks, narrowest-parsed ads (ad_outcome block) c.in-Ok.ad (c.in-Ok.ensures.outcome (ad_outcome block) (ad_outcome-has block)))
 
 pub returns-in_err-rows-clause-cost : goal.returns-in_err-rows-clause-cost
 returns-in_err-rows-clause-cost g c =
-    let s : State = record { moment = c.args.moment; ads = ads_of c.args.ads.now } in
+    let ads = ads_of c.args.ads.now in
     let block = c.args.block.now in
-    omega (arith, c.hit_rows-rows.ensures.cost, undecided-parsed s (ad_outcome block) c.in-Ok.ad (c.in-Ok.ensures.outcome (ad_outcome block) (ad_outcome-has block)))
+    omega (arith, c.hit_rows-rows.ensures.cost, undecided-parsed ads (ad_outcome block) c.in-Ok.ad (c.in-Ok.ensures.outcome (ad_outcome block) (ad_outcome-has block)))
 
 pub returns-in_err-rows-clause-looks : goal.returns-in_err-rows-clause-looks
 returns-in_err-rows-clause-looks g c =
-    let s : State = record { moment = c.args.moment; ads = ads_of c.args.ads.now } in
+    let ads = ads_of c.args.ads.now in
     let block = c.args.block.now in
-    omega (arith, c.hit_rows-rows.ensures.looks, narrowest-parsed s (ad_outcome block) c.in-Ok.ad (c.in-Ok.ensures.outcome (ad_outcome block) (ad_outcome-has block)))
+    omega (arith, c.hit_rows-rows.ensures.looks, narrowest-parsed ads (ad_outcome block) c.in-Ok.ad (c.in-Ok.ensures.outcome (ad_outcome block) (ad_outcome-has block)))

@@ -1,0 +1,14 @@
+-- Which commands change the state.
+use Rattle.std.specs.Prelude.{Bool, true, false}
+use Rattle.pool_script.specs.declared.command.Command.{Command}
+use Rattle.pool_script.specs.declared.command.Command.TheVariants as command
+
+abbrev pub changes_nothing : Command → Bool
+changes_nothing (command.Clock n) = false
+changes_nothing (command.Advertise name lifetime block) = false
+changes_nothing (command.Withdraw name) = false
+changes_nothing (command.Submit job user block) = false
+changes_nothing (command.Remove job) = false
+changes_nothing (command.Priority user n) = false
+changes_nothing command.Negotiate = false
+changes_nothing other = true

@@ -22,7 +22,7 @@ use Rattle.pool_replies.specs.declared.refusal.Room.TheVariants as room
 use Rattle.pool_replies.specs.declared.reply.Reply.{Reply}
 use Rattle.pool_replies.specs.declared.reply.Reply.TheVariants as reply
 use Rattle.pool_engine.specs.Pool.{queued}
-use Rattle.pool_engine.specs.Queue.{has_job, job_refusal, job_text, without_job}
+use Rattle.pool_engine.specs.Queue.{has_job, is_job, job_refusal, job_text, without_job}
 use Rattle.pool_engine.specs.State.{QueuedJob, State, idle}
 use Rattle.pool_engine.specs.Step.{is_gang, refused, remove, set_priority, submit, take_job}
 use Rattle.pool_engine.proofs.JobLemmas.{found-any, found-first, has-queued}
@@ -114,7 +114,7 @@ remove-held s name told after queue held ads jobs is =
 none_left : (name : List ℕ) (jobs : List QueuedJob) → has_job name jobs ≡ false → without_job name jobs ≡ jobs
 none_left name [] none = refl
 none_left name (job ∷ jobs) none =
-    let parts = neither _ _ none in
+    let parts = neither (is_job name job) (has_job name jobs) none in
     ap (λ b. cond (not b) (job ∷ without_job name jobs) (without_job name jobs)) parts.0 ∙ ap (λ l. job ∷ l) (none_left name jobs parts.1)
 
 pub remove-unknown : (s : State) (name : List ℕ) (after : List Advert) (queue : List QueuedJob) → has_job name s.jobs ≡ false → after ≡ s.ads → queue ≡ without_job name s.jobs → ◌≡◌ {A = State × Reply} (remove s name) (with_books s after queue, reply.Refused why.UnknownName)

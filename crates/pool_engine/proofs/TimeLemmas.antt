@@ -21,8 +21,10 @@ use Rattle.pool_replies.specs.declared.refusal.Room.{Room}
 use Rattle.pool_replies.specs.declared.refusal.Room.TheVariants as room
 use Rattle.pool_replies.specs.declared.rows.AdRow.{AdRow}
 use Rattle.pool_replies.specs.declared.rows.HitRow.{HitRow}
+use Rattle.pool_replies.specs.declared.rows.SpinRow.{SpinRow}
 use Rattle.pool_replies.specs.declared.reply.Reply.{Reply}
 use Rattle.pool_replies.specs.declared.reply.Reply.TheVariants as reply
+use Rattle.pool_replies.specs.Cycles.{spins_text}
 use Rattle.pool_replies.specs.Refusals.{fault_text, is_fault_of_text, line_refusal, refusal_text, room_text}
 use Rattle.pool_replies.specs.Replies.{reply_text}
 use Rattle.pool_engine.specs.Ends.{AnswersFirst, Effects, IsWriteFault, before_last}
@@ -146,6 +148,10 @@ hits_told : (s : State) (rows : List HitRow) → IsTold (s, reply.Hits rows)
 unfolding reply_text
 hits_told s rows = front_some (codes "hits ") _ (omega arith)
 
+cycle_told : (s : State) (spins : List SpinRow) → IsTold (s, reply.Cycle spins)
+unfolding reply_text
+cycle_told s spins = back_some (spins_text 1 spins) _ (front_some (codes "offers ") _ (omega arith))
+
 -- ---- the replies to commands
 
 clock_told : (s : State) (n : ℕ) → IsTold (clock s n)
@@ -237,7 +243,7 @@ step_told s (command.Submit job user block) = submit_told s job user block (leng
 step_told s (command.Remove job) = remove_told s job
 step_told s (command.Priority user n) = set_priority_told s user n
 step_told s (command.Gang block) = unbuilt_told s
-step_told s command.Negotiate = unbuilt_told s
+step_told s command.Negotiate = cycle_told s _
 step_told s (command.Claim job) = unbuilt_told s
 step_told s (command.Release job) = unbuilt_told s
 step_told s (command.Unlisten name) = unbuilt_told s

@@ -2,8 +2,9 @@
 use Rattle.std.specs.Prelude.{ℕ, ◌-◌, ◌*◌, Bool, not, ◌&&◌, List, [], ◌∷◌, ◌++◌, codes, length, filter, find, map, nat_lt, position, slice_get, Option, None, Some, is_some, option_map, Result, Ok, Err, bytes_eq, if◌then◌else◌}
 use Rattle.std.specs.List.{list_any}
 use Rattle.std.specs.Option.{option_map_or}
-use Rattle.ad_tree.specs.Frames.{Frame}
+use Rattle.ad_tree.specs.Frames.{Frame, names_in}
 use Rattle.ad_tree.specs.Inline.{Inline, ad_of, phrase_of, phrase_tree}
+use Rattle.ad_tree.specs.Names.{same_name}
 use Rattle.ad_tree.specs.Tree.{Tree}
 use Rattle.ad_parser.specs.declared.fault.ParseFault.{ParseFault}
 use Rattle.ad_parser.proofs.Outcomes.{ad_outcome, expr_outcome}

@@ -32,7 +32,7 @@ pub returns-then-is_some-clause-step : goal.returns-then-is_some-clause-step
 returns-then-is_some-clause-step c = λ moment priorities.
     let s : State = state_with moment priorities c.args.books.now in
     let block = c.args.block.now in
-    submit-gang s c.args.job.now c.args.user.now c.bytes.result.now c.args.user.now (length block) (ad_outcome block) c.in-Ok.ad (c.in-Ok.ensures.outcome (ad_outcome block) (ad_outcome-has block)) c.bytes.ensures refl (sym c.in_default.ensures.reason) (ap is_some (sym c.position.ensures) ∙ sym c.is_some.ensures.value ∙ c.if-is_some.true)
+    submit-gang s c.args.job.now c.args.user.now c.bytes.result.now c.args.user.now (length block) (ad_outcome block) c.in-Ok.ad (c.in-Ok.ensures.outcome (ad_outcome block) (ad_outcome-has block)) c.bytes.ensures refl (sym c.in_default.ensures.reason) (ap is_some (sym c.position.ensures) ∙ sym c.is_some.ensures ∙ c.if-is_some.true)
 
 pub submit-requires : goal.submit-requires
 submit-requires c =
@@ -43,4 +43,4 @@ returns-clause-step c = λ moment priorities.
     let s : State = state_with moment priorities c.args.books.now in
     let block = c.args.block.now in
     let room = ap (λ (name : List ℕ). job_refusal name (length block) (queue_of c.args.books.now)) (c.bytes-2.ensures ∙ sym c.bytes.ensures) ∙ sym c.in_default.ensures.reason in
-    submit-taken s c.args.job.now c.args.user.now c.bytes-2.result.now c.bytes-3.result.now (length block) (ad_outcome block) c.in-Ok.ad (c.in-Ok.ensures.outcome (ad_outcome block) (ad_outcome-has block)) c.bytes-2.ensures c.bytes-3.ensures c.in_ok-named.named (ads_of c.submit.new.self.ads) (queue_of c.submit.new.self) c.in_ok-named.ensures room (ap is_some (sym c.position.ensures) ∙ sym c.is_some.ensures.value ∙ c.if-is_some.false) (ap ads_of c.submit.ensures.ads) c.in_ok-submit.ensures.jobs
+    submit-taken s c.args.job.now c.args.user.now c.bytes-2.result.now c.bytes-3.result.now (length block) (ad_outcome block) c.in-Ok.ad (c.in-Ok.ensures.outcome (ad_outcome block) (ad_outcome-has block)) c.bytes-2.ensures c.bytes-3.ensures c.in_ok-named.named (ads_of c.submit.new.self.ads) (queue_of c.submit.new.self) c.in_ok-named.ensures room (ap is_some (sym c.position.ensures) ∙ sym c.is_some.ensures ∙ c.if-is_some.false) (ap ads_of c.submit.ensures.ads) c.in_ok-submit.ensures.jobs

@@ -5,9 +5,9 @@ use Rattle.pool_engine.specs.Pool.{state_of}
 use Rattle.pool_engine.proofs.StepLemmas.{clock-back, clock-moves}
 use Rattle.pool_engine.proofs.pool.Pool.clock.Goals as goal
 
-pub returns-then-n-lt-moment-clause-step : goal.returns-then-n-lt-moment-clause-step
+pub returns-then-n-self-clause-step : goal.returns-then-n-self-clause-step
 unfolding state_of
-returns-then-n-lt-moment-clause-step g c = clock-back (state_of c.args.self.now) c.args.n (omega arith)
+returns-then-n-self-clause-step g c = clock-back (state_of c.args.self.now) c.args.n (omega arith)
 
 pub returns-clause-step : goal.returns-clause-step
 unfolding state_of

@@ -8,8 +8,6 @@ ghost use Rattle.claim_table.specs.Table.{jobs_of};
 ghost use Rattle.negotiator.specs.Settings.{settings_of};
 ghost use Rattle.pool_replies.specs.declared.rows.SpinRow.{SpinRow};
 ghost use Rattle.pool_engine.specs.Negotiation as steps;
-ghost use Rattle.pool_engine.specs.Pool.{state_with};
-ghost use Rattle.pool_engine.specs.Rows.{IsSpinHeld, spin_row};
 ghost use Rattle.pool_engine.specs.Queue.{has_job, job_refusal, without_job, without_resources};
 ghost use Rattle.pool_engine.specs.State.{idle};
 ghost use Rattle.pool_engine.specs.Step.{has_expired, live_ads};
@@ -39,6 +37,8 @@ impl Books {
     ghost use Rattle.ad_store.specs.Stock.{Advert};
     ghost use Rattle.pool_engine.specs.Books.{queue_of};
     ghost use Rattle.pool_engine.specs.Indexed.{ads_of};
+    ghost use Rattle.pool_engine.specs.Pool.{state_with};
+    ghost use Rattle.pool_engine.specs.Rows.{IsSpinHeld, spin_row};
     ghost use Rattle.pool_engine.specs.State.{QueuedJob};
 
     pub(crate) fn new(alloc: Global) -> Books
@@ -208,10 +208,11 @@ impl Books {
         self.ads.store.names_are_apart();
         self.ads.store.slots_are_apart();
         let _len = self.ads.store.len();
+        let ads = &self.ads;
         cycle(
             alloc,
-            &self.ads.store,
-            &self.ads.index,
+            &ads.store,
+            &ads.index,
             &mut self.claims,
             priorities,
             moment,

@@ -1,8 +1,0 @@
-use Rattle.std.proofs.Common.{length, ap, arith}
-use Rattle.pool_engine.specs.Indexed.{ads_of}
-use Rattle.pool_engine.proofs.AdLemmas.{live-le}
-use Rattle.pool_engine.proofs.ads.expire.Goals as goal
-
-pub returns-in_err-take_out-clause-looks : goal.returns-in_err-take_out-clause-looks
-returns-in_err-take_out-clause-looks g c =
-    omega (arith, c.in_err-take_out.ensures.none, c.loop-slot.invariant.looks, live-le c.args.now (ads_of c.loop-slot.ads), ap length c.loop-slot.invariant.live)

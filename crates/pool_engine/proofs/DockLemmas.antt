@@ -77,9 +77,9 @@ holders-stored stock jobs stored = λ slot h is.
 
 -- ---- names and slots
 
-or-nothing : (b : Bool) → (b || false) ≡ b
-or-nothing true = refl
-or-nothing false = refl
+or-false : (b : Bool) → (b || false) ≡ b
+or-false true = refl
+or-false false = refl
 
 module _ (stock : Stock) (beside : AreBeside stock.ads stock.slots) where
   -- the frames of the ad of a slot's name are those of the slot's ad
@@ -109,9 +109,9 @@ module _ (stock : Stock) (beside : AreBeside stock.ads stock.slots) where
   module _ (place : ℕ) (advert : Advert) (slot : ℕ) (at : slice_get stock.ads place ≡ Some advert) (slot_is : slice_get stock.slots place ≡ Some slot) where
     one-named : (s : ℕ) → lists stock.slots s ≡ true → bytes_eq advert.name (name_in stock s) ≡ eqb s slot
     one-named s listed =
-        sym (or-nothing (bytes_eq advert.name (name_in stock s)))
+        sym (or-false (bytes_eq advert.name (name_in stock s)))
         ∙ listed-named stock.ads stock.slots beside place advert slot at slot_is (s ∷ []) (ap (λ b. b && true) listed)
-        ∙ or-nothing (eqb s slot)
+        ∙ or-false (eqb s slot)
 
     position-named : (slots : List ℕ) → list_all (lists stock.slots) slots ≡ true → position_or_len (bytes_eq advert.name) (map (name_in stock) slots) ≡ position_or_len (λ s. eqb s slot) slots
     position-named [] all = refl

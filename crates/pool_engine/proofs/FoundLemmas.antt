@@ -107,8 +107,7 @@ module _ (stock : Stock) (beside : AreBeside stock.ads stock.slots) where
         let a = get-within stock.ads i within in
         let s = get-within stock.slots i (let long = beside.long in omega (arith, within, long)) in
         let name : names_at i ≡ a.it.name = ap (λ o. option_map_or (λ (x : Advert). x.name) o []) a.at in
-        let slot : slot_at stock i ≡ s.it = get_or_from_slice_get stock.slots i s.it 0 s.at in
-        (
+        let slot : slot_at stock i ≡ s.it = get_or_from_slice_get stock.slots i s.it 0 s.at in (
           ap (λ n. is_some (offered_to n (map (queued stock) jobs))) name ∙ offered-same stock beside i a.it s.it a.at s.at jobs stored ∙ sym (ap (λ k. is_some (offeree k jobs)) slot),
           ap (λ n. option_map (seen.held_world moment stock.ads n) (claimed_by n (map (queued stock) jobs))) name ∙ holder-same stock beside i a.it s.it a.at s.at jobs stored moment single ∙ sym (ap (λ k. option_map (holder_world moment stock) (holder_of jobs k)) slot),
         )

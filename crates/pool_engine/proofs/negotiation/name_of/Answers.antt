@@ -1,4 +1,4 @@
-use Rattle.std.proofs.Common.{◌≡◌, List, ℕ, ◌∙◌}
+use Rattle.std.proofs.Common.{◌≡◌, ◌∙◌}
 use Rattle.ad_store.specs.Store.{stock_of}
 use Rattle.pool_engine.specs.Pool.{name_in}
 use Rattle.pool_engine.proofs.HitLemmas.{if_ok}

@@ -1,11 +1,9 @@
-use Rattle.std.proofs.Common.{◌≡◌, ℕ, ◌*◌, ◌≤◌, ◌+◌, All, List, map, Result, Ok, Err, IfOk, OnOk, sym, ◌∙◌, subst}
-use Rattle.ad_store.specs.Stock.{Stock}
+use Rattle.std.proofs.Common.{◌≡◌, ℕ, ◌*◌, ◌≤◌, ◌+◌, All, map, Result, Ok, Err, IfOk, OnOk, sym, ◌∙◌, subst}
 use Rattle.ad_store.specs.Store.{stock_of}
 use Rattle.claim_table.specs.Table.{jobs_of}
 use Rattle.negotiator.specs.Cycle.{cycle_of, offers_of}
 use Rattle.negotiator.specs.Markets.{IsPart, market_of, spin_named}
 use Rattle.negotiator.specs.Settings.{settings_of}
-use Rattle.negotiator.specs.declared.answers.Spin.{Spin}
 use Rattle.pool_engine.specs.Rows.{IsSpinHeld}
 use Rattle.pool_engine.proofs.DockLemmas.{holders-stored}
 use Rattle.pool_engine.proofs.HitLemmas.{if_ok}

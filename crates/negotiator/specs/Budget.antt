@@ -1,0 +1,86 @@
+-- How much the searches of a cycle may count, where each job is searched for at most once.
+use Rattle.std.specs.Prelude.{◌≡◌, ℕ, ◌+◌, ◌*◌, ◌≤◌, Bool, true, false, not, ◌&&◌, List, [], filter, length, slice_get, slice_index_or, sum_by, Option, None, if◌then◌else◌}
+use Rattle.std.specs.List.{range_with_len}
+use Rattle.std.specs.Option.{option_map_or}
+use Rattle.ad_tree.specs.Ad.{ad_frames}
+use Rattle.ad_tree.specs.declared.request.Request.{Request}
+use Rattle.ad_store.specs.Stock.{Stock}
+use Rattle.bilateral_match.specs.Counts.{entered_for, least_left, open_count}
+use Rattle.claim_table.specs.declared.job.Job.{Job}
+use Rattle.conjunct_plan.specs.Tests.{tests_of}
+use Rattle.negotiator.specs.Markets.{found, is_idle, pool_for}
+
+-- ---- one search
+
+-- how many evaluations a search for a job may take, how many attributes may be entered in them, and how many ads it may look at
+abbrev pub evaluations_for : ℕ → Stock → List Job → Request → ℕ
+evaluations_for moment stock jobs request = 5 * open_count (pool_for moment stock jobs) (ad_frames request.ad)
+
+abbrev pub entries_for : ℕ → Stock → List Job → Request → ℕ
+entries_for moment stock jobs request = entered_for (pool_for moment stock jobs) (ad_frames request.ad)
+
+abbrev pub looks_for : Stock → List Job → Request → ℕ
+looks_for stock jobs request = 9 * least_left stock.ads (tests_of (ad_frames request.ad) 0 [])
+
+-- ---- all searches
+
+-- the sum over the idle jobs
+abbrev pub over_idle : (List Job → Request → ℕ) → List Job → ℕ
+over_idle price jobs = sum_by (λ job. price jobs job.request) (filter (λ job. is_idle job.standing) jobs)
+
+-- how many docks an evaluation of which a search for a job may need
+abbrev pub open_for : ℕ → Stock → List Job → Request → ℕ
+open_for moment stock jobs request = open_count (pool_for moment stock jobs) (ad_frames request.ad)
+
+-- how many ads the narrowest test of a job leaves
+abbrev pub left_for : Stock → List Job → Request → ℕ
+left_for stock jobs request = least_left stock.ads (tests_of (ad_frames request.ad) 0 [])
+
+-- ---- what is left to be counted, where jobs that found nothing are marked
+
+abbrev pub is_idle_at : List Job → ℕ → Bool
+is_idle_at jobs i = option_map_or (λ job. is_idle job.standing) (slice_get jobs i) false
+
+abbrev pub is_marked : List Bool → ℕ → Bool
+is_marked failed i = slice_index_or failed i false
+
+-- each job that is marked finds nothing
+abbrev pub AreFailing : ℕ → Stock → List Job → List Bool → Type 0
+AreFailing moment stock jobs failed = (i : ℕ) → is_marked failed i ≡ true → found moment stock jobs i ≡ None
+
+abbrev pub price_at : (List Job → Request → ℕ) → List Job → ℕ → ℕ
+price_at price jobs i = option_map_or (λ job. price jobs job.request) (slice_get jobs i) 0
+
+-- a job may still be searched for where it is idle and has no mark
+abbrev pub due : (List Job → Request → ℕ) → List Job → List Bool → ℕ → ℕ
+due price jobs failed i = if is_idle_at jobs i && not (is_marked failed i) then price_at price jobs i else 0
+
+abbrev pub budget : (List Job → Request → ℕ) → List Job → List Bool → ℕ
+budget price jobs failed = sum_by (due price jobs failed) (range_with_len 0 (length jobs))
+
+-- the three counts
+pub record Counts : Type 0 where
+  pub tops : ℕ
+  pub entry : ℕ
+  pub touch : ℕ
+
+abbrev pub counts : ℕ → ℕ → ℕ → Counts
+counts tops entry touch = record { tops = tops; entry = entry; touch = touch }
+
+-- the counts rose by no more than one search for the job at a place may count
+pub record IsSearched (moment : ℕ) (stock : Stock) (jobs : List Job) (i : ℕ) (before after : Counts) : Type 0 where
+  pub tops : after.tops ≤ before.tops + price_at (evaluations_for moment stock) jobs i
+  pub entry : after.entry ≤ before.entry + price_at (entries_for moment stock) jobs i
+  pub touch : after.touch ≤ before.touch + price_at (looks_for stock) jobs i
+
+-- the counts rose by no more than what was due and isn't due any more
+pub record ArePaid (moment : ℕ) (stock : Stock) (jobs later : List Job) (failed marked : List Bool) (before after : Counts) : Type 0 where
+  pub tops : after.tops + budget (evaluations_for moment stock) later marked ≤ before.tops + budget (evaluations_for moment stock) jobs failed
+  pub entry : after.entry + budget (entries_for moment stock) later marked ≤ before.entry + budget (entries_for moment stock) jobs failed
+  pub touch : after.touch + budget (looks_for stock) later marked ≤ before.touch + budget (looks_for stock) jobs failed
+
+-- the counts rose by no more than what was due
+pub record AreWithin (moment : ℕ) (stock : Stock) (jobs : List Job) (failed : List Bool) (before after : Counts) : Type 0 where
+  pub tops : after.tops ≤ before.tops + budget (evaluations_for moment stock) jobs failed
+  pub entry : after.entry ≤ before.entry + budget (entries_for moment stock) jobs failed
+  pub touch : after.touch ≤ before.touch + budget (looks_for stock) jobs failed

@@ -1,0 +1,9 @@
+pub mod Budget
+pub mod Causes
+pub mod Cycle
+pub mod Mapped
+pub mod Markets
+pub mod Priorities
+pub mod Queues
+pub mod Scenes
+pub mod Settings

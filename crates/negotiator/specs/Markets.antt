@@ -1,0 +1,81 @@
+-- The market of a pool: single jobs, and the resources of a store by their slots.
+use Rattle.std.specs.Prelude.{◌≡◌, ℕ, Bool, true, false, ◌&&◌, List, [], ◌∷◌, ◌++◌, count_by, map, slice_get, Option, is_none, is_some, option_and_then, option_map}
+use Rattle.std.specs.Option.{option_map_or}
+use Rattle.ad_tree.specs.Ad.{ad_frames}
+use Rattle.ad_tree.specs.declared.request.Request.{Request}
+use Rattle.ad_store.specs.Stock.{Stock}
+use Rattle.bilateral_match.specs.Members.{best_slot}
+use Rattle.bilateral_match.specs.Pool.{Pool, pool_of}
+use Rattle.claim_table.specs.declared.job.Job.{Job}
+use Rattle.claim_table.specs.declared.job.Standing.{Standing}
+use Rattle.claim_table.specs.Holders.{holder_of}
+use Rattle.claim_table.specs.Jobs.{claimed_by, offered_to, wanted, with_standing}
+use Rattle.negotiator.specs.declared.answers.Offered.{Offered}
+use Rattle.negotiator.specs.declared.answers.Spin.{Spin}
+use Rattle.negotiator.specs.declared.answers.Turn.{Turn}
+use Rattle.negotiator.specs.Cycle.{Market, Offer, PlainSpin, PlainTurn, Waiting}
+use Rattle.negotiator.specs.Priorities.{Setting, priority_of}
+
+-- ---- jobs
+
+abbrev pub is_idle : Standing → Bool
+is_idle Standing.Idle = true
+is_idle other = false
+
+abbrev pub waiting_of : Job → Waiting
+waiting_of job = record { user = job.user; wants = wanted job.request; is_idle = is_idle job.standing }
+
+-- the jobs once offers are made: each stands as matched
+abbrev pub with_offers : List (Offer ℕ) → List Job → List Job
+with_offers [] jobs = jobs
+with_offers (offer ∷ offers) jobs = with_offers offers (with_standing jobs offer.job (Standing.Matched offer.resources))
+
+-- these jobs are the others once some first of the offers are made
+pub record IsPart (offers : List (Offer ℕ)) (jobs later : List Job) : Type 0 where
+  pub front : List (Offer ℕ)
+  pub rest : List (Offer ℕ)
+  pub all : offers ≡ front ++ rest
+  pub made : later ≡ with_offers front jobs
+
+-- ---- the market
+
+-- the resources as the jobs hold them
+abbrev pub pool_for : ℕ → Stock → List Job → Pool
+pool_for moment stock jobs = pool_of moment stock (λ slot. is_some (offered_to slot jobs)) (holder_of jobs)
+
+-- a job finds the one resource that is best for it
+abbrev pub found_for : ℕ → Stock → List Job → Request → Option (List ℕ)
+found_for moment stock jobs request = option_map (λ slot. slot ∷ []) (best_slot stock (pool_for moment stock jobs) (ad_frames request.ad))
+
+abbrev pub found : ℕ → Stock → List Job → ℕ → Option (List ℕ)
+found moment stock jobs i = option_and_then (λ job. found_for moment stock jobs job.request) (slice_get jobs i)
+
+-- a resource is free that is neither offered nor claimed
+abbrev pub is_free : List Job → ℕ → Bool
+is_free jobs slot = is_none (offered_to slot jobs) && is_none (claimed_by slot jobs)
+
+abbrev pub free_among : Stock → List Job → ℕ
+free_among stock jobs = count_by (is_free jobs) stock.slots
+
+abbrev pub market_of : ℕ → Stock → List Setting → List Job → Market ℕ
+market_of moment stock settings jobs = record {
+  jobs = map waiting_of jobs;
+  find = λ made i. found moment stock (with_offers made jobs) i;
+  free = λ made. free_among stock (with_offers made jobs);
+  priority = λ user. priority_of user settings;
+}
+
+-- ---- as it is answered
+
+-- the name of the job at a place
+abbrev pub name_at : List Job → ℕ → List ℕ
+name_at jobs i = option_map_or (λ job. job.name) (slice_get jobs i) []
+
+abbrev pub offer_named : List Job → Offer ℕ → Offered
+offer_named jobs offer = record { job = name_at jobs offer.job; slots = offer.resources }
+
+abbrev pub turn_named : List Job → PlainTurn ℕ → Turn
+turn_named jobs turn = record { user = turn.user; slice = turn.slice; offers = map (offer_named jobs) turn.offers }
+
+abbrev pub spin_named : List Job → PlainSpin ℕ → Spin
+spin_named jobs spin = record { free = spin.free; turns = map (turn_named jobs) spin.turns }

@@ -1,0 +1,41 @@
+-- The priorities of users: a lower number is better.
+use Rattle.std.specs.Prelude.{ℕ, ◌≤◌, ◌^◌, Bool, not, ◌&&◌, nat_le, List, [], ◌∷◌, find, length, Vec, bytes_eq, if◌then◌else◌}
+use Rattle.std.specs.declared.alloc.Global.{Global}
+use Rattle.std.specs.List.{list_any}
+use Rattle.std.specs.Option.{option_map_or}
+
+-- a user whose priority is set
+pub record Setting : Type 0 where
+  pub user : List ℕ
+  pub number : ℕ
+
+-- an entry of a map as a setting
+abbrev pub setting_of : Vec ℕ Global × ℕ → Setting
+setting_of entry = record { user = entry.0.items; number = entry.1 }
+
+-- a number that may be set
+abbrev pub IsInRange : Setting → Type 0
+IsInRange setting = (1 ≤ setting.number) × (setting.number ≤ 10 ^ 6)
+
+abbrev pub is_of : List ℕ → Setting → Bool
+is_of user setting = bytes_eq user setting.user
+
+-- the priority of a user for whom none is set
+abbrev pub default_priority : ℕ
+default_priority = 1000
+
+abbrev pub priority_of : List ℕ → List Setting → ℕ
+priority_of user settings = option_map_or (λ setting. setting.number) (find (is_of user) settings) default_priority
+
+-- the settings with one more, which takes the place of the one of its user, or goes last
+abbrev pub with_setting : Setting → List Setting → List Setting
+with_setting setting [] = setting ∷ []
+with_setting setting (other ∷ settings) = if is_of setting.user other then setting ∷ settings else other ∷ with_setting setting settings
+
+-- how many users may have a priority that is set
+abbrev pub settings_limit : ℕ
+settings_limit = 10000
+
+-- the user is new, and as many are set as may be
+abbrev pub lacks_place : List ℕ → List Setting → Bool
+lacks_place user settings = not (list_any (is_of user) settings) && nat_le settings_limit (length settings)

@@ -1,0 +1,44 @@
+// What the calls answer.
+use pool_text::{Items, Slots, Text};
+use thiserror::Error;
+
+/// Why a priority was not set.
+#[derive(Clone, Copy, Debug, PartialEq, Eq, Error)]
+pub enum PriorityFault {
+    /// The user is new, and 10,000 users have a priority that is set.
+    #[error("as many users have a priority as may")]
+    Full,
+    #[error("out of memory")]
+    OutOfMemory,
+}
+
+/// Resources that are offered to a job, by their slots.
+#[derive(Debug, Drop)]
+pub struct Offered {
+    pub job: Text,
+    pub slots: Slots,
+}
+
+/// A list of offers in the order in which they were made.
+pub type OfferedList = Items<Offered>;
+
+/// A user's turn in a spin: the user's slice, in resources, and the offers to the user's jobs.
+#[derive(Debug, Drop)]
+pub struct Turn {
+    pub user: Text,
+    pub slice: u64,
+    pub offers: OfferedList,
+}
+
+/// A list of turns, one behind the other.
+pub type Turns = Items<Turn>;
+
+/// A spin: how many resources were neither claimed nor offered as it began, and its turns with at least one offer.
+#[derive(Debug, Drop)]
+pub struct Spin {
+    pub free: u64,
+    pub turns: Turns,
+}
+
+/// The spins of a cycle in order.
+pub type Cycle = Items<Spin>;

@@ -33,6 +33,12 @@ returns-in_err-push-clause-counted g c =
     (counts c.args.tops.now c.args.entry.now c.args.touch.now) (counts c.best.new.tops c.best.new.entry c.best.new.touch)
     c.best.ensures.evaluations c.best.ensures.entries c.best.ensures.looks
 
+pub returns-clause-counted : goal.returns-clause-counted
+returns-clause-counted g c =
+    searched (jobs_of c.args.claims.now) c.args.i c.request-request.result.now c.request-request.ensures c.args.scene.now.moment (stock_in c.args.scene.now)
+    (counts c.args.tops.now c.args.entry.now c.args.touch.now) (counts c.best.new.tops c.best.new.entry c.best.new.touch)
+    c.best.ensures.evaluations c.best.ensures.entries c.best.ensures.looks
+
 pub returns-clause-found : goal.returns-clause-found
 returns-clause-found g c =
     ap Some (c.in_ok-push.ensures.ok ∙ ap (λ (l : List ℕ). l ++ c.in-Some.slot ∷ []) c.new-slots.ensures)

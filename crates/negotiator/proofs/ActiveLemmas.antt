@@ -70,8 +70,8 @@ read-user (q ∷ qs) (suc j) queue within is = read-user qs j queue (omega (arit
 
 pub user-here : (queues : List Queue) (active : List ℕ) (k j : ℕ) (queue : Queue) → k < length active → get_or active k 0 ≡ j → j < length queues → get_or queues j queue ≡ queue → get_or (users_at queues active) k [] ≡ queue.user
 user-here queues [] k j queue within here inside is = absurd (omega (arith, within))
-user-here queues (a ∷ as) zero j queue within here inside is = ap (λ a. option_map_or (λ (q : Queue). q.user) (slice_get queues a) []) here ∙ read-user queues j queue inside is
-user-here queues (a ∷ as) (suc k) j queue within here inside is = user-here queues as k j queue (omega (arith, within)) here inside is
+user-here queues (a ∷ more) zero j queue within here inside is = ap (λ a. option_map_or (λ (q : Queue). q.user) (slice_get queues a) []) here ∙ read-user queues j queue inside is
+user-here queues (a ∷ more) (suc k) j queue within here inside is = user-here queues more k j queue (omega (arith, within)) here inside is
 
 module _ (settings : List Setting) (queues : List Queue) (active : List ℕ) where
   abbrev weigh : List ℕ → ℕ
@@ -152,10 +152,10 @@ module _ (moment : ℕ) (stock : Stock) (settings : List Setting) (jobs : List J
     here = ap (λ (q : Queue). active q.user) (sym is) ∙ sym told_is
 
     pub active-yes : told ≡ true → (later : List ℕ) → later ≡ ks ++ k ∷ [] → users_at queues later ≡ filter active (map (λ (q : Queue). q.user) (take (k + 1) queues))
-    active-yes yes later pushed = active-more queues k queue within ks so_far later pushed (here ∙ yes)
+    active-yes is_active later pushed = active-more queues k queue within ks so_far later pushed (here ∙ is_active)
 
     pub active-no : told ≡ false → users_at queues ks ≡ filter active (map (λ (q : Queue). q.user) (take (k + 1) queues))
-    active-no no = active-same queues k queue within ks so_far (here ∙ no)
+    active-no is_idle = active-same queues k queue within ks so_far (here ∙ is_idle)
 
   pub active-all : (queues : List Queue) (k : ℕ) (ks : List ℕ) → AreQueues market queues → length queues ≤ k → users_at queues ks ≡ filter active (map (λ (q : Queue). q.user) (take k queues)) → users_at queues ks ≡ users_of market []
   active-all queues k ks are past so_far = so_far ∙ ap (λ l. filter active (map (λ (q : Queue). q.user) l)) (take_all k queues past) ∙ ap (filter active) are.users

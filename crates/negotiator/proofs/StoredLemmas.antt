@@ -8,9 +8,7 @@ use Rattle.std.proofs.lemmas.List.Elements.{All-append, All-cons, All-head, All-
 use Rattle.ad_tree.specs.Ad.{ad_frames}
 use Rattle.ad_tree.specs.Frames.{Frame}
 use Rattle.ad_tree.specs.declared.request.Request.{Request}
-use Rattle.slab.specs.Slab.{get}
 use Rattle.ad_store.specs.declared.store.Store.{Store}
-use Rattle.ad_store.specs.Held.{advert_of}
 use Rattle.ad_store.specs.Stock.{Advert, Stock}
 use Rattle.ad_store.specs.Store.{stock_of}
 use Rattle.bilateral_match.specs.declared.member.Member.{Member}
@@ -116,10 +114,7 @@ module _ (moment : ℕ) (stock : Stock) (beside : length stock.ads ≤ length st
 
 module _ (store : Store) where
   beside : length (stock_of store).ads ≤ length (stock_of store).slots
-  beside =
-      let ads = length-map store.names.entries (λ n. advert_of n.0.items (get store.table n.1)) in
-      let slots = length-map store.names.entries (λ n. n.1) in
-      omega (arith, ads, slots)
+  beside = simp length-map (omega arith)
 
   pub cycle-stored : (moment : ℕ) (settings : List Setting) (jobs : List Job)
       → All (λ (o : Offer ℕ). All (Contains (stock_of store).slots) o.resources) (offers_of (cycle_of (market_of moment (stock_of store) settings jobs)))

@@ -6,7 +6,7 @@ use Rattle.negotiator.specs.Cycle.{is_of, places}
 use Rattle.negotiator.specs.Scenes.{market_in, stock_in, users_at}
 use Rattle.negotiator.specs.Settings.{settings_of}
 use Rattle.negotiator.proofs.ActiveLemmas.{active-all, active-no, active-yes}
-use Rattle.negotiator.proofs.spins.active_of.Goals.{else-has_idle, then-has_idle}
+use Rattle.negotiator.proofs.spins.active_of.Goals.{else-has_idle, then-has_idle+in_ok-push}
 use Rattle.negotiator.proofs.spins.active_of.Goals as goal
 
 pub loop-k-init : goal.loop-k-init
@@ -25,7 +25,7 @@ loop-k-preserved c =
     let jobs = jobs_of c.args.claims.now in
     let queues = c.args.queues.now in
     elim c.if-has_idle.branch [
-      | then-has_idle w ↦ record {
+      | then-has_idle+in_ok-push w ↦ record {
           users = active-yes c.args.scene.now.moment (stock_in c.args.scene.now) (settings_of c.args.scene.now.priorities.now) jobs queues c.loop-k.k c.index-queues-k.result c.loop-k-test.true
               c.loop-k.active c.loop-k.invariant.users c.index-queues-k.is c.has_idle.result c.has_idle.ensures w.if-has_idle.true c.if-has_idle.active (w.active-is ∙ w.in_ok-push.ensures.ok);
           within = subst (All (λ (k : ℕ). k < length queues)) (sym (w.active-is ∙ w.in_ok-push.ensures.ok))

@@ -51,11 +51,11 @@ returns-in_err-push-clause-within g c =
 
 pub returns-then-last-clause-cycle : goal.returns-then-last-clause-cycle
 returns-then-last-clause-cycle g c =
-    spins-list c.args.scene.now (jobs_of c.args.claims.now) c.loop-spins.invariant c.in_ok-spin.spin c.in_ok-spin.ensures.spin c.push.new.self c.in_ok-push.ensures.ok (jobs_of c.run_spin.new.claims) c.in_ok-spin.ensures.table (sym c.len.ensures ∙ c.if-last.true)
+    spins-list c.args.scene.now (jobs_of c.args.claims.now) c.loop-spins.invariant c.in_ok-spin.spin c.in_ok-spin.ensures.spin c.push.new.self c.in_ok-push.ensures.ok (jobs_of c.run_spin.new.claims) c.in_ok-spin.ensures.table (sym c.len-last.ensures ∙ c.if-last.true)
 
 pub returns-then-last-clause-table : goal.returns-then-last-clause-table
 returns-then-last-clause-table g c =
-    spins-table c.args.scene.now (jobs_of c.args.claims.now) c.loop-spins.invariant c.in_ok-spin.spin c.in_ok-spin.ensures.spin c.push.new.self c.in_ok-push.ensures.ok (jobs_of c.run_spin.new.claims) c.in_ok-spin.ensures.table (sym c.len.ensures ∙ c.if-last.true)
+    spins-table c.args.scene.now (jobs_of c.args.claims.now) c.loop-spins.invariant c.in_ok-spin.spin c.in_ok-spin.ensures.spin c.push.new.self c.in_ok-push.ensures.ok (jobs_of c.run_spin.new.claims) c.in_ok-spin.ensures.table (sym c.len-last.ensures ∙ c.if-last.true)
 
 pub returns-then-last-clause-within : goal.returns-then-last-clause-within
 returns-then-last-clause-within g c =
@@ -70,7 +70,7 @@ returns-then-last-clause-within g c =
 
 pub loop-spins-smaller : goal.loop-spins-smaller
 loop-spins-smaller g c =
-    spins-fewer c.args.scene.now (jobs_of c.args.claims.now) c.loop-spins.invariant c.in_ok-spin.spin c.in_ok-spin.ensures.spin c.push.new.self c.in_ok-push.ensures.ok (jobs_of c.run_spin.new.claims) c.in_ok-spin.ensures.table (omega (arith, c.len.ensures, c.if-last.false))
+    spins-fewer c.args.scene.now (jobs_of c.args.claims.now) c.loop-spins.invariant c.in_ok-spin.spin c.in_ok-spin.ensures.spin c.push.new.self c.in_ok-push.ensures.ok (jobs_of c.run_spin.new.claims) c.in_ok-spin.ensures.table (omega (arith, c.len-last.ensures, c.if-last.false))
 
 pub loop-spins-preserved : goal.loop-spins-preserved
 loop-spins-preserved g c =
@@ -80,6 +80,6 @@ loop-spins-preserved g c =
     let start = counts c.args.tops.now c.args.entry.now c.args.touch.now in
     let now = counts c.loop-spins.tops c.loop-spins.entry c.loop-spins.touch in
     let after = counts c.run_spin.new.tops c.run_spin.new.entry c.run_spin.new.touch in
-    spins-more c.args.scene.now began c.loop-spins.invariant c.in_ok-spin.spin c.in_ok-spin.ensures.spin c.push.new.self c.in_ok-push.ensures.ok (jobs_of c.run_spin.new.claims) c.in_ok-spin.ensures.table (omega (arith, c.len.ensures, c.if-last.false))
+    spins-more c.args.scene.now began c.loop-spins.invariant c.in_ok-spin.spin c.in_ok-spin.ensures.spin c.push.new.self c.in_ok-push.ensures.ok (jobs_of c.run_spin.new.claims) c.in_ok-spin.ensures.table (omega (arith, c.len-last.ensures, c.if-last.false))
     c.run_spin.new.failed after c.in_ok-spin.ensures.ready
     (paid-on c.args.scene.now.moment (stock_in c.args.scene.now) began jobs later c.args.failed.now c.loop-spins.failed c.run_spin.new.failed start now after c.loop-spins.invariant.paid c.in_ok-spin.ensures.paid)

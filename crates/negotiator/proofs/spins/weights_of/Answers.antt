@@ -1,6 +1,7 @@
 use Rattle.std.proofs.Common.{◌≤◌, ◌^◌, List, ℕ, All, ap, arith, map, refl, subst, sym, ◌∙◌}
 use Rattle.std.proofs.lemmas.List.{take_all}
 use Rattle.std.proofs.lemmas.List.Elements.{All-nil, All-push}
+use Rattle.negotiator.specs.declared.queues.Queue.{Queue}
 use Rattle.negotiator.specs.Priorities.{priority_of}
 use Rattle.negotiator.specs.Scenes.{users_at}
 use Rattle.negotiator.specs.Settings.{settings_of}
@@ -22,7 +23,8 @@ pub loop-k-preserved : goal.loop-k-preserved
 loop-k-preserved c = record {
   weights = weights-more (settings_of c.args.scene.now.priorities.now) c.args.queues.now c.args.active.now c.loop-k.k-index _ c.get-number.result c.weight.result c.index-queues-k.result c.loop-k.weights c.push.new.self
       c.loop-k-test.true refl (c.requires c.loop-k.k-index 0 c.loop-k-test.true) c.index-queues-k.is
-      (c.get-number.ensures.number ∙ ap (λ (u : List ℕ). priority_of u (settings_of c.args.scene.now.priorities.now)) c.bytes.ensures)
+      (c.get-number.ensures.number ∙ ap (λ (u : List ℕ). priority_of u (settings_of c.args.scene.now.priorities.now)) c.bytes.ensures
+        ∙ ap (λ (q : Queue). priority_of q.user (settings_of c.args.scene.now.priorities.now)) (sym c.index-queues-k.is))
       c.weight.ensures c.loop-k.invariant.weights c.in_ok-push.ensures.ok;
   least = subst (All (λ (w : ℕ). 1 ≤ w)) (sym c.in_ok-push.ensures.ok)
       (All-push (λ (w : ℕ). 1 ≤ w) c.loop-k.weights c.weight.result c.loop-k.invariant.least

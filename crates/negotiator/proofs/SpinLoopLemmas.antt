@@ -178,7 +178,7 @@ module _ (scene : Scene) (began : List Job) where
           one : (os : List (Offer ℕ)) → (if is_empty (map (offer_named began) os) then [] else (let u : Turn = record { user = user; slice = slice; offers = map (offer_named began) os } in u ∷ []))
               ≡ map (turn_named began) (cond (not (is_empty os)) ((record { user = user; slice = slice; offers = os }) ∷ []) [])
           one [] = refl
-          one (o ∷ os) = refl
+          one (o ∷ others) = refl
 
   -- ---- a spin
 

@@ -9,7 +9,7 @@ use Rattle.claim_table.specs.declared.job.Standing.{Standing}
 use Rattle.claim_table.specs.Jobs.{wanted, with_standing}
 use Rattle.negotiator.specs.declared.answers.Offered.{Offered}
 use Rattle.negotiator.specs.declared.scene.Scene.{Scene}
-use Rattle.negotiator.specs.Budget.{ArePaid, Counts, is_idle_at}
+use Rattle.negotiator.specs.Budget.{ArePaid, Counts, counts, is_idle_at}
 use Rattle.negotiator.specs.Cycle.{Market, Offer, is_of, is_waiting, places, turn, waits, wants_of}
 use Rattle.negotiator.specs.Markets.{IsPart, found, name_at, offer_named, waiting_of, with_offers}
 use Rattle.negotiator.specs.Scenes.{IsReady, market_in, stock_in}
@@ -59,9 +59,9 @@ in-slice given left wants n is fits = ap (λ b. given && b) (by (omega (arith, i
     none true = refl
     none false = refl
 
-pub in-slice-either : (given : Bool) (left wants n : ℕ) → wants ≡ n → (given ≡ false) ⊎ ((given ≡ true) × (wants ≤ left)) → (given && nat_lt left n) ≡ false
-in-slice-either given left wants n is (inl no) = ap (λ b. b && nat_lt left n) no
-in-slice-either given left wants n is (inr fits) = in-slice given left wants n is fits.1
+pub in-slice-either : (given : Bool) (left wants n : ℕ) → wants ≡ n → ((given ≡ true) × (wants ≤ left)) ⊎ (given ≡ false) → (given && nat_lt left n) ≡ false
+in-slice-either given left wants n is (inl fits) = in-slice given left wants n is fits.1
+in-slice-either given left wants n is (inr none_given) = ap (λ b. b && nat_lt left n) none_given
 
 module _ (scene : Scene) (began : List Job) where
   abbrev m : Market ℕ
@@ -79,6 +79,14 @@ module _ (scene : Scene) (began : List Job) where
   pub turn-start : (user : List ℕ) (is : List ℕ) (slice : ℕ) (marks : List Bool) (before : Counts) → IsReady scene began marks → ArePaid scene.moment (stock_in scene) began began marks marks before before
       → TurnLoop user is slice marks before 0 slice false [] began marks before
   turn-start user is slice marks before ready paid = record { made = []; shown = refl; table = refl; whole = refl; ready = ready; paid = paid }
+
+  -- the same under other names
+  pub loop-same : {user : List ℕ} {is : List ℕ} {slice : ℕ} {marks : List Bool} {before : Counts} {k left left2 : ℕ} {given given2 : Bool} {offers offers2 : List Offered} {jobs jobs2 : List Job} {failed failed2 : List Bool} {tops tops2 entry entry2 touch touch2 : ℕ}
+      → TurnLoop user is slice marks before k left given offers jobs failed (counts tops entry touch)
+      → left2 ≡ left → given2 ≡ given → offers2 ≡ offers → jobs2 ≡ jobs → failed2 ≡ failed → tops2 ≡ tops → entry2 ≡ entry → touch2 ≡ touch
+      → TurnLoop user is slice marks before k left2 given2 offers2 jobs2 failed2 (counts tops2 entry2 touch2)
+  loop-same loop left_is given_is offers_are jobs_are failed_is tops_is entry_is touch_is =
+      rw (left_is, given_is, offers_are, jobs_are, failed_is, tops_is, entry_is, touch_is) loop
 
   module _ {user : List ℕ} {is : List ℕ} {slice : ℕ} {marks : List Bool} {before : Counts} {k left : ℕ} {given : Bool} {offers : List Offered} {jobs : List Job} {failed : List Bool} {now : Counts}
       (loop : TurnLoop user is slice marks before k left given offers jobs failed now) where
@@ -196,8 +204,8 @@ module _ (scene : Scene) (began : List Job) where
 
             pub tried-none : o ≡ None → (later_failed : List Bool) (after : Counts) → IsReady scene later later_failed → ArePaid scene.moment (stock_in scene) jobs later failed later_failed now after
                 → TurnLoop user is slice marks before (k + 1) left given offers later later_failed after
-            tried-none no later_failed after ready paid =
-                let none = none-from jobs i (found scene.moment (stock_in scene) jobs i) (sym told ∙ no) in
+            tried-none is_none later_failed after ready paid =
+                let none = none-from jobs i (found scene.moment (stock_in scene) jobs i) (sym told ∙ is_none) in
                 turn-none later_failed later after none (table-of None none) ready (paid-on scene.moment (stock_in scene) began jobs later marks failed later_failed before now after loop.paid paid)
 
             module _ (answer : Offered) (yes : o ≡ Some answer) where

@@ -7,7 +7,8 @@ use Rattle.negotiator.specs.Markets.{IsPart, offer_named, with_offers}
 use Rattle.negotiator.specs.Scenes.{stock_in}
 use Rattle.negotiator.proofs.BudgetLemmas.{paid-none, paid-on, paid-within, within-on}
 use Rattle.negotiator.proofs.SpinLoopLemmas.{on_err}
-use Rattle.negotiator.proofs.TurnLoopLemmas.{TurnLoop, ended-all, ended-offers, ended-table, in-slice-either, length-here, over-slice, own-place, own-turn, own-within, stopped, tried-none, tried-some, tried-stopped, turn-passes, turn-start, turn-stops, wants-here}
+use Rattle.negotiator.proofs.TurnLoopLemmas.{TurnLoop, ended-all, ended-offers, ended-table, in-slice-either, length-here, loop-same, over-slice, own-place, own-turn, own-within, stopped, tried-none, tried-some, tried-stopped, turn-passes, turn-start, turn-stops, wants-here}
+use Rattle.negotiator.proofs.turns.run_turn.Goals.{then-is_idle+else-given+in_ok-offer+in-Some+in_ok-push, then-is_idle+else-given+in_ok-offer+in_default, else-is_idle}
 use Rattle.negotiator.proofs.turns.run_turn.Goals as goal
 
 pub loop-place-init : goal.loop-place-init
@@ -96,10 +97,33 @@ returns-in_err-push-clause-within g c =
     paid-within c.args.scene.now.moment (stock_in c.args.scene.now) began (jobs_of c.try_job.new.claims) c.args.failed.now c.try_job.new.failed start after
     (paid-on c.args.scene.now.moment (stock_in c.args.scene.now) began jobs (jobs_of c.try_job.new.claims) c.args.failed.now c.loop-place.failed c.try_job.new.failed start now after c.loop-place.invariant.paid c.in_ok-offer.ensures.paid)
 
--- DRAFT: the cases' names are to be read from the goal
--- passes: turn-passes c.args.scene.now (jobs_of c.args.claims.now) c.loop-place.invariant i c.loop-place-test.true refl own (sym c.is_idle.ensures ∙ c.if-is_idle.false)
--- none: tried-none c.args.scene.now (jobs_of c.args.claims.now) c.loop-place.invariant i c.loop-place-test.true refl own (sym c.is_idle.ensures ∙ c.if-is_idle.true) (in-slice-either c.loop-place.given c.loop-place.left c.wants-wants.result _ wants_is c.else-given.either) c.in_ok-offer.field-0 c.in_ok-offer.ensures.offered (jobs_of c.try_job.new.claims) c.in_ok-offer.ensures.table c.in_default.is c.try_job.new.failed after c.in_ok-offer.ensures.ready c.in_ok-offer.ensures.paid
--- some: tried-some c.args.scene.now (jobs_of c.args.claims.now) c.loop-place.invariant i c.loop-place-test.true refl own (sym c.is_idle.ensures ∙ c.if-is_idle.true) (in-slice-either c.loop-place.given c.loop-place.left c.wants-wants.result _ wants_is c.else-given.either) c.in_ok-offer.field-0 c.in_ok-offer.ensures.offered (jobs_of c.try_job.new.claims) c.in_ok-offer.ensures.table c.in-Some.offer c.in-Some.is c.wants-wants.result wants_is c.push.new.self c.in_ok-push.ensures.ok _ c.saturating_sub.ensures c.try_job.new.failed after c.in_ok-offer.ensures.ready c.in_ok-offer.ensures.paid
+pub loop-place-preserved : goal.loop-place-preserved
+loop-place-preserved g c =
+    let scene = c.args.scene.now in
+    let began = jobs_of c.args.claims.now in
+    let items = c.as_slice-place-items.result.now in
+    let i = get_or items c.loop-place.place-index 0 in
+    let own = own-place scene began c.args.queue.now.user items c.loop-place.place-index (c.as_slice-place-items.ensures ∙ c.requires.own) c.loop-place-test.true in
+    elim c.if-is_idle.branch [
+      | then-is_idle+else-given+in_ok-offer+in-Some+in_ok-push w ↦
+          let wants_is = wants-here scene began c.loop-place.invariant i w.wants-wants.result w.wants-wants.ensures in
+          let after = counts w.try_job.new.tops w.try_job.new.entry w.try_job.new.touch in
+          loop-same scene began
+          (tried-some scene began c.loop-place.invariant i c.loop-place-test.true refl own (sym c.is_idle.ensures ∙ w.if-is_idle.true) (in-slice-either c.loop-place.given c.loop-place.left w.wants-wants.result _ wants_is w.else-given.either)
+            w.in_ok-offer.field-0 w.in_ok-offer.ensures.offered (jobs_of w.try_job.new.claims) w.in_ok-offer.ensures.table w.in-Some.offer w.in-Some.is
+            w.wants-wants.result wants_is w.push.new.self w.in_ok-push.ensures.ok _ w.saturating_sub-left.ensures w.try_job.new.failed after w.in_ok-offer.ensures.ready w.in_ok-offer.ensures.paid)
+          w.left-is w.given-is w.offers-is (ap jobs_of w.claims-is) w.failed-is w.tops-is w.entry-is w.touch-is
+      | then-is_idle+else-given+in_ok-offer+in_default w ↦
+          let wants_is = wants-here scene began c.loop-place.invariant i w.wants-wants.result w.wants-wants.ensures in
+          let after = counts w.try_job.new.tops w.try_job.new.entry w.try_job.new.touch in
+          loop-same scene began
+          (tried-none scene began c.loop-place.invariant i c.loop-place-test.true refl own (sym c.is_idle.ensures ∙ w.if-is_idle.true) (in-slice-either c.loop-place.given c.loop-place.left w.wants-wants.result _ wants_is w.else-given.either)
+            w.in_ok-offer.field-0 w.in_ok-offer.ensures.offered (jobs_of w.try_job.new.claims) w.in_ok-offer.ensures.table w.in_default.is w.try_job.new.failed after w.in_ok-offer.ensures.ready w.in_ok-offer.ensures.paid)
+          w.left-is w.given-is w.offers-is (ap jobs_of w.claims-is) w.failed-is w.tops-is w.entry-is w.touch-is
+      | else-is_idle w ↦
+          loop-same scene began (turn-passes scene began c.loop-place.invariant i c.loop-place-test.true refl own (sym c.is_idle.ensures ∙ w.if-is_idle.false))
+          w.left-is w.given-is w.offers-is (ap jobs_of w.claims-is) w.failed-is w.tops-is w.entry-is w.touch-is
+    ]
 
 pub returns-clause-offers : goal.returns-clause-offers
 returns-clause-offers g c =

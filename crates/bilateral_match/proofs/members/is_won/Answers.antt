@@ -13,5 +13,5 @@ slots_world-world-requires-clause-stored g c =
 pub returns-clause-won : goal.returns-clause-won
 returns-clause-won g c =
     subst (λ (won : Bool). IfOk c.is_ranked_lower.result (λ b. b ≡ won))
-    (rank-of-holder c.args.moment (stock_of c.args.store.now) c.args.holder c.in-Some.holder (world_of c.slots_world-world.result) c.args.ranks.regard c.in-Some.is c.slots_world-world.ensures.world)
+    (rank-of-holder c.args.moment (stock_of c.args.store.now) c.args.holder c.in-Some.holder (world_of c.slots_world-world.result) c.args.regard c.in-Some.is c.slots_world-world.ensures.world)
     c.is_ranked_lower.ensures.lower

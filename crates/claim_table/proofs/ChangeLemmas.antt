@@ -8,10 +8,11 @@ use Rattle.std.proofs.lemmas.Bool.Decides.{nat_tests}
 use Rattle.std.proofs.lemmas.List.Elements.{All-push, All-set}
 use Rattle.std.proofs.lemmas.List.Sums.{sum_by_push}
 use Rattle.std.proofs.Math.ListN.{length-set}
+use Rattle.claim_table.specs.declared.answers.JobState.{JobState}
 use Rattle.claim_table.specs.declared.answers.SubmitFault.{SubmitFault}
 use Rattle.claim_table.specs.declared.job.Job.{Job}
 use Rattle.claim_table.specs.declared.job.Standing.{Standing}
-use Rattle.claim_table.specs.Jobs.{AreFree, IsFilled, claim_of, claimed_by, is_named, lists, offer_of, offered_to, refusal, slots_of, text_of, wanted, with_standing}
+use Rattle.claim_table.specs.Jobs.{AreFree, IsFilled, claim_of, claimed_by, is_named, lists, offer_of, offered_to, refusal, slots_of, state_of, text_of, wanted, with_standing}
 use Rattle.claim_table.specs.Kept.{AreNoted, IsKept, names, note_at, passes_at}
 use Rattle.claim_table.proofs.HolderLemmas.{All-found}
 use Rattle.claim_table.proofs.ListLemmas.{All-remove, length-push, length-remove_le, list_any-map, map-push, map-remove, map-set_same, passes_at-push, passes_at-remove, passes_at-set, remove-set, sum_by-remove_at, sum_by-set_same}
@@ -267,6 +268,13 @@ module _ (keys : List (Vec ℕ Global)) (jobs : List Job) (name : List ℕ) (siz
   refusal-none new few light =
       let tested : ltb 33554432 (text_of jobs + size) ≡ false = grind (arith, nat_tests) in
       behind_place new few ∙ ap (λ b. cond b (Some SubmitFault.FullText) None) tested
+
+-- ---- a job that something is offered to
+
+pub matched_offer : (standing : Standing) → state_of standing ≡ JobState.Matched → standing ≡ Standing.Matched (offer_of standing)
+matched_offer Standing.Idle is = absurd (cc)
+matched_offer (Standing.Matched slots) is = refl
+matched_offer (Standing.Claimed slots) is = absurd (cc)
 
 -- ---- answers
 

@@ -11,7 +11,7 @@ use Rattle.claim_table.specs.Claims.{all_idle, losers, offer_at, once}
 use Rattle.claim_table.specs.Jobs.{claim_of, claimed_by, idle_at, lists, offer_of, state_of}
 use Rattle.claim_table.specs.Kept.{AreNoted, names, note_at, passes_at}
 use Rattle.claim_table.proofs.ListLemmas.{passes_at-set}
-use Rattle.claim_table.proofs.NoteLemmas.{listed_one, noted-position, passes_from, passes_within}
+use Rattle.claim_table.proofs.NoteLemmas.{listed_at, listed_one, noted-position, passes_from, passes_within}
 
 -- ---- jobs that are made idle
 
@@ -151,15 +151,6 @@ module _ (jobs : List Job) where
 named_is : (note : Option ℕ) (j : ℕ) → names note j ≡ true → note ≡ Some j
 named_is None j named = absurd (cc)
 named_is (Some k) j named = let same : k ≡ j = grind (arith, nat_tests) in ap (λ m. Some m) same
-
-listed_at : (slots : List ℕ) (k d : ℕ) → k < length slots → lists slots (get_or slots k d) ≡ true
-listed_at [] k d within = absurd (omega (arith, within))
-listed_at (s ∷ slots) zero d within = let same : eqb s s ≡ true = grind (arith, nat_tests) in ap (λ b. b || lists slots s) same
-listed_at (s ∷ slots) (suc k) d within = by (eqb s (get_or slots k d)) (listed_at slots k d (omega (arith, within)))
-  where
-    by : (b : Bool) → lists slots (get_or slots k d) ≡ true → (b || lists slots (get_or slots k d)) ≡ true
-    by true listed = refl
-    by false listed = listed
 
 module _ (claims : List (Option ℕ)) (jobs : List Job) (noted : AreNoted claim_of claims jobs) where
   abbrev claims_slot : ℕ → Job → Bool

@@ -2,7 +2,7 @@
 #![tactic(auto)]
 
 #[cfg(test)]
-mod claiming;
+mod choice;
 #[cfg(test)]
 mod claims;
 #[cfg(test)]

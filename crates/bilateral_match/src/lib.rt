@@ -11,6 +11,7 @@ mod members;
 mod querying;
 mod weighing;
 
+pub use candidates::candidates_at;
 pub use choosing::best;
 pub use docking::{is_decided, pair};
 pub use hit::{Hit, Hits, Match};

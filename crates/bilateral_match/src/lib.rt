@@ -21,5 +21,5 @@ pub use laws::{
     more_offers_leave_no_more_members, no_other_member_comes_before_the_best,
 };
 pub use member::Member;
-pub use members::is_won;
+pub use members::{is_live, is_won};
 pub use querying::query;

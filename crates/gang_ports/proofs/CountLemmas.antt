@@ -70,7 +70,7 @@ module _ (choice : Choice) (count : List ℕ → ℕ) where
 -- a multiple of a count
 pub over-multiple : (choice : Choice) (k : ℕ) (count : List ℕ → ℕ) (n : ℕ) (before : List ℕ) → over_prefixes choice (λ b. k * count b) n before ≡ k * over_prefixes choice count n before
 unfolding over_prefixes
-over-multiple choice k count zero before = refl
+over-multiple choice k count zero before = omega arith
 over-multiple choice k count (suc n) before =
     let rest : over_prefixes choice (λ b. k * count b) n before ≡ k * over_prefixes choice count n before = over-multiple choice k count n before in
     let more : sum_by (λ t. k * count (before ++ t)) (tuples choice n before) ≡ k * sum_by (λ t. count (before ++ t)) (tuples choice n before) = sum_by-multiple k (λ t. count (before ++ t)) (tuples choice n before) in

@@ -1,9 +1,8 @@
 // The resources that the ports of a gang may be given.
-ghost use Rattle.std.specs.Prelude.{◌≡◌, ◌≤◌, ◌<◌, ◌+◌, ◌&&◌, ◌++◌, ℕ, [], length, nat_lt, slice_get, Contains, IfOk, IfSome, None, OnOk, Some, option_map, if◌then◌else◌};
+ghost use Rattle.std.specs.Prelude.{◌≡◌, ◌≤◌, ◌<◌, ◌+◌, ◌&&◌, ◌++◌, ℕ, [], length, slice_get, Contains, IfOk, IfSome, None, OnOk, Some, option_map, if◌then◌else◌};
 ghost use Rattle.std.specs.List.{cons_option};
 ghost use Rattle.ad_tree.specs.Ad.{ad_frames};
 ghost use Rattle.ad_store.specs.Store.{stock_of};
-ghost use Rattle.conjunct_plan.specs.Decided.{is_dock_decided};
 ghost use Rattle.conjunct_plan.specs.Tests.{labels_of, tests_of};
 ghost use Rattle.literal_index.specs.Shown.{IsIndex};
 ghost use Rattle.bilateral_match.specs.Counts.{least_left};
@@ -15,9 +14,8 @@ ghost use Rattle.gang_ports.specs.Search.{AreResources, AreSides};
 use crate::searching::Side;
 use crate::weighing::Resource;
 use ad_store::{Holdings, Store};
-use ad_tree::{Ad, Ports, Request};
-use bilateral_match::candidates_at;
-use conjunct_plan::rules_out;
+use ad_tree::{Ad, Request};
+use bilateral_match::{candidates_at, is_decided, is_live};
 use literal_index::Index;
 use pool_steps::Steps;
 use pool_text::OutOfMemory;
@@ -112,26 +110,9 @@ fn is_free<H: Holdings>(store: &Store, held: &H, slot: usize, moment: u64) -> bo
     ensures { (i : ℕ) → slice_get (stock_of store.now).slots i ≡ Some slot
         → result ≡ is_free (pool_of moment (stock_of store.now) (H.is_offered held.now) (H.holding held.now)) i }
 {
-    is_within(moment, store.born(slot), store.lifetime(slot))
+    is_live(store, slot, moment)
         && !held.offered(slot)
         && held.holder(slot).is_none()
-}
-
-// Whether a moment is before the end of a lifetime, which may be out of 64 bits.
-fn is_within(now: u64, born: u64, lifetime: u64) -> bool
-    ensures { result ≡ nat_lt now (born + lifetime) }
-{
-    now < born || now - born < lifetime
-}
-
-// Whether a test of either side is decided against by the other.
-fn is_decided(alloc: Global, request: &Request, frame: u32, ad: &Ad) -> bool
-    requires { frame < length (ad_frames request.now.ad) }
-    ensures { result ≡ is_dock_decided (ad_frames request.now.ad) frame (labels_of request.now.ports) (ad_frames ad.now) }
-{
-    let no_ports = Ports::new(alloc);
-    rules_out(&request.ad, frame, &request.ports, ad, 0)
-        || rules_out(ad, 0, &no_ports, &request.ad, frame)
 }
 
 // Adds a resource, if there is one.

@@ -1,10 +1,11 @@
 -- Lists: sums over lists of lists, what holds of all of their items, and what passes a test.
-use Rattle.std.proofs.Common.{◌≡◌, ◌<◌, ◌≤◌, ◌+◌, ℕ, zero, suc, Bool, true, false, cond, not, ◌&&◌, refl, List, [], ◌∷◌, ◌++◌, length, map, filter, get_or, set, sum_by, swap, if◌then◌else◌, ◌*◌, All, Contains, ap, sym, ◌∙◌, subst, arith}
+use Rattle.std.proofs.Common.{◌≡◌, ◌<◌, ◌≤◌, ◌+◌, ℕ, zero, suc, Bool, true, false, cond, not, ◌&&◌, refl, List, [], ◌∷◌, ◌++◌, length, map, filter, get_or, set, sum_by, swap, take, if◌then◌else◌, ◌*◌, All, Contains, ap, sym, ◌∙◌, subst, arith}
 use Rattle.std.specs.List.{flat_map}
 use Rattle.std.specs.List.Sorted.{IsPermutation}
 use Rattle.std.proofs.lemmas.List.Elements.{All-append, All-cons, All-head, All-nil, All-tail, Contains-append_left, Contains-append_right}
 use Rattle.std.proofs.lemmas.List.Sorted.{IsPermutation-cons, IsPermutation-keeps, IsPermutation-middle, IsPermutation-refl, IsPermutation-trans}
-use Rattle.std.proofs.lemmas.List.Sums.{sum_by-append, sum_by-cons}
+use Rattle.std.proofs.lemmas.List.{take_all}
+use Rattle.std.proofs.lemmas.List.Sums.{sum_by-append, sum_by-cons, sum_by_more, sum_by_more_le}
 
 -- ---- sums
 
@@ -175,3 +176,16 @@ sum_by-multiple k f (x ∷ xs) =
     ∙ ap (λ m. k * f x + m) (sum_by-multiple k f xs)
     ∙ sym (mul-add k (f x) (sum_by f xs))
     ∙ ap (λ m. k * m) (sym (sum_by-cons f x xs))
+
+-- ---- a counter that grows with each item of a list
+
+module _ {X : Type 0} (f : X → ℕ) (xs : List X) (i before now : ℕ) (so_far : now ≤ before + sum_by f (take i xs)) where
+  module _ (x : X) (after : ℕ) (within : i < length xs) (at : x ≡ get_or xs i x) (step : after ≤ now + f x) where
+    pub count-next : after ≤ before + sum_by f (take (i + 1) xs)
+    count-next = let same : f x ≡ f (get_or xs i x) = ap f at in omega (arith, so_far, step, same, sum_by_more f xs i x within)
+
+    pub count-within : after ≤ before + sum_by f xs
+    count-within = let same : f x ≡ f (get_or xs i x) = ap f at in omega (arith, so_far, step, same, sum_by_more_le f xs i x within)
+
+  pub count-all : length xs ≤ i → now ≤ before + sum_by f xs
+  count-all past = let whole : sum_by f (take i xs) ≡ sum_by f xs = ap (sum_by f) (take_all i xs past) in omega (arith, so_far, whole)

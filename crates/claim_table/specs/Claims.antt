@@ -102,6 +102,10 @@ IsClaimed answer old new claim = claim ≡ (answer, new)
 
 -- ---- what a claim may count
 
+-- what is offered to the job of a number
+abbrev pub offer_at : ℕ → List Job → List ℕ
+offer_at i jobs = option_map_or (λ job. offer_of job.standing) (slice_get jobs i) []
+
 -- what is offered to the job of a name
 abbrev pub offer_named : List ℕ → List Job → List ℕ
 offer_named name jobs = option_map_or (λ job. offer_of job.standing) (job_named name jobs) []

@@ -56,9 +56,9 @@ AreSides pool request ports i (side ∷ sides) = AreResources pool (open_places 
 -- ---- behind a prefix
 
 -- the world is that of a prefix, and the sides are those of the ports behind it
-pub record IsBehind (pool : Pool) (w : PlainWorld) (before : List ℕ) (sides : List Side) : Type 0 where
+pub record IsBehind (pool : Pool) (w : PlainWorld) (before : List ℕ) (left : List Side) : Type 0 where
   pub world : w ≡ gang_world pool w.request w.ports before
-  pub sides : AreSides pool w.request w.ports (length before) sides
+  pub sides : AreSides pool w.request w.ports (length before) left
 
 abbrev pub choice_in : Pool → PlainWorld → Choice
 choice_in pool w = choice_of pool w.request w.ports

@@ -1,5 +1,5 @@
 -- The resources of a port: those among the places that a test leaves.
-use Rattle.std.proofs.Common.{◌≡◌, ◌<◌, ◌≤◌, ◌+◌, ℕ, zero, suc, Bool, true, false, not, ◌&&◌, cond, if◌then◌else◌, refl, List, [], ◌∷◌, ◌++◌, length, map, filter, take, get_or, Option, None, Some, option_map, slice_get, is_some, All, Contains, ap, sym, ◌∙◌, subst, arith, add-zero, add-one, IfSome}
+use Rattle.std.proofs.Common.{◌≡◌, ◌<◌, ◌≤◌, ◌+◌, ◌-◌, ℕ, zero, suc, Bool, true, false, not, ◌&&◌, cond, if◌then◌else◌, refl, List, [], ◌∷◌, ◌++◌, length, map, filter, take, get_or, Option, None, Some, option_map, slice_get, unwrap_or, is_some, All, Contains, ap, sym, ◌∙◌, subst, arith, add-zero, add-one, IfSome}
 use Rattle.std.specs.List.{cons_option, range_with_len}
 use Rattle.std.specs.List.Sorted.{IsPermutation}
 use Rattle.std.specs.Option.{option_map_or}
@@ -106,7 +106,9 @@ module _ (pool : Pool) (request : List Frame) (ports : List Port) where
       (h.0, sides-push (suc i) sides side h.1 (subst (λ (n : ℕ). AreResources pool (open_places pool request ports (port_frame ports (suc n))) side.resources.items) moved one))
 
   frame-at : (i : ℕ) (port : Port) → slice_get ports i ≡ Some port → port_frame ports (suc i) ≡ port.frame
-  frame-at i port at = ap (λ (o : Option Port). option_map_or (λ (p : Port). p.frame) o 0) at
+  frame-at i port at =
+      let back : suc i - 1 ≡ i = omega arith in
+      ap (λ (k : ℕ). unwrap_or (option_map (λ (p : Port). p.frame) (slice_get ports k)) 0) back ∙ ap (λ (o : Option Port). unwrap_or (option_map (λ (p : Port). p.frame) o) 0) at
 
   pub sides-next : (sides new : List Side) (side : Side) (i : ℕ) (port : Port) → new ≡ sides ++ side ∷ [] → AreSides pool request ports 0 sides → length sides ≡ i → slice_get ports i ≡ Some port
       → AreResources pool (open_places pool request ports port.frame) side.resources.items → AreSides pool request ports 0 new

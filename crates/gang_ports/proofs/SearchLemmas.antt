@@ -1,8 +1,9 @@
 -- A search behind a prefix: what its candidates are, what they take, and what is found behind each.
-use Rattle.std.proofs.Common.{◌≡◌, ◌<◌, ◌≤◌, ◌+◌, ◌*◌, ℕ, zero, suc, Bool, true, false, not, ◌&&◌, cond, if◌then◌else◌, refl, List, [], ◌∷◌, ◌++◌, length, map, filter, get_or, take, sum_by, below_more, Option, None, Some, option_map, All, ap, sym, ◌∙◌, subst, arith, append_assoc, ℤ, IsSorted}
+use Rattle.std.proofs.Common.{◌≡◌, ◌<◌, ◌≤◌, ◌+◌, ◌-◌, ◌*◌, ℕ, zero, suc, Bool, true, false, not, ◌&&◌, cond, if◌then◌else◌, refl, List, [], ◌∷◌, ◌++◌, length, map, filter, get_or, take, sum_by, below_more, Option, None, Some, option_map, All, ap, sym, ◌∙◌, subst, arith, append_assoc, ℤ, IsSorted}
 use Rattle.std.specs.List.{cons_option, filter_map}
 use Rattle.std.specs.List.Sorted.{IsPermutation}
 use Rattle.std.specs.Ordering.{int_cmp, is_lt, nat_cmp, ordering_then}
+use Rattle.std.proofs.Math.Seq.{take-append_seam}
 use Rattle.std.proofs.lemmas.List.{append-nil}
 use Rattle.std.proofs.lemmas.List.Elements.{All-cons, All-from_get_or, All-head, All-nil, All-tail}
 use Rattle.std.proofs.lemmas.List.Sorted.{All-permutation, IsPermutation-map, IsPermutation-trans, sum_by-IsPermutation}
@@ -199,6 +200,20 @@ outcome-whole choice before after same =
 
 -- ---- a turn of the search: the next port, and the candidates for it one after another
 
+-- the candidates, of which there is another list
+pub tries-all : (w : PlainWorld) (b before : List ℕ) (rs others : List Resource) (found tries : List Candidate) → b ≡ before → rs ≡ others → tries ≡ found
+    → IsPermutation (weighed w b rs) found → IsPermutation (weighed w before others) tries
+tries-all w b before rs others found tries same whole is all =
+    subst (λ (ts : List Candidate). IsPermutation (weighed w before others) ts) (sym is)
+    (subst (λ (xs : List Candidate). IsPermutation xs found) (ap (λ (c : List ℕ). weighed w c rs) same ∙ ap (weighed w before) whole) all)
+
+-- the places before the one that was added last
+pub popped : (xs ys new : List ℕ) (p n : ℕ) → xs ≡ ys ++ p ∷ [] → n ≡ length xs → new ≡ take (n - 1) xs → new ≡ ys
+popped xs ys new p n added many cut =
+    let long : length xs ≡ suc (length ys) = ap length added ∙ length-more ys p in
+    let fewer : n - 1 ≡ length ys = omega (arith, many, long) in
+    cut ∙ ap (λ (k : ℕ). take k xs) fewer ∙ ap (take (length ys)) added ∙ take-append_seam ys (p ∷ [])
+
 module _ (pool : Pool) (w : PlainWorld) (before : List ℕ) (side : Side) (sides others : List Side) (cut : sides ≡ side ∷ others) (h : IsBehind pool w before sides) where
   next_port : AreResources pool (open_places pool w.request w.ports (port_frame w.ports (suc (length before)))) side.resources.items
   next_port = (subst (AreSides pool w.request w.ports (length before)) cut h.sides).0
@@ -207,11 +222,18 @@ module _ (pool : Pool) (w : PlainWorld) (before : List ℕ) (side : Side) (sides
   ports_left = (subst (AreSides pool w.request w.ports (length before)) cut h.sides).1
 
   -- what weighing the resources takes
-  pub first-evaluations : (start weighed : ℕ) → weighed ≤ start + sum_by (evaluations_of before) side.resources.items → weighed ≤ start + evaluations_behind pool w.request w.ports before
-  first-evaluations start weighed step = omega (arith, step, evaluations-are pool w before h.world side.resources.items next_port)
+  module _ (b : List ℕ) (rs : List Resource) (same : b ≡ before) (whole : rs ≡ side.resources.items) (start weighed : ℕ) where
+    pub first-evaluations : weighed ≤ start + sum_by (evaluations_of b) rs → weighed ≤ start + evaluations_behind pool w.request w.ports before
+    first-evaluations step =
+        let total : sum_by (evaluations_of b) rs ≡ evaluations_behind pool w.request w.ports before =
+        ap (λ (c : List ℕ). sum_by (evaluations_of c) rs) same ∙ ap (sum_by (evaluations_of before)) whole ∙ evaluations-are pool w before h.world side.resources.items next_port in
+        subst (λ n. weighed ≤ start + n) total step
 
-  pub first-attributes : (start weighed : ℕ) → weighed ≤ start + sum_by (attributes_of w before) side.resources.items → weighed ≤ start + attributes_behind pool w.request w.ports before
-  first-attributes start weighed step = omega (arith, step, attributes-are pool w before h.world side.resources.items next_port)
+    pub first-attributes : weighed ≤ start + sum_by (attributes_of w b) rs → weighed ≤ start + attributes_behind pool w.request w.ports before
+    first-attributes step =
+        let total : sum_by (attributes_of w b) rs ≡ attributes_behind pool w.request w.ports before =
+        ap (λ (c : List ℕ). sum_by (attributes_of w c) rs) same ∙ ap (sum_by (attributes_of w before)) whole ∙ attributes-are pool w before h.world side.resources.items next_port in
+        subst (λ n. weighed ≤ start + n) total step
 
   module _ (count : List ℕ → ℕ) (start weighed : ℕ) (first : weighed ≤ start + count before) where
     pub turn-first : weighed ≤ start + over_prefixes (choice_in pool w) count (length sides) before

@@ -9,12 +9,12 @@ use Rattle.gang_ports.proofs.SearchLemmas.{place_of}
 use Rattle.gang_ports.proofs.searching.+search.Given as goal
 
 abbrev pub decreases-search : goal.decreases-search
-decreases-search l = length l.sides.now
+decreases-search g l = length l.sides.now
 
 -- nothing was found behind the candidates so far
 abbrev pub invariant-loop-candidate : goal.invariant-loop-candidate
 invariant-loop-candidate g l = record {
-  same : l.before.items ≡ l.initial.before.items;
+  same : (pool : Pool) → IsBehind pool (world_of l.world) l.initial.before.items l.fn.sides → l.before.items ≡ l.initial.before.items;
   passed : (pool : Pool) → IsBehind pool (world_of l.world) l.initial.before.items l.fn.sides → (j : ℕ) → j < l.candidate-index
       → tuples (choice_in pool (world_of l.world)) (length l.others) (l.initial.before.items ++ get_or (map place_of l.candidate-items) j 0 ∷ []) ≡ [];
   evaluations : (pool : Pool) → IsBehind pool (world_of l.world) l.initial.before.items l.fn.sides

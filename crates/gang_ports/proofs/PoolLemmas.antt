@@ -7,10 +7,11 @@ use Rattle.ad_tree.specs.Frames.{Frame}
 use Rattle.ad_tree.specs.declared.request.Port.{Port}
 use Rattle.ad_store.specs.Stock.{is_live}
 use Rattle.bilateral_match.specs.Pool.{Pool}
-use Rattle.eval_scope.specs.World.{attribute_count, port_frame}
+use Rattle.eval_scope.specs.World.{PlainWorld, attribute_count, port_frame}
 use Rattle.gang_ports.specs.Choice.{Choice, IsFirstOf, first_of, is_among, over_prefixes, tuples}
 use Rattle.gang_ports.specs.Gangs.{attributes_behind, attributes_open, choice_of, docks_open, evaluations_behind, free_places, gang, gang_world, is_free, is_open, open_docks, open_places}
-use Rattle.gang_ports.specs.Search.{Outcome}
+use Rattle.gang_ports.specs.declared.searching.Side.{Side}
+use Rattle.gang_ports.specs.Search.{AreSides, IsBehind, Outcome, attributes_from, choice_in, evaluations_from}
 use Rattle.gang_ports.proofs.CountLemmas.{over-multiple}
 use Rattle.gang_ports.proofs.LawLemmas.{all-tuples, fewer, filter-turned, first-are, length-fewer, none-fewer, over-fewer, sum-fewer}
 use Rattle.gang_ports.proofs.ListLemmas.{filter-both}
@@ -42,6 +43,46 @@ module _ (pool : Pool) (request : List Frame) (ports : List Port) where
 
   pub evaluations-total : over_prefixes (choice_of pool request ports) (evaluations_behind pool request ports) (length ports) [] ≡ 3 * docks_open pool request ports
   evaluations-total = over-multiple (choice_of pool request ports) 3 (λ before. length (open_docks pool request ports before)) (length ports) []
+
+  -- ---- as the code has it: a world, the places before and the sides, of which there is another list
+
+  module _ (w : PlainWorld) (same : w ≡ gang_world pool request ports []) (before : List ℕ) (none : before ≡ []) where
+    pub starts : (sides others : List Side) → sides ≡ others → AreSides pool request ports 0 others → IsBehind pool w before sides
+    starts sides others is are =
+        subst (λ (u : PlainWorld). IsBehind pool u before sides) (sym same)
+        (subst (λ (b : List ℕ). IsBehind pool (gang_world pool request ports []) b sides) (sym none)
+        (record { world = refl; sides = subst (AreSides pool request ports 0) (sym is) are }))
+
+    outcome-of : (n : ℕ) (after : List ℕ) (b : Bool) → Outcome (choice_in pool w) n before after b → Outcome (choice_of pool request ports) n [] after b
+    outcome-of n after b o =
+        subst (λ (c : List ℕ). Outcome (choice_of pool request ports) n c after b) none
+        (subst (λ (u : PlainWorld). Outcome (choice_in pool u) n before after b) same o)
+
+    pub found-whole : (n : ℕ) (after : List ℕ) → n ≡ length ports → Outcome (choice_in pool w) n before after true → gang pool request ports ≡ Some after
+    found-whole n after many o = gang-found n after many (outcome-of n after true o)
+
+    pub none-whole : (n : ℕ) (after : List ℕ) → n ≡ length ports → Outcome (choice_in pool w) n before after false → gang pool request ports ≡ None
+    none-whole n after many o = gang-none n after many (outcome-of n after false o)
+
+    pub within-whole : (n m : ℕ) (after : List ℕ) → length pool.ads ≤ m → Outcome (choice_in pool w) n before after true → All (λ p. p < m) after
+    within-whole n m after fits o = gang-within n m after fits (outcome-of n after true o)
+
+    pub evaluations-whole : (n start tops : ℕ) → n ≡ length ports → tops ≤ start + evaluations_from pool w n before → tops ≤ start + 3 * docks_open pool request ports
+    evaluations-whole n start tops many step =
+        let total : evaluations_from pool w n before ≡ 3 * docks_open pool request ports =
+        ap (λ (u : PlainWorld). evaluations_from pool u n before) same
+        ∙ ap (over_prefixes (choice_of pool request ports) (evaluations_behind pool request ports) n) none
+        ∙ ap (λ (k : ℕ). over_prefixes (choice_of pool request ports) (evaluations_behind pool request ports) k []) many
+        ∙ evaluations-total in
+        subst (λ (k : ℕ). tops ≤ start + k) total step
+
+    pub attributes-whole : (n start entry : ℕ) → n ≡ length ports → entry ≤ start + attributes_from pool w n before → entry ≤ start + attributes_open pool request ports
+    attributes-whole n start entry many step =
+        let total : attributes_from pool w n before ≡ attributes_open pool request ports =
+        ap (λ (u : PlainWorld). attributes_from pool u n before) same
+        ∙ ap (over_prefixes (choice_of pool request ports) (attributes_behind pool request ports) n) none
+        ∙ ap (λ (k : ℕ). over_prefixes (choice_of pool request ports) (attributes_behind pool request ports) k []) many in
+        subst (λ (k : ℕ). entry ≤ start + k) total step
 
   -- ---- more offers
 

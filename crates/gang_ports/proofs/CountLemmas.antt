@@ -1,10 +1,9 @@
 -- Sums over prefixes, place by place.
-use Rattle.std.proofs.Common.{◌≡◌, ◌<◌, ◌≤◌, ◌+◌, ◌*◌, ℕ, zero, suc, refl, List, [], ◌∷◌, ◌++◌, length, map, take, get_or, sum_by, ap, sym, ◌∙◌, subst, arith, add-zero, zero-add, append_assoc}
-use Rattle.std.specs.List.{flat_map}
+use Rattle.std.proofs.Common.{◌≡◌, ◌<◌, ◌≤◌, ◌+◌, ◌*◌, ℕ, zero, suc, refl, List, [], ◌∷◌, ◌++◌, length, map, take, get_or, sum_by, ap, sym, ◌∙◌, arith, append_assoc}
 use Rattle.std.specs.List.Sorted.{IsPermutation}
 use Rattle.std.proofs.lemmas.List.{append-nil}
 use Rattle.std.proofs.lemmas.List.Sorted.{sum_by-IsPermutation}
-use Rattle.std.proofs.lemmas.List.Sums.{sum_by-append, sum_by-cons, sum_by-take-le, sum_by_more, sum_by_more_le}
+use Rattle.std.proofs.lemmas.List.Sums.{sum_by-cons, sum_by-take-le, sum_by_more, sum_by_more_le}
 use Rattle.gang_ports.specs.Choice.{Choice, next, over_prefixes, tuples}
 use Rattle.gang_ports.proofs.ListLemmas.{mul-add, sum_by-both, sum_by-flat_map, sum_by-map, sum_by-multiple, sum_by-none, sum_by-same}
 
@@ -17,8 +16,8 @@ module _ (choice : Choice) (count : List ℕ → ℕ) where
       sum_by-flat_map (λ tuple. count (before ++ tuple)) (λ p. map (λ tuple. p ∷ tuple) (tuples choice n (before ++ p ∷ []))) (next choice before)
       ∙ sum_by-same (λ p. sum_by (λ tuple. count (before ++ tuple)) (map (λ tuple. p ∷ tuple) (tuples choice n (before ++ p ∷ [])))) (λ p. sum_by (λ tuple. count ((before ++ p ∷ []) ++ tuple)) (tuples choice n (before ++ p ∷ [])))
       (λ p.
-        sum_by-map (λ tuple. count (before ++ tuple)) (λ tuple. p ∷ tuple) (tuples choice n (before ++ p ∷ []))
-        ∙ sum_by-same (λ tuple. count (before ++ p ∷ tuple)) (λ tuple. count ((before ++ p ∷ []) ++ tuple)) (λ tuple. ap count (sym (append_assoc before (p ∷ []) tuple))) (tuples choice n (before ++ p ∷ [])))
+      sum_by-map (λ tuple. count (before ++ tuple)) (λ tuple. p ∷ tuple) (tuples choice n (before ++ p ∷ []))
+      ∙ sum_by-same (λ tuple. count (before ++ p ∷ tuple)) (λ tuple. count ((before ++ p ∷ []) ++ tuple)) (λ tuple. ap count (sym (append_assoc before (p ∷ []) tuple))) (tuples choice n (before ++ p ∷ [])))
       (next choice before)
 
   -- over the prefixes behind one: itself, and those behind each next place

@@ -1,12 +1,11 @@
 -- The worlds of prefixes, and which docks in them can be true.
-use Rattle.std.proofs.Common.{◌≡◌, ◌<◌, ◌≤◌, ◌+◌, ℕ, zero, suc, Bool, true, false, not, ◌&&◌, ◌||◌, refl, List, [], ◌∷◌, ◌++◌, length, map, filter, Option, None, Some, slice_get, unwrap_or, ap, sym, ◌∙◌, subst, arith}
-use Rattle.std.specs.List.{range_with_len}
+use Rattle.std.proofs.Common.{◌≡◌, ℕ, suc, Bool, true, false, not, ◌&&◌, refl, List, [], ◌∷◌, ◌++◌, length, map, filter, Option, Some, slice_get, unwrap_or, ap, sym, ◌∙◌, arith}
 use Rattle.ad_tree.specs.Frames.{Frame}
 use Rattle.ad_tree.specs.declared.request.Port.{Port}
 use Rattle.ad_eval.specs.Dock.{is_docked}
 use Rattle.conjunct_plan.specs.Decided.{is_dock_decided}
 use Rattle.conjunct_plan.specs.Tests.{labels_of}
-use Rattle.eval_scope.specs.World.{PlainWorld, port_frame, request_side, resource_side, with_docked}
+use Rattle.eval_scope.specs.World.{PlainWorld, port_frame, with_docked}
 use Rattle.bilateral_match.specs.Docks.{is_last_decided, last_ad}
 use Rattle.bilateral_match.specs.Pool.{Pool}
 use Rattle.bilateral_match.proofs.UndecidedLemmas.{never-docked}

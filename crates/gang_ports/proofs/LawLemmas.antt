@@ -1,5 +1,5 @@
 -- That the computed tuple is the first, and what is left to choose among where fewer places are free.
-use Rattle.std.proofs.Common.{◌≡◌, ◌<◌, ◌≤◌, ◌+◌, ℕ, zero, suc, Bool, true, false, cond, not, ◌&&◌, if◌then◌else◌, refl, List, [], ◌∷◌, ◌++◌, length, map, filter, get_or, sum_by, Option, None, Some, All, Contains, ap, sym, ◌∙◌, subst, arith, Less, Equal, Greater}
+use Rattle.std.proofs.Common.{◌≡◌, ◌≤◌, ℕ, zero, suc, Bool, true, false, cond, if◌then◌else◌, refl, List, [], ◌∷◌, ◌++◌, length, map, filter, get_or, sum_by, Option, None, Some, All, ap, sym, ◌∙◌, subst, arith, Less, Equal, Greater}
 use Rattle.std.specs.List.{flat_map}
 use Rattle.std.specs.Ordering.{is_lt, ordering_reverse, ordering_then}
 use Rattle.std.specs.declared.cmp.Ordering.{Ordering}
@@ -110,9 +110,9 @@ module _ (choice : Choice) where
   all-tuples P free (suc n) before =
       All-flat_map (λ t. All P t) (λ p. map (λ t. p ∷ t) (tuples choice n (before ++ p ∷ []))) (next choice before)
       (λ k d within.
-        let p = get_or (next choice before) k d in
-        let one : P p = All-filter (fits choice before) P choice.free free k d within in
-        All-map (λ t. All P t) (λ t. p ∷ t) (tuples choice n (before ++ p ∷ [])) (λ j e w. All-cons P p (get_or (tuples choice n (before ++ p ∷ [])) j e) one (all-tuples P free n (before ++ p ∷ []) j e w)))
+      let p = get_or (next choice before) k d in
+      let one : P p = All-filter (fits choice before) P choice.free free k d within in
+      All-map (λ t. All P t) (λ t. p ∷ t) (tuples choice n (before ++ p ∷ [])) (λ j e w. All-cons P p (get_or (tuples choice n (before ++ p ∷ [])) j e) one (all-tuples P free n (before ++ p ∷ []) j e w)))
 
 -- ---- fewer free places
 
@@ -177,9 +177,9 @@ module _ (q : ℕ → Bool) (choice : Choice) where
       ∙ flat_map-none (λ p. map (λ t. p ∷ t) (tuples (fewer q choice) n (before ++ p ∷ []))) (filter q (next choice before))
       (All-filter q (λ p. map (λ t. p ∷ t) (tuples (fewer q choice) n (before ++ p ∷ [])) ≡ []) (next choice before)
       (λ k d within.
-        let p = get_or (next choice before) k d in
-        let none : map (λ t. p ∷ t) (tuples choice n (before ++ p ∷ [])) ≡ [] = all-none (λ p. map (λ t. p ∷ t) (tuples choice n (before ++ p ∷ []))) (next choice before) e k d within in
-        ap (map (λ t. p ∷ t)) (none-fewer n (before ++ p ∷ []) (unmapped (λ t. p ∷ t) (tuples choice n (before ++ p ∷ [])) none))))
+      let p = get_or (next choice before) k d in
+      let none : map (λ t. p ∷ t) (tuples choice n (before ++ p ∷ [])) ≡ [] = all-none (λ p. map (λ t. p ∷ t) (tuples choice n (before ++ p ∷ []))) (next choice before) e k d within in
+      ap (map (λ t. p ∷ t)) (none-fewer n (before ++ p ∷ []) (unmapped (λ t. p ∷ t) (tuples choice n (before ++ p ∷ [])) none))))
 
   pub over-fewer : (few many : List ℕ → ℕ) → ((before : List ℕ) → few before ≤ many before) → (n : ℕ) (before : List ℕ) → over_prefixes (fewer q choice) few n before ≤ over_prefixes choice many n before
   unfolding over_prefixes

@@ -1,6 +1,5 @@
 -- The first of some tuples, and how it is found behind a prefix: by the places that may be next, in order.
-use Rattle.std.proofs.Common.{◌≡◌, ◌<◌, ◌≤◌, ℕ, zero, suc, Bool, true, false, cond, if◌then◌else◌, refl, List, [], ◌∷◌, ◌++◌, length, map, get_or, Option, None, Some, All, Contains, ap, sym, ◌∙◌, subst, arith, ℤ, Less, Equal, Greater}
-use Rattle.std.specs.List.{flat_map}
+use Rattle.std.proofs.Common.{◌≡◌, ◌<◌, ℕ, zero, suc, Bool, true, false, if◌then◌else◌, refl, List, [], ◌∷◌, ◌++◌, length, map, get_or, Option, None, Some, All, Contains, ap, sym, ◌∙◌, subst, arith, Less, Equal, Greater}
 use Rattle.std.specs.List.Sorted.{IsPermutation, IsSorted}
 use Rattle.std.specs.Cmp.{IsTotalOrder, IsStrictWeakOrder}
 use Rattle.std.specs.Ordering.{int_cmp, is_lt, nat_cmp, ordering_reverse, ordering_then}

@@ -1,5 +1,5 @@
 -- Gangs of a pool: what a search from nothing finds, and what more offers leave.
-use Rattle.std.proofs.Common.{◌≡◌, ◌<◌, ◌≤◌, ◌+◌, ◌*◌, ℕ, zero, suc, Bool, true, false, not, ◌&&◌, refl, List, [], ◌∷◌, ◌++◌, length, filter, map, Option, None, Some, option_map, slice_get, is_some, sum_by, All, ap, sym, ◌∙◌, subst, arith}
+use Rattle.std.proofs.Common.{◌≡◌, ◌<◌, ◌≤◌, ◌+◌, ◌*◌, ℕ, zero, suc, Bool, true, false, not, ◌&&◌, refl, List, [], ◌∷◌, ◌++◌, length, filter, Option, None, Some, slice_get, is_some, sum_by, All, ap, sym, ◌∙◌, subst, arith}
 use Rattle.std.specs.List.{range_with_len}
 use Rattle.std.specs.Option.{option_map_or}
 use Rattle.std.proofs.lemmas.List.Elements.{All-cons, All-contains, All-filter, All-nil, filter_agree}
@@ -151,6 +151,6 @@ module _ (pool : Pool) (request : List Frame) (ports : List Port) where
         subst (λ c. over_prefixes c (attributes_behind later request ports) (length ports) [] ≤ attributes_open pool request ports) (sym choice-fewer)
         (over-fewer unoffered (choice_of pool request ports) (attributes_behind later request ports) (attributes_behind pool request ports)
         (λ before.
-          let count = λ (p : ℕ). 3 * attribute_count (gang_world pool request ports (before ++ p ∷ [])) in
-          let same : (p : ℕ) → count p ≤ count p = λ p. omega arith in
-          subst (λ ps. sum_by count ps ≤ sum_by count (open_docks pool request ports before)) (sym (docks-fewer before)) (sum-fewer unoffered count count same (open_docks pool request ports before))) (length ports) [])
+        let count = λ (p : ℕ). 3 * attribute_count (gang_world pool request ports (before ++ p ∷ [])) in
+        let same : (p : ℕ) → count p ≤ count p = λ p. omega arith in
+        subst (λ ps. sum_by count ps ≤ sum_by count (open_docks pool request ports before)) (sym (docks-fewer before)) (sum-fewer unoffered count count same (open_docks pool request ports before))) (length ports) [])

@@ -1,5 +1,5 @@
 -- The ports of an ad, port by port.
-use Rattle.std.proofs.Common.{◌≡◌, ◌<◌, ◌≤◌, ◌+◌, ◌-◌, ℕ, zero, suc, Bool, true, false, not, ◌&&◌, ◌||◌, refl, List, [], ◌∷◌, ◌++◌, length, map, drop, take, get_or, Option, None, Some, option_map, slice_get, ap, sym, ◌∙◌, subst, arith, append_assoc, position, add-one, length-drop}
+use Rattle.std.proofs.Common.{◌≡◌, ◌<◌, ◌≤◌, ◌+◌, ◌-◌, ℕ, suc, Bool, true, false, not, ◌&&◌, ◌||◌, refl, List, [], ◌∷◌, ◌++◌, length, map, drop, take, get_or, Option, None, Some, option_map, slice_get, ap, sym, ◌∙◌, arith, append_assoc, position, add-one, length-drop}
 use Rattle.std.specs.List.{list_any}
 use Rattle.std.specs.Option.{option_and_then}
 use Rattle.std.proofs.lemmas.List.{append-nil, drop_all, take_all}
@@ -9,7 +9,7 @@ use Rattle.ad_tree.specs.declared.request.Port.{Port}
 use Rattle.ad_tree.specs.Enclosing.{expr_named}
 use Rattle.ad_tree.specs.Frames.{Frame, attributes_in, expr_at, names_of}
 use Rattle.ad_tree.specs.Names.{are_apart, has_name, same_name}
-use Rattle.ad_tree.specs.Tree.{Tree, Trees, more, none, pack}
+use Rattle.ad_tree.specs.Tree.{Tree, Trees, pack}
 use Rattle.ad_tree.proofs.TreeLemmas.{pack-drop}
 use Rattle.gang_ports.specs.Ports.{port_of, ports_of_all}
 

@@ -1,9 +1,9 @@
 -- The resources of a port: those among the places that a test leaves.
-use Rattle.std.proofs.Common.{◌≡◌, ◌<◌, ◌≤◌, ◌+◌, ◌-◌, ℕ, zero, suc, Bool, true, false, not, ◌&&◌, cond, if◌then◌else◌, refl, List, [], ◌∷◌, ◌++◌, length, map, filter, take, get_or, Option, None, Some, option_map, slice_get, unwrap_or, is_some, All, Contains, ap, sym, ◌∙◌, subst, arith, add-zero, add-one, IfSome}
+use Rattle.std.proofs.Common.{◌≡◌, ◌<◌, ◌+◌, ◌-◌, ℕ, suc, Bool, true, false, not, ◌&&◌, cond, if◌then◌else◌, refl, List, [], ◌∷◌, ◌++◌, length, map, filter, take, get_or, Option, None, Some, option_map, slice_get, unwrap_or, All, ap, sym, ◌∙◌, subst, arith, add-zero, add-one, IfSome}
 use Rattle.std.specs.List.{cons_option, range_with_len}
 use Rattle.std.specs.List.Sorted.{IsPermutation}
 use Rattle.std.specs.Option.{option_map_or}
-use Rattle.std.proofs.lemmas.List.{append-nil, take_all, take_more}
+use Rattle.std.proofs.lemmas.List.{append-nil}
 use Rattle.std.proofs.lemmas.List.Elements.{All-push, filter_more}
 use Rattle.ad_tree.specs.Ad.{ad_frames}
 use Rattle.ad_tree.specs.Frames.{Frame}
@@ -61,9 +61,9 @@ module _ (pool : Pool) (request : List Frame) (ports : List Port) (frame : ℕ) 
   asked-places places some rs are ads =
       let whole : filter is_asked (range_with_len 0 (length pool.ads)) ≡ filter is_asked (places_where some.passes 0 pool.ads) =
       kept-where is_asked some.passes 0 pool.ads (λ i a at e.
-        let ad_is : ad_at pool i ≡ a.ad = ap (λ (o : Option Advert). option_map_or (λ (b : Advert). b.ad) o []) at in
-        let start : 0 + i ≡ i = omega arith in
-        ap is_asked start ∙ closed (is_free pool i) (is_open pool request ports frame i) (ap (λ (ad : List Frame). not (is_dock_decided request frame (labels_of ports) ad)) ad_is ∙ some.others a e)) in
+      let ad_is : ad_at pool i ≡ a.ad = ap (λ (o : Option Advert). option_map_or (λ (b : Advert). b.ad) o []) at in
+      let start : 0 + i ≡ i = omega arith in
+      ap is_asked start ∙ closed (is_free pool i) (is_open pool request ports frame i) (ap (λ (ad : List Frame). not (is_dock_decided request frame (labels_of ports) ad)) ad_is ∙ some.others a e)) in
       let moved : IsPermutation (filter is_asked (places_where some.passes 0 pool.ads)) (filter is_asked places) = IsPermutation-filter is_asked (places_where some.passes 0 pool.ads) places some.all in
       record {
         all = subst (λ (ys : List ℕ). IsPermutation (open_places pool request ports frame) ys) (sym are) (subst (λ (xs : List ℕ). IsPermutation xs (filter is_asked places)) (sym (open-asked ∙ whole)) moved);

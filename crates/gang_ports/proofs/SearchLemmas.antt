@@ -1,5 +1,5 @@
 -- A search behind a prefix: what its candidates are, what they take, and what is found behind each.
-use Rattle.std.proofs.Common.{◌≡◌, ◌<◌, ◌≤◌, ◌+◌, ◌-◌, ◌*◌, ℕ, zero, suc, Bool, true, false, not, ◌&&◌, cond, if◌then◌else◌, refl, List, [], ◌∷◌, ◌++◌, length, map, filter, get_or, take, sum_by, below_more, Option, None, Some, option_map, All, ap, sym, ◌∙◌, subst, arith, append_assoc, ℤ, IsSorted}
+use Rattle.std.proofs.Common.{◌≡◌, ◌<◌, ◌≤◌, ◌+◌, ◌-◌, ◌*◌, ℕ, zero, suc, Bool, true, false, not, ◌&&◌, cond, if◌then◌else◌, refl, List, [], ◌∷◌, ◌++◌, length, map, filter, get_or, take, sum_by, below_more, None, Some, option_map, All, ap, sym, ◌∙◌, subst, arith, append_assoc, ℤ, IsSorted}
 use Rattle.std.specs.List.{cons_option, filter_map}
 use Rattle.std.specs.List.Sorted.{IsPermutation}
 use Rattle.std.specs.Ordering.{int_cmp, is_lt, nat_cmp, ordering_then}
@@ -16,9 +16,9 @@ use Rattle.bilateral_match.specs.Pool.{Pool}
 use Rattle.gang_ports.specs.declared.searching.Side.{Side}
 use Rattle.gang_ports.specs.declared.weighing.Candidate.{Candidate}
 use Rattle.gang_ports.specs.declared.weighing.Resource.{Resource}
-use Rattle.gang_ports.specs.Choice.{Choice, IsFirst, fits, is_among, next, over_prefixes, place_order, tuple_order, tuples}
-use Rattle.gang_ports.specs.Gangs.{ad_at, attributes_behind, choice_of, evaluations_behind, gang_world, open_docks, open_places}
-use Rattle.gang_ports.specs.Search.{AreResources, AreSides, IsBehind, Outcome, attributes_from, attributes_of, candidate_of, candidate_order, choice_in, evaluations_from, evaluations_of, weighed, worth}
+use Rattle.gang_ports.specs.Choice.{Choice, fits, is_among, next, over_prefixes, place_order, tuple_order, tuples}
+use Rattle.gang_ports.specs.Gangs.{ad_at, attributes_behind, evaluations_behind, gang_world, open_docks, open_places}
+use Rattle.gang_ports.specs.Search.{AreResources, AreSides, IsBehind, Outcome, attributes_from, attributes_of, candidate_of, candidate_order, choice_in, evaluations_from, evaluations_of, weighed}
 use Rattle.gang_ports.proofs.CountLemmas.{at-deeper, at-first, at-next, at-place, behind}
 use Rattle.gang_ports.proofs.DockLemmas.{gang-with, next-open}
 use Rattle.gang_ports.proofs.ListLemmas.{IsPermutation-filter, length-mapped, length-more, mapped-at, sum_by-agree, sum_by-constant, sum_by-map, sum_by-passing}
@@ -132,8 +132,8 @@ module _ (pool : Pool) (w : PlainWorld) (before : List ℕ) (same : w ≡ gang_w
     attributes-are =
         sum_by-agree (attributes_of w before) (λ (r : Resource). if is_among before r.place then 0 else 3 * attribute_count (gang_world pool w.request w.ports (before ++ r.place ∷ []))) rs
         (λ k d within.
-          let r = get_or rs k d in
-          ap (λ (u : PlainWorld). if is_among before r.place then 0 else 3 * attribute_count u) (docked-is (ad_frames r.ad.now) r.place (resources.ads k d within)))
+        let r = get_or rs k d in
+        ap (λ (u : PlainWorld). if is_among before r.place then 0 else 3 * attribute_count u) (docked-is (ad_frames r.ad.now) r.place (resources.ads k d within)))
         ∙ sum-open (λ p. 3 * attribute_count (gang_world pool w.request w.ports (before ++ p ∷ [])))
 
     module _ (tries : List Candidate) (all : IsPermutation (weighed w before rs) tries) where
@@ -192,11 +192,14 @@ module _ (choice : Choice) (n : ℕ) (before cs : List ℕ) (all : IsPermutation
 
 pub outcome-whole : (choice : Choice) (before after : List ℕ) → after ≡ before → Outcome choice 0 before after true
 unfolding tuples tuple_order
-outcome-whole choice before after same =
-    ([], same ∙ sym (append-nil before), record {
-      among = (zero, omega arith, refl);
-      none_before = All-cons (λ o. is_lt (tuple_order choice before o []) ≡ false) [] [] refl (All-nil (λ o. is_lt (tuple_order choice before o []) ≡ false));
-    })
+outcome-whole choice before after same = (
+  [],
+  same ∙ sym (append-nil before),
+  record {
+    among = (zero, omega arith, refl);
+    none_before = All-cons (λ o. is_lt (tuple_order choice before o []) ≡ false) [] [] refl (All-nil (λ o. is_lt (tuple_order choice before o []) ≡ false));
+  },
+)
 
 -- ---- a turn of the search: the next port, and the candidates for it one after another
 

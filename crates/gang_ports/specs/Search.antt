@@ -1,5 +1,5 @@
 -- What a search for a gang goes through, and what it makes of a prefix.
-use Rattle.std.specs.Prelude.{◌≡◌, ℕ, suc, ◌+◌, ◌*◌, ℤ, Bool, true, false, List, [], ◌∷◌, ◌++◌, length, map, Option, None, Some, option_map, All, if◌then◌else◌}
+use Rattle.std.specs.Prelude.{◌≡◌, ℕ, suc, ◌*◌, ℤ, Bool, true, false, List, [], ◌∷◌, ◌++◌, length, map, Option, None, Some, option_map, All, if◌then◌else◌}
 use Rattle.std.specs.List.{filter_map}
 use Rattle.std.specs.List.Sorted.{IsPermutation}
 use Rattle.std.specs.Ordering.{int_cmp, nat_cmp, ordering_then}

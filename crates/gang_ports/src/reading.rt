@@ -41,7 +41,9 @@ pub fn read_sides<'a, H: Holdings, T: Ledger>(
 {
     let mut sides = Vec::new(alloc);
     for port in request.ports.as_slice() {
-        let side = read_side(alloc, store, index, held, request, port.frame, moment, touch)?;
+        let side = read_side(
+            alloc, store, index, held, request, port.frame, moment, touch,
+        )?;
         sides.push(side)?;
     }
     Ok(sides)
@@ -110,13 +112,14 @@ fn is_free<H: Holdings>(store: &Store, held: &H, slot: usize, moment: u64) -> bo
     ensures { (i : ℕ) → slice_get (stock_of store.now).slots i ≡ Some slot
         → result ≡ is_free (pool_of moment (stock_of store.now) (H.is_offered held.now) (H.holding held.now)) i }
 {
-    is_live(store, slot, moment)
-        && !held.offered(slot)
-        && held.holder(slot).is_none()
+    is_live(store, slot, moment) && !held.offered(slot) && held.holder(slot).is_none()
 }
 
 // Adds a resource, if there is one.
-fn keep<'a>(resources: &mut Vec<Resource<'a>>, next: Option<Resource<'a>>) -> Result<(), OutOfMemory>
+fn keep<'a>(
+    resources: &mut Vec<Resource<'a>>,
+    next: Option<Resource<'a>>,
+) -> Result<(), OutOfMemory>
     ensures { OnOk result (resources.new.items ≡ resources.old.items ++ cons_option next.entry []) }
 {
     if let Some(next) = next {

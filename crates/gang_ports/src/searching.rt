@@ -40,7 +40,14 @@ pub fn search<'a, F: Ledger, E: Ledger>(
     let Some((side, others)) = sides.split_first() else {
         return Ok(true);
     };
-    let tries = candidates(alloc, world, before.as_slice(), side.resources.as_slice(), tops, entry)?;
+    let tries = candidates(
+        alloc,
+        world,
+        before.as_slice(),
+        side.resources.as_slice(),
+        tops,
+        entry,
+    )?;
     for candidate in &tries {
         let deeper = world.with(candidate.ad);
         before.push(candidate.place)?;

@@ -1,9 +1,8 @@
-use Rattle.std.proofs.Common.{◌≡◌, ◌≤◌, ◌∷◌, ◌++◌, [], ℕ, suc, List, Bool, true, false, IsSorted, length, arith, ap, refl, sym, ◌∙◌, subst}
+use Rattle.std.proofs.Common.{◌≡◌, ◌∷◌, ◌++◌, [], ℕ, suc, List, Bool, true, false, IsSorted, length, arith, ap, refl, sym, ◌∙◌, subst}
 use Rattle.std.specs.List.Sorted.{IsPermutation}
 use Rattle.ad_tree.specs.Ad.{ad_frames}
 use Rattle.eval_scope.specs.Shown.{world_of}
 use Rattle.eval_scope.specs.World.{PlainWorld}
-use Rattle.gang_ports.specs.declared.searching.Side.{Side}
 use Rattle.gang_ports.specs.declared.weighing.Candidate.{Candidate}
 use Rattle.gang_ports.specs.Gangs.{attributes_behind, evaluations_behind}
 use Rattle.gang_ports.specs.Search.{Outcome, candidate_order, choice_in, weighed}
@@ -205,25 +204,25 @@ loop-candidate-preserved g t c =
     let longer = c.push.new.self.items in
     record {
       same = λ pool h.
-      let is : longer ≡ before ++ here.place ∷ [] = c.in_ok-push.ensures.items ∙ ap (λ (b : List ℕ). b ++ here.place ∷ []) (c.loop-candidate.invariant.same pool h) in
-      let none : Outcome (choice_in pool deeper) (length others) longer c.search.new.before.items false =
-      subst (λ (b : Bool). Outcome (choice_in pool deeper) (length others) longer c.search.new.before.items b) c.if-branch.false
-      (c.in_ok-search.ensures.outcome pool (turn-behind pool w before side sides others cut h tries all i here c.loop-candidate-test.true c.candidate-item.is deeper c.with-deeper.ensures longer is)) in
-      popped c.search.new.before.items before c.pop.new.self.items here.place c.search.new.before.len (none.0 ∙ is) c.search.new.before.ok.0 c.pop.ensures.rest;
+          let is : longer ≡ before ++ here.place ∷ [] = c.in_ok-push.ensures.items ∙ ap (λ (b : List ℕ). b ++ here.place ∷ []) (c.loop-candidate.invariant.same pool h) in
+          let none : Outcome (choice_in pool deeper) (length others) longer c.search.new.before.items false =
+          subst (λ (b : Bool). Outcome (choice_in pool deeper) (length others) longer c.search.new.before.items b) c.if-branch.false
+          (c.in_ok-search.ensures.outcome pool (turn-behind pool w before side sides others cut h tries all i here c.loop-candidate-test.true c.candidate-item.is deeper c.with-deeper.ensures longer is)) in
+          popped c.search.new.before.items before c.pop.new.self.items here.place c.search.new.before.len (none.0 ∙ is) c.search.new.before.ok.0 c.pop.ensures.rest;
       passed = λ pool h.
-      let is : longer ≡ before ++ here.place ∷ [] = c.in_ok-push.ensures.items ∙ ap (λ (b : List ℕ). b ++ here.place ∷ []) (c.loop-candidate.invariant.same pool h) in
-      let none : Outcome (choice_in pool deeper) (length others) longer c.search.new.before.items false =
-      subst (λ (b : Bool). Outcome (choice_in pool deeper) (length others) longer c.search.new.before.items b) c.if-branch.false
-      (c.in_ok-search.ensures.outcome pool (turn-behind pool w before side sides others cut h tries all i here c.loop-candidate-test.true c.candidate-item.is deeper c.with-deeper.ensures longer is)) in
-      let ordered : IsSorted candidate_order tries = subst (λ (ts : List Candidate). IsSorted candidate_order ts) (sym c.deref-candidate-items.ensures.value) c.in_ok-tries.ensures.ordered in
-      turn-passed pool w before side sides others cut h tries all i here c.loop-candidate-test.true c.candidate-item.is deeper c.with-deeper.ensures ordered (c.loop-candidate.invariant.passed pool h) longer c.search.new.before.items is none;
+          let is : longer ≡ before ++ here.place ∷ [] = c.in_ok-push.ensures.items ∙ ap (λ (b : List ℕ). b ++ here.place ∷ []) (c.loop-candidate.invariant.same pool h) in
+          let none : Outcome (choice_in pool deeper) (length others) longer c.search.new.before.items false =
+          subst (λ (b : Bool). Outcome (choice_in pool deeper) (length others) longer c.search.new.before.items b) c.if-branch.false
+          (c.in_ok-search.ensures.outcome pool (turn-behind pool w before side sides others cut h tries all i here c.loop-candidate-test.true c.candidate-item.is deeper c.with-deeper.ensures longer is)) in
+          let ordered : IsSorted candidate_order tries = subst (λ (ts : List Candidate). IsSorted candidate_order ts) (sym c.deref-candidate-items.ensures.value) c.in_ok-tries.ensures.ordered in
+          turn-passed pool w before side sides others cut h tries all i here c.loop-candidate-test.true c.candidate-item.is deeper c.with-deeper.ensures ordered (c.loop-candidate.invariant.passed pool h) longer c.search.new.before.items is none;
       evaluations = λ pool h.
-      let is : longer ≡ before ++ here.place ∷ [] = c.in_ok-push.ensures.items ∙ ap (λ (b : List ℕ). b ++ here.place ∷ []) (c.loop-candidate.invariant.same pool h) in
-      turn-next pool w before side sides others cut h tries all (evaluations_behind pool w.request w.ports) c.args.tops.now c.candidates.new.tops (first-evaluations pool w before side sides others cut h c.as_slice.result.now c.as_slice-2.result.now c.as_slice.ensures.value c.as_slice-2.ensures.value c.args.tops.now c.candidates.new.tops c.candidates.ensures.evaluations) i c.loop-candidate.tops (c.loop-candidate.invariant.evaluations pool h)
+          let is : longer ≡ before ++ here.place ∷ [] = c.in_ok-push.ensures.items ∙ ap (λ (b : List ℕ). b ++ here.place ∷ []) (c.loop-candidate.invariant.same pool h) in
+          turn-next pool w before side sides others cut h tries all (evaluations_behind pool w.request w.ports) c.args.tops.now c.candidates.new.tops (first-evaluations pool w before side sides others cut h c.as_slice.result.now c.as_slice-2.result.now c.as_slice.ensures.value c.as_slice-2.ensures.value c.args.tops.now c.candidates.new.tops c.candidates.ensures.evaluations) i c.loop-candidate.tops (c.loop-candidate.invariant.evaluations pool h)
           here c.loop-candidate-test.true c.candidate-item.is c.search.new.tops (turn-evaluations pool w before side sides others cut h tries all i here c.loop-candidate-test.true c.candidate-item.is deeper c.with-deeper.ensures longer is c.loop-candidate.tops c.search.new.tops (c.search.ensures.evaluations pool (turn-behind pool w before side sides others cut h tries all i here c.loop-candidate-test.true c.candidate-item.is deeper c.with-deeper.ensures longer is)));
       entries = λ pool h.
-      let is : longer ≡ before ++ here.place ∷ [] = c.in_ok-push.ensures.items ∙ ap (λ (b : List ℕ). b ++ here.place ∷ []) (c.loop-candidate.invariant.same pool h) in
-      turn-next pool w before side sides others cut h tries all (attributes_behind pool w.request w.ports) c.args.entry.now c.candidates.new.entry (first-attributes pool w before side sides others cut h c.as_slice.result.now c.as_slice-2.result.now c.as_slice.ensures.value c.as_slice-2.ensures.value c.args.entry.now c.candidates.new.entry c.candidates.ensures.entries) i c.loop-candidate.entry (c.loop-candidate.invariant.entries pool h)
+          let is : longer ≡ before ++ here.place ∷ [] = c.in_ok-push.ensures.items ∙ ap (λ (b : List ℕ). b ++ here.place ∷ []) (c.loop-candidate.invariant.same pool h) in
+          turn-next pool w before side sides others cut h tries all (attributes_behind pool w.request w.ports) c.args.entry.now c.candidates.new.entry (first-attributes pool w before side sides others cut h c.as_slice.result.now c.as_slice-2.result.now c.as_slice.ensures.value c.as_slice-2.ensures.value c.args.entry.now c.candidates.new.entry c.candidates.ensures.entries) i c.loop-candidate.entry (c.loop-candidate.invariant.entries pool h)
           here c.loop-candidate-test.true c.candidate-item.is c.search.new.entry (turn-attributes pool w before side sides others cut h tries all i here c.loop-candidate-test.true c.candidate-item.is deeper c.with-deeper.ensures longer is c.loop-candidate.entry c.search.new.entry (c.search.ensures.entries pool (turn-behind pool w before side sides others cut h tries all i here c.loop-candidate-test.true c.candidate-item.is deeper c.with-deeper.ensures longer is)));
     }
 

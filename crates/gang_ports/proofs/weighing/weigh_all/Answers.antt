@@ -1,8 +1,8 @@
 use Rattle.std.proofs.Common.{arith}
 use Rattle.eval_scope.specs.Shown.{world_of}
 use Rattle.gang_ports.specs.Search.{attributes_of, evaluations_of, weighed}
-use Rattle.gang_ports.proofs.CandidateLemmas.{weighed-all, weighed-next}
-use Rattle.gang_ports.proofs.ListLemmas.{count-all, count-next, count-within}
+use Rattle.gang_ports.proofs.CandidateLemmas.{weighed-next}
+use Rattle.gang_ports.proofs.ListLemmas.{count-next, count-within}
 use Rattle.gang_ports.proofs.weighing.weigh_all.Goals as goal
 
 pub loop-resource-init : goal.loop-resource-init
@@ -38,4 +38,3 @@ loop-resource-preserved g c = record {
   entries = count-next (attributes_of (world_of c.args.world.now) c.args.before.now) c.args.resources.now c.loop-resource.resource-index c.args.entry.now c.loop-resource.entry c.loop-resource.invariant.entries
       c.resource-item.result c.weigh.new.entry c.loop-resource-test.true c.resource-item.is c.weigh.ensures.entries;
 }
-

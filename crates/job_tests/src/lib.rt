@@ -6,4 +6,6 @@ mod choice;
 #[cfg(test)]
 mod claims;
 #[cfg(test)]
+mod gangs;
+#[cfg(test)]
 mod store;

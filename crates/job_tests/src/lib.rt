@@ -1,11 +1,7 @@
-//! Tests of the store, the table of jobs and the choice of resources.
+//! Tests of the store and the table of jobs.
 #![tactic(auto)]
 
 #[cfg(test)]
-mod choice;
-#[cfg(test)]
 mod claims;
-#[cfg(test)]
-mod gangs;
 #[cfg(test)]
 mod store;

@@ -6,7 +6,7 @@ use Rattle.literal_index.specs.Rows.{Row, ad_under}
 use Rattle.literal_index.specs.Shown.{IsIndex}
 use Rattle.bilateral_match.specs.Rows.{rows_of}
 use Rattle.bilateral_match.proofs.RowLemmas.{length-rows, none-before, rows-next}
-use Rattle.job_tests.proofs.gangs.index_of.Goals as goal
+use Rattle.gang_tests.proofs.gangs.index_of.Goals as goal
 
 pub loop-i-preserved : goal.loop-i-preserved
 loop-i-preserved g c =

@@ -1,4 +1,4 @@
-use Rattle.job_tests.proofs.negotiation.negotiated.Given as goal
+use Rattle.negotiation_tests.proofs.negotiation.negotiated.Given as goal
 
 abbrev pub ghosts-spins_of-F-Ledger : goal.ghosts-spins_of-F-Ledger
 ghosts-spins_of-F-Ledger a = record { name = a.tops.name; parts = a.tops.parts }

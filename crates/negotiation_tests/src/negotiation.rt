@@ -4,7 +4,7 @@ ghost use Rattle.ad_store.specs.Store.{stock_of};
 ghost use Rattle.bilateral_match.specs.Rows.{rows_of};
 ghost use Rattle.claim_table.specs.Table.{jobs_of};
 ghost use Rattle.literal_index.specs.Shown.{IsIndex};
-ghost use Rattle.matching_tests.specs.Fresh.{AreFresh};
+ghost use Rattle.negotiation_tests.specs.Fresh.{AreFresh};
 
 use ad_store::Store;
 use ad_tree::{Ad, Draft, Expr, Ports, Request, Scope};

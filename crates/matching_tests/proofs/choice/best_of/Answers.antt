@@ -3,8 +3,8 @@ use Rattle.std.specs.List.{list_any}
 use Rattle.std.specs.Option.{option_and_then}
 use Rattle.ad_store.specs.Holdings.{Holding}
 use Rattle.ad_store.specs.Store.{stock_of}
-use Rattle.job_tests.specs.declared.choice.Claim.{Claim}
-use Rattle.job_tests.proofs.choice.best_of.Goals as goal
+use Rattle.matching_tests.specs.declared.choice.Claim.{Claim}
+use Rattle.matching_tests.proofs.choice.best_of.Goals as goal
 
 pub best-requires-clause-stored : goal.best-requires-clause-stored
 best-requires-clause-stored g c slot h is = by c.args.board.now.claim c.requires.stored is

@@ -1,7 +1,7 @@
 use Rattle.std.proofs.Common.{[], ◌∷◌, Contains}
 use Rattle.std.proofs.lemmas.List.Elements.{All-cons, All-nil}
 use Rattle.ad_store.specs.Store.{stock_of}
-use Rattle.job_tests.proofs.choice.pair_of.Goals as goal
+use Rattle.matching_tests.proofs.choice.pair_of.Goals as goal
 
 pub pair-requires-clause-stored : goal.pair-requires-clause-stored
 pair-requires-clause-stored g c =

@@ -170,9 +170,11 @@ fn three(alloc: Global) -> Result<Store, Fail> {
 }
 
 // A processor that is as fast as can be, and a licence for its host.
-const WITH_KEY: &[u8] = b"[ Ports = { [ Label = cpu; Requirements = TARGET.Type == \"cpu\"; Rank = TARGET.Speed ], [ Label = \"key\"; Requirements = TARGET.Type == \"license\" && TARGET.Host == cpu.Host ] } ]";
+const WITH_KEY: &[u8] =
+    b"[ Ports = { [ Label = cpu; Requirements = TARGET.Type == \"cpu\"; Rank = TARGET.Speed ], [ Label = \"key\"; Requirements = TARGET.Type == \"license\" && TARGET.Host == cpu.Host ] } ]";
 
-const TWO: &[u8] = b"[ Ports = { [ Label = a; Requirements = TARGET.Type == \"cpu\" ], [ Label = b; Requirements = TARGET.Type == \"cpu\" ] } ]";
+const TWO: &[u8] =
+    b"[ Ports = { [ Label = a; Requirements = TARGET.Type == \"cpu\" ], [ Label = b; Requirements = TARGET.Type == \"cpu\" ] } ]";
 
 #[test]
 fn a_search_goes_back_from_the_best_of_the_first_port(rt: HostRuntime) -> Result<(), Fail> {
@@ -232,9 +234,11 @@ fn a_gang_has_one_port_to_eight(rt: HostRuntime) -> Result<(), Fail> {
     Ok(())
 }
 
-const EIGHT: &[u8] = b"[ Ports = { [ Label = a ], [ Label = b ], [ Label = c ], [ Label = d ], [ Label = e ], [ Label = f ], [ Label = g ], [ Label = h ] } ]";
+const EIGHT: &[u8] =
+    b"[ Ports = { [ Label = a ], [ Label = b ], [ Label = c ], [ Label = d ], [ Label = e ], [ Label = f ], [ Label = g ], [ Label = h ] } ]";
 
-const NINE: &[u8] = b"[ Ports = { [ Label = a ], [ Label = b ], [ Label = c ], [ Label = d ], [ Label = e ], [ Label = f ], [ Label = g ], [ Label = h ], [ Label = i ] } ]";
+const NINE: &[u8] =
+    b"[ Ports = { [ Label = a ], [ Label = b ], [ Label = c ], [ Label = d ], [ Label = e ], [ Label = f ], [ Label = g ], [ Label = h ], [ Label = i ] } ]";
 
 #[test]
 fn equal_ranks_go_by_place(rt: HostRuntime) -> Result<(), Fail> {

@@ -1,4 +1,4 @@
-//! Tests of scripts, replies, runs and the claiming protocol.
+//! Tests of runs of the pool.
 #![tactic(auto)]
 
 #[cfg(test)]
@@ -6,10 +6,4 @@ mod crowds;
 #[cfg(test)]
 mod jobs;
 #[cfg(test)]
-mod replies;
-#[cfg(test)]
 mod runs;
-#[cfg(test)]
-mod scripts;
-#[cfg(test)]
-mod wire;

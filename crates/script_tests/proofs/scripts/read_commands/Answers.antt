@@ -4,8 +4,8 @@ use Rattle.pool_script.specs.Commands.{ended_commands, whole_commands}
 use Rattle.pool_script.specs.declared.command.Command.{Command}
 use Rattle.pool_script.specs.declared.script.Script.{Script}
 use Rattle.pool_script.proofs.ReaderLemmas.{nil_if_empty}
-use Rattle.pool_tests.proofs.scripts.read_commands.Invariants.{HasTaken}
-use Rattle.pool_tests.proofs.scripts.read_commands.Goals as goal
+use Rattle.script_tests.proofs.scripts.read_commands.Invariants.{HasTaken}
+use Rattle.script_tests.proofs.scripts.read_commands.Goals as goal
 
 -- the commands of one more piece
 ended_more : (old : Script) (taken waiting : List Command) (bytes piece : List ℕ) (count : ℕ) → HasTaken old taken bytes count → waiting ≡ old.waiting ++ ended_commands (old.rest ++ piece) → taken ++ waiting ≡ ended_commands (bytes ++ piece)

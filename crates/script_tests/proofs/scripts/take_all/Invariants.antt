@@ -1,6 +1,6 @@
 use Rattle.std.proofs.Common.{◌≡◌, ◌++◌, ℕ, List, length}
 use Rattle.pool_script.specs.Standing.{Stands}
-use Rattle.pool_tests.proofs.scripts.take_all.Given as goal
+use Rattle.script_tests.proofs.scripts.take_all.Given as goal
 
 abbrev pub invariant-loop-command : goal.invariant-loop-command
 invariant-loop-command l = record {

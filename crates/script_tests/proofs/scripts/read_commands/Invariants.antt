@@ -3,7 +3,7 @@ use Rattle.pool_script.specs.Commands.{ended_commands}
 use Rattle.pool_script.specs.Standing.{Stands}
 use Rattle.pool_script.specs.declared.command.Command.{Command}
 use Rattle.pool_script.specs.declared.script.Script.{Script}
-use Rattle.pool_tests.proofs.scripts.read_commands.Given as goal
+use Rattle.script_tests.proofs.scripts.read_commands.Given as goal
 
 -- the script has read the bytes, and each command that has ended in them was taken
 pub record HasTaken (script : Script) (commands : List Command) (bytes : List ℕ) (count : ℕ) : Type 0 where

@@ -1,5 +1,5 @@
 -- Rows that are made one after another.
-use Rattle.std.proofs.Common.{◌≡◌, ◌≤◌, ℕ, zero, suc, List, [], ◌∷◌, ◌++◌, length, map, take, Option, Some, slice_get, ap, sym, ◌∙◌}
+use Rattle.std.proofs.Common.{◌≡◌, ◌≤◌, ℕ, zero, suc, List, [], ◌∷◌, ◌++◌, length, map, take, Some, slice_get, ap, sym, ◌∙◌}
 use Rattle.std.proofs.lemmas.List.{take_all}
 
 module _ {A B : Type 0} (f : A → B) where

@@ -208,10 +208,11 @@ impl Books {
         self.ads.store.names_are_apart();
         self.ads.store.slots_are_apart();
         let _len = self.ads.store.len();
+        let ads = &self.ads;
         cycle(
             alloc,
-            &self.ads.store,
-            &self.ads.index,
+            &ads.store,
+            &ads.index,
             &mut self.claims,
             priorities,
             moment,

@@ -120,6 +120,5 @@ fn name_of(store: &Store, slot: usize) -> Result<Text, OutOfMemory>
     requires { Contains (stock_of store.now).slots slot }
     ensures { IfOk result (λ name. name ≡ name_in (stock_of store.now) slot) }
 {
-    store.slots_are_apart();
     store.name(slot).copy()
 }

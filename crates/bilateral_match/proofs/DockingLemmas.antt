@@ -76,7 +76,7 @@ push-at [] x = refl
 push-at (y ∷ ys) x = push-at ys x
 
 -- the ad that was docked last
-last-docked : (w : PlainWorld) (fs : List Frame) → last_ad (with_docked w fs) ≡ fs
+pub last-docked : (w : PlainWorld) (fs : List Frame) → last_ad (with_docked w fs) ≡ fs
 last-docked w fs =
     let long : length (w.docked ++ fs ∷ []) ≡ suc (length w.docked) = by w.docked in
     ap (λ k. unwrap_or (slice_get (w.request ∷ w.docked ++ fs ∷ []) k) []) long

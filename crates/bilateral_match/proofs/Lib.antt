@@ -1,11 +1,11 @@
 mod ConjunctLemmas
-mod DecidedLemmas
-mod DockingLemmas
+pub mod DecidedLemmas
+pub mod DockingLemmas
 mod FindLemmas
 mod LoopLemmas
 mod MemberLemmas
 mod MemberScanLemmas
-mod MemberWeighLemmas
+pub mod MemberWeighLemmas
 mod NarrowLemmas
 pub mod OfferLemmas
 mod OrderLemmas

@@ -12,7 +12,7 @@ mod querying;
 mod weighing;
 
 pub use choosing::best;
-pub use docking::pair;
+pub use docking::{is_decided, pair};
 pub use hit::{Hit, Hits, Match};
 pub use laws::{
     a_conjunct_has_the_value_of_its_test, a_conjunction_is_true_only_where_its_conjuncts_are,
@@ -20,4 +20,5 @@ pub use laws::{
     more_offers_leave_no_more_members, no_other_member_comes_before_the_best,
 };
 pub use member::Member;
+pub use members::is_won;
 pub use querying::query;

@@ -57,7 +57,16 @@ pub fn member_at<H: Holdings, F: Ledger, E: Ledger, T: Ledger>(
         return Ok(None);
     };
     let holder = held.holder(slot);
-    let won = is_won(alloc, store, holder, ranks, moment, tops, entry, touch)?;
+    let won = is_won(
+        alloc,
+        store,
+        holder,
+        ranks.regard,
+        moment,
+        tops,
+        entry,
+        touch,
+    )?;
     if !won {
         return Ok(None);
     }
@@ -120,12 +129,13 @@ fn ranks<F: Ledger, E: Ledger>(
     }))
 }
 
-// Whether a resource that ranks a job so is unclaimed, or ranks its holder strictly lower.
-fn is_won<F: Ledger, E: Ledger, T: Ledger>(
+/// Whether a resource that ranks a job so is unclaimed, or ranks its holder strictly lower. The holder is ranked in the world
+/// of the dock by which it holds the resource: one evaluation, and one look for each of its resources up to this one.
+pub fn is_won<F: Ledger, E: Ledger, T: Ledger>(
     alloc: Global,
     store: &Store,
     holder: Option<Held<'_>>,
-    ranks: Ranks,
+    regard: i64,
     moment: u64,
     tops: &mut Steps<F>,
     entry: &mut Steps<E>,
@@ -134,7 +144,7 @@ fn is_won<F: Ledger, E: Ledger, T: Ledger>(
     requires stored { IfSome holder (λ h. All (Contains (stock_of store.now).slots) h.slots.now) }
     requires stands { IfSome holder (λ h. h.port < length h.slots.now) }
     requires fills { IfSome holder (λ h. length h.slots.now ≡ max 1 (length h.request.now.ports)) }
-    ensures won { IfOk result (λ won. won ≡ option_map_or (λ h. int_lt (pool.regard_in (pool.holder_world moment (stock_of store.now) h)) ranks.regard) (option_map holding_of holder.entry) true) }
+    ensures won { IfOk result (λ won. won ≡ option_map_or (λ h. int_lt (pool.regard_in (pool.holder_world moment (stock_of store.now) h)) regard) (option_map holding_of holder.entry) true) }
     ensures evaluations { tops.new ≤ tops.old + 1 }
     ensures entries { entry.new ≤ entry.old
         + option_map_or (λ h. attribute_count (pool.holder_world moment (stock_of store.now) h)) (option_map holding_of holder.entry) 0 }
@@ -145,21 +155,21 @@ fn is_won<F: Ledger, E: Ledger, T: Ledger>(
     };
     let upto = holder.port as usize + 1;
     let world = slots_world(store, holder.request, &holder.slots[..upto], moment, touch);
-    is_ranked_lower(alloc, &world, ranks, tops, entry)
+    is_ranked_lower(alloc, &world, regard, tops, entry)
 }
 
 // Whether the resource that was docked last ranks the other side strictly lower than so.
 fn is_ranked_lower<F: Ledger, E: Ledger>(
     alloc: Global,
     world: &World<'_>,
-    ranks: Ranks,
+    regard: i64,
     tops: &mut Steps<F>,
     entry: &mut Steps<E>,
 ) -> Result<bool, OutOfMemory>
-    ensures lower { IfOk result (λ lower. lower ≡ int_lt (rank_by (world_of world.now) (resource_side (world_of world.now))) ranks.regard) }
+    ensures lower { IfOk result (λ lower. lower ≡ int_lt (rank_by (world_of world.now) (resource_side (world_of world.now))) regard) }
     ensures evaluations { tops.new ≤ tops.old + 1 }
     ensures entries { entry.new ≤ entry.old + attribute_count (world_of world.now) }
 {
     let given = rank(alloc, world, world.resource_place(), tops, entry)?;
-    Ok(given < ranks.regard)
+    Ok(given < regard)
 }

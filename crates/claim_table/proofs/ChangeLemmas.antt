@@ -1,5 +1,5 @@
 -- What a table keeps through each change.
-use Rattle.std.proofs.Common.{◌≡◌, ◌≢◌, ℕ, ◌+◌, ◌-◌, ◌<◌, ◌≤◌, AllPairs, Bool, true, false, cond, eqb, ltb, leb, List, [], ◌∷◌, ◌++◌, length, map, slice_get, slice_set, Option, None, Some, Vec, bytes_eq, refl, sym, ◌∙◌, ap, subst, arith}
+use Rattle.std.proofs.Common.{◌≡◌, ◌≢◌, ℕ, ◌+◌, ◌-◌, ◌<◌, ◌≤◌, All, AllPairs, Bool, true, false, cond, eqb, ltb, leb, List, [], ◌∷◌, ◌++◌, length, map, slice_get, slice_set, Option, None, Some, Vec, bytes_eq, refl, sym, ◌∙◌, ap, subst, arith}
 use Rattle.std.specs.Prelude.{Err, Ok, OnOk, Result, is_err, option_map}
 use Rattle.std.specs.declared.alloc.Global.{Global}
 use Rattle.std.specs.List.{list_any, remove}
@@ -8,11 +8,13 @@ use Rattle.std.proofs.lemmas.Bool.Decides.{nat_tests}
 use Rattle.std.proofs.lemmas.List.Elements.{All-push, All-set}
 use Rattle.std.proofs.lemmas.List.Sums.{sum_by_push}
 use Rattle.std.proofs.Math.ListN.{length-set}
+use Rattle.claim_table.specs.declared.answers.JobState.{JobState}
 use Rattle.claim_table.specs.declared.answers.SubmitFault.{SubmitFault}
 use Rattle.claim_table.specs.declared.job.Job.{Job}
 use Rattle.claim_table.specs.declared.job.Standing.{Standing}
-use Rattle.claim_table.specs.Jobs.{AreFree, IsFilled, claim_of, is_named, lists, offer_of, offered_to, refusal, slots_of, text_of, wanted, with_standing}
+use Rattle.claim_table.specs.Jobs.{AreFree, IsFilled, claim_of, claimed_by, is_named, lists, offer_of, offered_to, refusal, slots_of, state_of, text_of, wanted, with_standing}
 use Rattle.claim_table.specs.Kept.{AreNoted, IsKept, names, note_at, passes_at}
+use Rattle.claim_table.proofs.HolderLemmas.{All-found}
 use Rattle.claim_table.proofs.ListLemmas.{All-remove, length-push, length-remove_le, list_any-map, map-push, map-remove, map-set_same, passes_at-push, passes_at-remove, passes_at-set, remove-set, sum_by-remove_at, sum_by-set_same}
 use Rattle.claim_table.proofs.NoteLemmas.{listed_one, noted-position, passes_from}
 
@@ -124,6 +126,13 @@ filled-idle job idle = record {
   enough = λ busy. absurd (busy idle);
 }
 
+-- a job that has claimed what was offered to it lists the same
+filled-settled : (job : Job) (slots : List ℕ) → job.standing ≡ Standing.Matched slots → IsFilled job → IsFilled (record job { standing = Standing.Claimed slots })
+filled-settled job slots matched filled = record {
+  distinct = subst (λ s. AllPairs (λ a b. a ≢ b) (slots_of s)) matched filled.distinct;
+  enough = λ _. sym (ap (λ s. length (slots_of s)) matched) ∙ filled.enough (λ idle. let other : Standing.Matched slots ≡ Standing.Idle = sym matched ∙ idle in absurd (cc));
+}
+
 module _ (keys : List (Vec ℕ Global)) (jobs : List Job) (offers claims : List (Option ℕ)) (text : ℕ) (kept : IsKept keys jobs offers claims text) (i : ℕ) (job : Job) (at : slice_get jobs i ≡ Some job) where
   pub freed_kept : (fewer_offers fewer_claims : List (Option ℕ))
       → length fewer_offers ≡ length offers → length fewer_claims ≡ length claims
@@ -157,6 +166,25 @@ module _ (keys : List (Vec ℕ Global)) (jobs : List Job) (offers claims : List 
     within = kept.within;
     few = omega (arith, kept.few, length-set jobs i (record job { standing = Standing.Matched slots }));
     filled = All-set IsFilled jobs i (record job { standing = Standing.Matched slots }) (record { distinct = distinct; enough = λ _. sym number }) kept.filled;
+  }
+
+  pub settled_kept : (slots : List ℕ) (fewer_offers more_claims : List (Option ℕ))
+      → job.standing ≡ Standing.Matched slots → All (λ slot. claimed_by slot jobs ≡ None) slots
+      → length fewer_offers ≡ length offers → length more_claims ≡ length claims
+      → ((slot : ℕ) → note_at fewer_offers slot ≡ cond (lists slots slot) None (note_at offers slot))
+      → ((slot : ℕ) → note_at more_claims slot ≡ cond (lists slots slot) (Some i) (note_at claims slot))
+      → IsKept keys (slice_set jobs i (record job { standing = Standing.Claimed slots })) fewer_offers more_claims text
+  settled_kept slots fewer_offers more_claims matched free same_offers same_claims clears marks = record {
+    named = kept.named ∙ sym (map-set_same (λ j. j.name) jobs i job (record job { standing = Standing.Claimed slots }) at refl);
+    offered = cleared offer_of offers fewer_offers jobs i job (Standing.Claimed slots) kept.offered at refl
+        (λ slot. clears slot ∙ ap (λ s. cond (lists s slot) None (note_at offers slot)) (sym (ap offer_of matched)));
+    claimed = marked claim_of claims more_claims jobs i job (Standing.Claimed slots) kept.claimed at (ap claim_of matched)
+        (λ slot listed. noted-position (λ j. lists (claim_of j.standing) slot) jobs (note_at claims slot) (kept.claimed slot) ∙ listed_one (λ s. claimed_by s jobs ≡ None) slots slot free listed) marks;
+    room = omega (arith, kept.room);
+    counted = kept.counted ∙ sym (sum_by-set_same (λ j. j.text_len) jobs i job (record job { standing = Standing.Claimed slots }) at refl);
+    within = kept.within;
+    few = omega (arith, kept.few, length-set jobs i (record job { standing = Standing.Claimed slots }));
+    filled = All-set IsFilled jobs i (record job { standing = Standing.Claimed slots }) (filled-settled job slots matched (All-found IsFilled jobs i job kept.filled at)) kept.filled;
   }
 
   pub gone_kept : (fewer_keys : List (Vec ℕ Global)) (fewer_offers fewer_claims : List (Option ℕ))
@@ -240,6 +268,13 @@ module _ (keys : List (Vec ℕ Global)) (jobs : List Job) (name : List ℕ) (siz
   refusal-none new few light =
       let tested : ltb 33554432 (text_of jobs + size) ≡ false = grind (arith, nat_tests) in
       behind_place new few ∙ ap (λ b. cond b (Some SubmitFault.FullText) None) tested
+
+-- ---- a job that something is offered to
+
+pub matched_offer : (standing : Standing) → state_of standing ≡ JobState.Matched → standing ≡ Standing.Matched (offer_of standing)
+matched_offer Standing.Idle is = absurd (cc)
+matched_offer (Standing.Matched slots) is = refl
+matched_offer (Standing.Claimed slots) is = absurd (cc)
 
 -- ---- answers
 

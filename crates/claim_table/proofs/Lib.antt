@@ -1,5 +1,10 @@
 pub mod ChangeLemmas
+pub mod ClaimLemmas
+pub mod FailingLemmas
 pub mod HolderLemmas
 pub mod ListLemmas
+pub mod LoserLemmas
 pub mod NameLemmas
 pub mod NoteLemmas
+pub mod PassingLemmas
+pub mod StoredLemmas

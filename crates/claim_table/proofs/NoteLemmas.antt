@@ -1,5 +1,5 @@
 -- Notes name the jobs that list a slot.
-use Rattle.std.proofs.Common.{◌≡◌, ℕ, zero, suc, ◌+◌, ◌<◌, ◌≤◌, ◌⊎◌, inl, inr, Bool, true, false, not, ◌||◌, cond, eqb, ltb, List, [], ◌∷◌, length, slice_get, position, Option, None, Some, IfSome, All, refl, sym, ◌∙◌, ap, subst, arith}
+use Rattle.std.proofs.Common.{◌≡◌, ℕ, zero, suc, ◌+◌, ◌<◌, ◌≤◌, ◌⊎◌, inl, inr, Bool, true, false, not, ◌||◌, cond, eqb, ltb, List, [], ◌∷◌, get_or, length, slice_get, position, Option, None, Some, IfSome, All, refl, sym, ◌∙◌, ap, subst, arith}
 use Rattle.std.specs.Prelude.{option_map}
 use Rattle.std.specs.List.{prefix_len}
 use Rattle.std.specs.Option.{option_map_or}
@@ -131,6 +131,27 @@ listed_one P (s ∷ slots) slot all listed = by_slot (eqb s slot) refl listed (�
     by_slot : (b : Bool) → eqb s slot ≡ b → (b || lists slots slot) ≡ true → (lists slots slot ≡ true → P slot) → P slot
     by_slot true here is later = let same : s ≡ slot = grind (arith, nat_tests) in subst P same (All-head P s slots all)
     by_slot false here is later = later is
+
+-- each of the slots of a list is listed
+pub listed_at : (slots : List ℕ) (k d : ℕ) → k < length slots → lists slots (get_or slots k d) ≡ true
+listed_at [] k d within = absurd (omega (arith, within))
+listed_at (s ∷ slots) zero d within = let same : eqb s s ≡ true = grind (arith, nat_tests) in ap (λ b. b || lists slots s) same
+listed_at (s ∷ slots) (suc k) d within = by (eqb s (get_or slots k d)) (listed_at slots k d (omega (arith, within)))
+  where
+    by : (b : Bool) → lists slots (get_or slots k d) ≡ true → (b || lists slots (get_or slots k d)) ≡ true
+    by true listed = refl
+    by false listed = listed
+
+-- there are notes at all the slots that a job lists
+pub noted-reach : (part : Standing → List ℕ) (notes : List (Option ℕ)) (jobs : List Job) (i : ℕ) (job : Job) → AreNoted part notes jobs → slice_get jobs i ≡ Some job → All (λ slot. slot < length notes) (part job.standing)
+noted-reach part notes jobs i job noted at = λ k d within. by (get_or (part job.standing) k d) (listed_at (part job.standing) k d within) (cases_lt (get_or (part job.standing) k d) (length notes))
+  where
+    by : (slot : ℕ) → lists (part job.standing) slot ≡ true → (slot < length notes) ⊎ (length notes ≤ slot) → slot < length notes
+    by slot listed (inl within) = within
+    by slot listed (inr past) =
+        let named : names (note_at notes slot) i ≡ true = noted slot i ∙ passes_from (λ j. lists (part j.standing) slot) jobs i job at ∙ listed in
+        let none : names (note_at notes slot) i ≡ false = ap (λ n. names n i) (get_or_past notes slot None past) in
+        absurd (cc)
 
 -- notes that are written at slots which all have one
 pub marked-everywhere : (notes later : List (Option ℕ)) (slots : List ℕ) (number : Option ℕ) → length later ≡ length notes → All (λ s. s < length notes) slots → ((slot : ℕ) → slot < length notes → note_at later slot ≡ cond (lists slots slot) number (note_at notes slot)) → (slot : ℕ) → note_at later slot ≡ cond (lists slots slot) number (note_at notes slot)

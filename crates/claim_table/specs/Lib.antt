@@ -1,4 +1,5 @@
 pub mod Answers
+pub mod Claims
 pub mod Holders
 pub mod Jobs
 pub mod Kept

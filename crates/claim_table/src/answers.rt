@@ -38,6 +38,22 @@ pub enum JobFault {
     WrongState(JobState),
 }
 
+/// Why a job has not claimed what was offered to it.
+#[derive(Clone, Copy, Debug, PartialEq, Eq, Error)]
+pub enum ClaimFault {
+    #[error("no job has this name")]
+    NoJob,
+    /// Nothing is offered to the job, whose state is this one.
+    #[error("the job is {0:?}")]
+    WrongState(JobState),
+    /// The resource in this slot is the first that no longer docks with the job, or that ranks its holder as high as the job
+    /// or higher. The offer is ended.
+    #[error("the offer is stale: the resource in slot {0} fails")]
+    Stale(usize),
+    #[error("out of memory")]
+    OutOfMemory,
+}
+
 /// No job has the name.
 #[derive(Clone, Copy, Debug, PartialEq, Eq, Error)]
 #[error("no job has this name")]

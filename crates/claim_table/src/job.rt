@@ -1,5 +1,6 @@
 // A job, and how it stands.
 ghost use Rattle.std.specs.Prelude.{◌≡◌};
+ghost use Rattle.claim_table.specs.declared.job.Standing.{Standing};
 ghost use Rattle.claim_table.specs.Jobs.{claim_of, offer_of, slots_of, state_of};
 
 use crate::JobState;
@@ -7,6 +8,7 @@ use ad_tree::Request;
 use pool_text::{Slots, Text};
 use std::alloc::Global;
 use std::convert::AsSlice;
+use std::mem::replace;
 
 /// A job, as the table holds it.
 #[derive(Debug, Drop)]
@@ -77,5 +79,13 @@ impl Standing {
             Standing::Matched(slots) => slots,
             Standing::Claimed(slots) => slots,
         }
+    }
+
+    /// What was offered is claimed.
+    pub(crate) fn settle(&mut self, alloc: Global)
+        ensures { self.new ≡ Standing.Claimed (slots_of self.old) }
+    {
+        let was = replace(self, Standing::Idle);
+        let _idle = replace(self, Standing::Claimed(was.into_slots(alloc)));
     }
 }

@@ -2,10 +2,11 @@
 #![tactic(auto)]
 
 mod answers;
+mod claiming;
 mod job;
 mod notes;
 mod table;
 
-pub use answers::{Freed, FreedList, JobFault, JobState, NoJob, SubmitFault};
+pub use answers::{ClaimFault, Freed, FreedList, JobFault, JobState, NoJob, SubmitFault};
 pub use job::{Job, Standing};
 pub use table::ClaimTable;

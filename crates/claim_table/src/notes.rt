@@ -5,6 +5,17 @@ ghost use Rattle.claim_table.specs.Kept.{note_at};
 
 use pool_text::OutOfMemory;
 
+/// The note at a slot.
+pub(crate) fn note(notes: &[Option<usize>], slot: usize) -> Option<usize>
+    ensures { result ≡ note_at notes.now slot }
+{
+    if slot < notes.len() {
+        notes[slot]
+    } else {
+        None
+    }
+}
+
 /// Notes a number, or none, at each of the slots.
 pub(crate) fn put(notes: &mut Vec<Option<usize>>, slots: &[usize], number: Option<usize>)
     ensures notes { (slot : ℕ) → slot < vec_len notes.old → note_at notes.new.items slot

@@ -3,9 +3,9 @@ ghost use Rattle.std.specs.Prelude.{◌≡◌, ◌≢◌, ◌==◌, ◌<◌, ◌
 ghost use Rattle.std.specs.List.{list_any, position_or_len};
 ghost use Rattle.claim_table.specs.declared.job.Standing.{Standing};
 ghost use Rattle.claim_table.specs.Answers.{IsCause, freed_at, freed_by, no_job, release_answer, without_at};
-ghost use Rattle.claim_table.specs.Kept.{IsKept, note_at};
+ghost use Rattle.claim_table.specs.Kept.{IsKept};
 
-use crate::notes::{close_gap, put, widen};
+use crate::notes::{close_gap, note, put, widen};
 use crate::{Freed, FreedList, Job, JobFault, JobState, NoJob, Standing, SubmitFault};
 use ad_store::{Held, Holdings};
 use ad_tree::Request;
@@ -25,11 +25,11 @@ const TEXT_LIMIT: u64 = 33_554_432;
 /// A job is found by its name's hash, and by a slot at once; no look-up takes memory.
 #[derive(Debug, Drop)]
 pub struct ClaimTable {
-    alloc: Global,
+    pub(crate) alloc: Global,
     names: IndexSet<Vec<u8>>,
-    jobs: Vec<Job>,
-    offers: Vec<Option<usize>>,
-    claims: Vec<Option<usize>>,
+    pub(crate) jobs: Vec<Job>,
+    pub(crate) offers: Vec<Option<usize>>,
+    pub(crate) claims: Vec<Option<usize>>,
     text: u64,
     ghost kept: { IsKept names.keys jobs.items offers.items claims.items text },
 }
@@ -112,7 +112,7 @@ impl ClaimTable {
     }
 
     // The number of the job of a name.
-    fn find(&self, name: &[u8]) -> Option<usize>
+    pub(crate) fn find(&self, name: &[u8]) -> Option<usize>
         ensures number { result ≡ numbered name.now (jobs_of self.now) }
         ensures within { IfSome result (λ i. i < length (jobs_of self.now)) }
     {
@@ -187,7 +187,7 @@ impl ClaimTable {
     }
 
     // Makes job `i` idle and hands back its slots.
-    fn free(&mut self, i: usize) -> Slots
+    pub(crate) fn free(&mut self, i: usize) -> Slots
         requires { i < length (jobs_of self.old) }
         ensures slots { option_map (λ job. slots_of job.standing) (slice_get (jobs_of self.old) i) ≡ Some result }
         ensures jobs { jobs_of self.new ≡ with_standing (jobs_of self.old) i Standing.Idle }
@@ -257,7 +257,11 @@ impl ClaimTable {
     }
 
     // Adds the job of a number, where there is one, to a list of those that lose their slots.
-    fn tell(&self, number: Option<usize>, freed: &mut FreedList) -> Result<(), OutOfMemory>
+    pub(crate) fn tell(
+        &self,
+        number: Option<usize>,
+        freed: &mut FreedList,
+    ) -> Result<(), OutOfMemory>
         requires { IfSome number (λ i. i < length (jobs_of self.now)) }
         ensures { OnOk result (freed.new ≡ freed.old ++ freed_at number (jobs_of self.now)) }
     {
@@ -273,7 +277,7 @@ impl ClaimTable {
     }
 
     // Makes the job of a number idle, where there is one.
-    fn make_idle(&mut self, number: Option<usize>)
+    pub(crate) fn make_idle(&mut self, number: Option<usize>)
         requires { IfSome number (λ i. i < length (jobs_of self.old)) }
         ensures jobs { jobs_of self.new ≡ idle_at number (jobs_of self.old) }
         ensures len { length (jobs_of self.new) ≡ length (jobs_of self.old) }
@@ -360,17 +364,6 @@ fn copy_of(alloc: Global, slots: &[usize]) -> Result<Slots, OutOfMemory>
         list.push(*slot)?;
     }
     Ok(list)
-}
-
-// The note at a slot.
-fn note(notes: &[Option<usize>], slot: usize) -> Option<usize>
-    ensures { result ≡ note_at notes.now slot }
-{
-    if slot < notes.len() {
-        notes[slot]
-    } else {
-        None
-    }
 }
 
 // Puts a name and its job last. Memory is taken first.

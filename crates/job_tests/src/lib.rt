@@ -2,7 +2,7 @@
 #![tactic(auto)]
 
 #[cfg(test)]
-mod choice;
+mod claiming;
 #[cfg(test)]
 mod claims;
 #[cfg(test)]

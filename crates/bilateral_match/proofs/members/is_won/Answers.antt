@@ -1,7 +1,10 @@
-use Rattle.std.proofs.Common.{◌≡◌, ◌+◌, All, Bool, Contains, IfOk, subst}
+use Rattle.std.proofs.Common.{◌≡◌, ◌+◌, ℤ, All, Bool, Contains, IfOk, int_lt, subst, w64}
+use Rattle.std.proofs.lemmas.Int.{to_z-of_z}
 use Rattle.std.proofs.lemmas.List.Elements.{All-take}
 use Rattle.ad_store.specs.Store.{stock_of}
+use Rattle.ad_eval.specs.Dock.{rank_by}
 use Rattle.eval_scope.specs.Shown.{world_of}
+use Rattle.eval_scope.specs.World.{resource_side}
 use Rattle.bilateral_match.proofs.MemberWeighLemmas.{rank-of-holder, some-of}
 use Rattle.bilateral_match.proofs.members.is_won.Goals as goal
 
@@ -12,6 +15,8 @@ slots_world-world-requires-clause-stored g c =
 
 pub returns-clause-won : goal.returns-clause-won
 returns-clause-won g c =
+    let w = world_of c.slots_world-world.result in
+    let lower = subst (λ (k : ℤ). IfOk c.is_ranked_lower.result (λ b. b ≡ int_lt (rank_by w (resource_side w)) k)) (to_z-of_z w64 c.args.regard c.ranges.regard) c.is_ranked_lower.ensures.lower in
     subst (λ (won : Bool). IfOk c.is_ranked_lower.result (λ b. b ≡ won))
-    (rank-of-holder c.args.moment (stock_of c.args.store.now) c.args.holder c.in-Some.holder (world_of c.slots_world-world.result) c.args.ranks.regard c.in-Some.is c.slots_world-world.ensures.world)
-    c.is_ranked_lower.ensures.lower
+    (rank-of-holder c.args.moment (stock_of c.args.store.now) c.args.holder c.in-Some.holder w c.args.regard c.in-Some.is c.slots_world-world.ensures.world)
+    lower

@@ -1,5 +1,7 @@
-use Rattle.std.proofs.Common.{Some, ap, arith, option_map, slice_get, sym, ◌∙◌}
+use Rattle.std.proofs.Common.{Some, ap, arith, option_map, rules, slice_get, sym, w64, ◌∙◌}
 use Rattle.std.specs.Option.{option_map_or}
+use Rattle.std.proofs.lemmas.Int.{to_z-of_z}
+use mir.Val.{SFits, of_z, to_z}
 use Rattle.ad_tree.specs.Ad.{ad_frames}
 use Rattle.ad_store.specs.Holdings.{holding_of}
 use Rattle.ad_store.specs.Store.{stock_of}
@@ -95,21 +97,23 @@ returns-clause-entries g c =
 
 pub returns-then-not-won-clause-member : goal.returns-then-not-won-clause-member
 returns-then-not-won-clause-member g c =
+    let fits : SFits w64 c.in-Some.ranks.regard = search rules in
     let pool = pool_of c.args.moment (stock_of c.args.store.now) (g.H.Holdings.is_offered c.args.held.now) (g.H.Holdings.holding c.args.held.now) in
     let ad = ad_frames c.look-ad.result.now in
     let request = ad_frames c.args.request.now.ad in
-    none-lost c.args.moment (stock_of c.args.store.now) (g.H.Holdings.is_offered c.args.held.now) (g.H.Holdings.holding c.args.held.now) request c.args.place c.at-slot.result c.at-slot.ensures.place ad (slice_get pool.ads c.args.place) (c.look-ad.ensures.ad c.args.place c.at-slot.ensures.place) (won-by c.args.moment (stock_of c.args.store.now) (g.H.Holdings.is_offered c.args.held.now) (g.H.Holdings.holding c.args.held.now) request c.args.place c.at-slot.result c.at-slot.ensures.place ad c.in-Some.ranks.regard (option_map holding_of c.holder-holder.result) c.in_ok-won.won (are-ranks c.args.moment request ad c.in-Some.ranks (sym (sym c.in-Some.is ∙ c.in_ok-met.ensures.ranks))).2 (c.holder-holder.ensures.who) c.in_ok-won.ensures.won ∙ c.if-not-won.true)
+    none-lost c.args.moment (stock_of c.args.store.now) (g.H.Holdings.is_offered c.args.held.now) (g.H.Holdings.holding c.args.held.now) request c.args.place c.at-slot.result c.at-slot.ensures.place ad (slice_get pool.ads c.args.place) (c.look-ad.ensures.ad c.args.place c.at-slot.ensures.place) (won-by c.args.moment (stock_of c.args.store.now) (g.H.Holdings.is_offered c.args.held.now) (g.H.Holdings.holding c.args.held.now) request c.args.place c.at-slot.result c.at-slot.ensures.place ad (to_z w64 (of_z w64 c.in-Some.ranks.regard)) (option_map holding_of c.holder-holder.result) c.in_ok-won.won (to_z-of_z w64 c.in-Some.ranks.regard fits ∙ (are-ranks c.args.moment request ad c.in-Some.ranks (sym (sym c.in-Some.is ∙ c.in_ok-met.ensures.ranks))).2) (c.holder-holder.ensures.who) c.in_ok-won.ensures.won ∙ c.if-not-won.true)
 
 pub returns-clause-member : goal.returns-clause-member
 returns-clause-member g c =
+    let fits : SFits w64 c.in-Some.ranks.regard = search rules in
     let pool = pool_of c.args.moment (stock_of c.args.store.now) (g.H.Holdings.is_offered c.args.held.now) (g.H.Holdings.holding c.args.held.now) in
     let request = ad_frames c.args.request.now.ad in
     let ranks = sym c.in-Some.is ∙ c.in_ok-met.ensures.ranks in
     some-won c.args.moment (stock_of c.args.store.now) (g.H.Holdings.is_offered c.args.held.now) (g.H.Holdings.holding c.args.held.now) request c.args.place c.at-slot.result c.at-slot.ensures.place (ad_frames c.look-ad.result.now) (slice_get pool.ads c.args.place) c.in-Some.ranks c.is_some.result c.as_member.result
     (c.look-ad.ensures.ad c.args.place c.at-slot.ensures.place) (c.is_live.ensures c.args.place c.at-slot.ensures.place ∙ ap Some c.if-not-is_live.false) (sym c.offered.ensures ∙ c.if-offered.false)
     ranks
-    (won-by c.args.moment (stock_of c.args.store.now) (g.H.Holdings.is_offered c.args.held.now) (g.H.Holdings.holding c.args.held.now) request c.args.place c.at-slot.result c.at-slot.ensures.place (ad_frames c.look-ad.result.now) c.in-Some.ranks.regard (option_map holding_of c.holder-holder.result) c.in_ok-won.won
-    (are-ranks c.args.moment request (ad_frames c.look-ad.result.now) c.in-Some.ranks (sym ranks)).2 c.holder-holder.ensures.who c.in_ok-won.ensures.won ∙ c.if-not-won.false)
+    (won-by c.args.moment (stock_of c.args.store.now) (g.H.Holdings.is_offered c.args.held.now) (g.H.Holdings.holding c.args.held.now) request c.args.place c.at-slot.result c.at-slot.ensures.place (ad_frames c.look-ad.result.now) (to_z w64 (of_z w64 c.in-Some.ranks.regard)) (option_map holding_of c.holder-holder.result) c.in_ok-won.won
+    (to_z-of_z w64 c.in-Some.ranks.regard fits ∙ (are-ranks c.args.moment request (ad_frames c.look-ad.result.now) c.in-Some.ranks (sym ranks)).2) c.holder-holder.ensures.who c.in_ok-won.ensures.won ∙ c.if-not-won.false)
     (c.is_some.ensures ∙ holder-there (stock_of c.args.store.now) (g.H.Holdings.holding c.args.held.now) c.at-slot.result c.holder-holder.result c.holder-holder.ensures.who)
     c.as_member.ensures
 

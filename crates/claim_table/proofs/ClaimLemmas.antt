@@ -1,0 +1,92 @@
+-- What a claim answers, and what it may count.
+use Rattle.std.proofs.Common.{◌≡◌, ◌≢◌, ℕ, ◌≤◌, All, List, [], if◌then◌else◌, length, slice_get, Option, None, Some, refl, sym, ◌∙◌, ap, arith}
+use Rattle.std.specs.Prelude.{Err, Ok, Result, option_map, slice_index}
+use Rattle.std.specs.Option.{option_and_then, option_map_or}
+use Rattle.std.proofs.lemmas.List.Elements.{All-nil}
+use Rattle.ad_store.specs.Stock.{Stock}
+use Rattle.eval_scope.specs.World.{PlainWorld}
+use Rattle.bilateral_match.specs.Docks.{is_last_decided}
+use Rattle.claim_table.specs.declared.answers.ClaimFault.{ClaimFault}
+use Rattle.claim_table.specs.declared.answers.Freed.{Freed}
+use Rattle.claim_table.specs.declared.answers.JobState.{JobState}
+use Rattle.claim_table.specs.declared.job.Job.{Job}
+use Rattle.claim_table.specs.declared.job.Standing.{Standing}
+use Rattle.claim_table.specs.Claims.{checked, claimed, claimed_at, entered_for, entered_in, first_failing, freed_all, granted, losers, offer_at, offer_named, sum_over, undecided_for}
+use Rattle.claim_table.specs.Jobs.{IsFilled, job_named, numbered, offer_of, slots_of, state_of, wanted, with_standing}
+
+-- what is offered is listed
+pub offer-listed : (P : ℕ → Type 0) (standing : Standing) → All P (slots_of standing) → All P (offer_of standing)
+offer-listed P Standing.Idle all = all
+offer-listed P (Standing.Matched slots) all = all
+offer-listed P (Standing.Claimed slots) all = All-nil P
+
+enough-few : (standing : Standing) (n : ℕ) → (standing ≢ Standing.Idle → length (slots_of standing) ≡ n) → n ≤ 8 → length (offer_of standing) ≤ 8
+enough-few Standing.Idle n enough few = omega arith
+enough-few (Standing.Matched slots) n enough few = let all = enough (λ same. cc) in omega (arith, all, few)
+enough-few (Standing.Claimed slots) n enough few = omega arith
+
+-- no more is offered than a gang has ports
+pub offer-few : (job : Job) → IsFilled job → length (offer_of job.standing) ≤ 8
+offer-few job filled = enough-few job.standing (wanted job.request) filled.enough (let few = job.request.are_ports.few in omega (arith, few))
+
+-- what is offered to the job of a number
+pub offer-found : (jobs : List Job) (i : ℕ) (job : Job) → slice_get jobs i ≡ Some job → offer_at i jobs ≡ offer_of job.standing
+offer-found jobs i job at = ap (λ o. option_map_or (λ j. offer_of j.standing) o []) at
+
+module _ (moment : ℕ) (stock : Stock) (name : List ℕ) (jobs : List Job) where
+  abbrev nobody : Result (List Freed) ClaimFault × List Job
+  nobody = (Err ClaimFault.NoJob, jobs)
+
+  pub claimed-nobody : numbered name jobs ≡ None → claimed moment stock name jobs ≡ (Err ClaimFault.NoJob, jobs)
+  claimed-nobody none = ap (λ o. option_map_or (λ i. option_map_or (claimed_at moment stock jobs i) (slice_get jobs i) nobody) o nobody) none
+
+  module _ (i : ℕ) (job : Job) (number : numbered name jobs ≡ Some i) (at : slice_get jobs i ≡ Some job) where
+    named : job_named name jobs ≡ Some job
+    named = ap (option_and_then (λ k. slice_get jobs k)) number ∙ at
+
+    claimed-one : claimed moment stock name jobs ≡ claimed_at moment stock jobs i job
+    claimed-one =
+        ap (λ o. option_map_or (λ k. option_map_or (claimed_at moment stock jobs k) (slice_get jobs k) nobody) o nobody) number
+        ∙ ap (λ o. option_map_or (claimed_at moment stock jobs i) o nobody) at
+
+    pub claimed-unmatched : state_of job.standing ≢ JobState.Matched → claimed moment stock name jobs ≡ (Err (ClaimFault.WrongState (state_of job.standing)), jobs)
+    claimed-unmatched other = claimed-one ∙ by job.standing other
+      where
+        by : (s : Standing) → state_of s ≢ JobState.Matched → claimed_at moment stock jobs i (record job { standing = s }) ≡ (Err (ClaimFault.WrongState (state_of s)), jobs)
+        by Standing.Idle other = refl
+        by (Standing.Matched slots) other = absurd (other refl)
+        by (Standing.Claimed slots) other = refl
+
+    module _ (matched : state_of job.standing ≡ JobState.Matched) where
+      claimed-checked : claimed moment stock name jobs ≡ checked moment stock jobs i job.request (offer_of job.standing)
+      claimed-checked = claimed-one ∙ by job.standing matched
+        where
+          by : (s : Standing) → state_of s ≡ JobState.Matched → claimed_at moment stock jobs i (record job { standing = s }) ≡ checked moment stock jobs i job.request (offer_of s)
+          by Standing.Idle other = absurd (cc)
+          by (Standing.Matched slots) same = refl
+          by (Standing.Claimed slots) other = absurd (cc)
+
+      abbrev gained : Result (List Freed) ClaimFault × List Job
+      gained = (Ok (freed_all jobs (losers jobs (offer_of job.standing))), granted jobs i (offer_of job.standing))
+
+      abbrev by_failing : Option ℕ → Result (List Freed) ClaimFault × List Job
+      by_failing failing = option_map_or (λ slot. (Err (ClaimFault.Stale slot), with_standing jobs i Standing.Idle)) failing gained
+
+      pub claimed-stale : (slot : ℕ) → first_failing moment stock jobs job.request (offer_of job.standing) ≡ Some slot
+          → claimed moment stock name jobs ≡ (Err (ClaimFault.Stale slot), with_standing jobs i Standing.Idle)
+      claimed-stale slot failing = claimed-checked ∙ ap by_failing failing
+
+      pub claimed-granted : first_failing moment stock jobs job.request (offer_of job.standing) ≡ None
+          → claimed moment stock name jobs ≡ (Ok (freed_all jobs (losers jobs (offer_of job.standing))), granted jobs i (offer_of job.standing))
+      claimed-granted none = claimed-checked ∙ ap by_failing none
+
+    -- what is counted is that of the job
+
+    pub undecided-named : undecided_for moment stock name jobs ≡ sum_over (λ slot world. if is_last_decided world then 0 else 1) moment stock job
+    undecided-named = ap (λ o. option_map_or (sum_over (λ slot world. if is_last_decided world then 0 else 1) moment stock) o 0) named
+
+    pub entered-named : entered_for moment stock name jobs ≡ sum_over (entered_in moment stock jobs) moment stock job
+    entered-named = ap (λ o. option_map_or (sum_over (entered_in moment stock jobs) moment stock) o 0) named
+
+    pub offer-named : offer_named name jobs ≡ offer_of job.standing
+    offer-named = ap (λ o. option_map_or (λ j. offer_of j.standing) o []) named

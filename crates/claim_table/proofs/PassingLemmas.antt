@@ -1,0 +1,102 @@
+-- Whether one resource of an offer passes, and what it takes to tell.
+use Rattle.std.proofs.Common.{◌≡◌, ◌<◌, ◌+◌, ◌*◌, ℕ, ℤ, All, Contains, Bool, true, false, not, ◌&&◌, if◌then◌else◌, int_lt, List, length, slice_get, Option, None, Some, IfOk, is_some, refl, sym, ◌∙◌, ap, subst, arith}
+use Rattle.std.specs.Prelude.{Result, option_map}
+use Rattle.std.specs.Option.{option_and_then, option_map_or}
+use Rattle.std.proofs.lemmas.List.Elements.{All-nil}
+use Rattle.pool_text.specs.declared.language.AdPlace.{AdPlace}
+use Rattle.pool_text.specs.declared.memory.OutOfMemory.{OutOfMemory}
+use Rattle.ad_tree.specs.Ad.{ad_frames}
+use Rattle.ad_tree.specs.Frames.{Frame}
+use Rattle.ad_tree.specs.declared.request.Request.{Request}
+use Rattle.ad_store.specs.declared.holdings.Held.{Held}
+use Rattle.ad_store.specs.Holdings.{Holding, holding_of}
+use Rattle.ad_store.specs.Stock.{Stock}
+use Rattle.eval_scope.specs.World.{PlainWorld, attribute_count, request_side, resource_side}
+use Rattle.ad_eval.specs.Dock.{is_docked, rank_by}
+use Rattle.conjunct_plan.specs.Decided.{is_dock_decided}
+use Rattle.conjunct_plan.specs.Tests.{labels_of}
+use Rattle.bilateral_match.specs.Docks.{is_last_decided, last_ad}
+use Rattle.bilateral_match.specs.Pool.{AreStored, holder_world, regard_in}
+use Rattle.bilateral_match.proofs.DecidedLemmas.{not-docked}
+use Rattle.bilateral_match.proofs.DockingLemmas.{frame-there}
+use Rattle.claim_table.specs.declared.job.Job.{Job}
+use Rattle.claim_table.specs.declared.job.Standing.{Standing}
+use Rattle.claim_table.specs.Claims.{entered_in, is_won, passes}
+use Rattle.claim_table.specs.Holders.{holder_of, holding_in}
+use Rattle.claim_table.specs.Jobs.{claim_of, claimed_by, slots_of}
+use Rattle.claim_table.proofs.HolderLemmas.{All-found}
+
+-- ---- the test of literal attributes
+
+module _ (w : PlainWorld) (request : Request) (at : AdPlace) (side : at ≡ request_side w) (ports : w.ports ≡ request.ports) where
+  -- the last dock is decided as the contract of the tests says it
+  pub decided-here : (fs : List Frame) → w.request ≡ ad_frames request.ad → last_ad w ≡ fs → is_dock_decided (ad_frames request.ad) at.frame (labels_of request.ports) fs ≡ is_last_decided w
+  decided-here fs asked last =
+      ap (λ (p : AdPlace). is_dock_decided (ad_frames request.ad) p.frame (labels_of request.ports) fs) side
+      ∙ ap (λ (r : List Frame). is_dock_decided r (request_side w).frame (labels_of request.ports) fs) (sym asked)
+      ∙ ap (λ ps. is_dock_decided w.request (request_side w).frame (labels_of ps) fs) (sym ports)
+      ∙ ap (is_dock_decided w.request (request_side w).frame (labels_of w.ports)) (sym last)
+
+  -- the last dock is at a frame of the request
+  pub frame-here : at.frame < length (ad_frames request.ad)
+  frame-here =
+      let there = frame-there (ad_frames request.ad) request.ports (length w.docked) request.are_ports request.ad.is_ad.root in
+      let place : at.frame ≡ (request_side w).frame = ap (λ (p : AdPlace). p.frame) side in
+      subst (λ k. k < length (ad_frames request.ad)) (sym (place ∙ ap (λ ps. (request_side (record w { ports = ps })).frame) ports)) there
+
+-- ---- the dock
+
+module _ (moment : ℕ) (stock : Stock) (jobs : List Job) (slot : ℕ) (w : PlainWorld) where
+  pub undocked : is_docked w ≡ false → false ≡ passes moment stock jobs slot w
+  undocked fails = sym (ap (λ b. b && is_won moment stock jobs slot w) fails)
+
+  pub decided-fails : 0 < length w.docked → is_last_decided w ≡ true → false ≡ passes moment stock jobs slot w
+  decided-fails some decided = undocked (not-docked w some decided)
+
+  pub docked-wins : (r : Result Bool OutOfMemory) → true ≡ is_docked w → IfOk r (λ b. b ≡ is_won moment stock jobs slot w) → IfOk r (λ b. b ≡ passes moment stock jobs slot w)
+  docked-wins r docks won = subst (λ d. IfOk r (λ b. b ≡ (d && is_won moment stock jobs slot w))) docks won
+
+  abbrev pub holder_attributes : ℕ
+  holder_attributes = option_map_or (λ holding. attribute_count (holder_world moment stock holding)) (holder_of jobs slot) 0
+
+  -- where no test decides the dock, all that may be counted is
+  pub once-undecided : is_last_decided w ≡ false → (if is_last_decided w then 0 else 1) ≡ 1
+  once-undecided undecided = ap (λ (b : Bool). if b then 0 else 1) undecided
+
+  pub entered-undecided : is_last_decided w ≡ false → entered_in moment stock jobs slot w ≡ 3 * attribute_count w + holder_attributes
+  entered-undecided undecided = ap (λ (b : Bool). if b then 0 else 3 * attribute_count w + holder_attributes) undecided
+
+  -- ---- the holder
+
+  abbrev won_over : ℤ → Option Holding → Bool
+  won_over n held = option_map_or (λ h. int_lt (regard_in (holder_world moment stock h)) n) held true
+
+  pub unclaimed-won : (holder : Option Held) → is_some holder ≡ false → option_map holding_of holder ≡ holder_of jobs slot → true ≡ is_won moment stock jobs slot w
+  unclaimed-won None none who = ap (won_over (regard_in w)) who
+  unclaimed-won (Some h) none who = absurd (cc)
+
+  pub won-here : (holder : Option Held) (n : ℤ) (at : AdPlace) (r : Result Bool OutOfMemory) → at ≡ resource_side w → n ≡ rank_by w at → option_map holding_of holder ≡ holder_of jobs slot
+      → IfOk r (λ b. b ≡ option_map_or (λ h. int_lt (regard_in (holder_world moment stock h)) n) (option_map holding_of holder) true) → IfOk r (λ b. b ≡ is_won moment stock jobs slot w)
+  won-here holder n at r side ranks who won =
+      subst (λ (x : Bool). IfOk r (λ b. b ≡ x)) (ap (λ k. won_over k (option_map holding_of holder)) (ranks ∙ ap (rank_by w) side) ∙ ap (won_over (regard_in w)) who) won
+
+-- what is claimed is listed
+claim-listed : (P : ℕ → Type 0) (standing : Standing) → All P (slots_of standing) → All P (claim_of standing)
+claim-listed P Standing.Idle all = all
+claim-listed P (Standing.Matched slots) all = All-nil P
+claim-listed P (Standing.Claimed slots) all = all
+
+-- what jobs hold is in the store where all that they list is
+pub holders-stored : (stock : Stock) (jobs : List Job) → All (λ job. All (Contains stock.slots) (slots_of job.standing)) jobs → AreStored stock (holder_of jobs)
+holders-stored stock jobs all slot h holds = by_number (claimed_by slot jobs) holds
+  where
+    by_job : (i : ℕ) (o : Option Job) → slice_get jobs i ≡ o → option_map (holding_in slot) o ≡ Some h → All (Contains stock.slots) h.slots
+    by_job i None at is = absurd (cc)
+    by_job i (Some job) at is =
+        let same : holding_in slot job ≡ h = cc in
+        subst (λ (x : Holding). All (Contains stock.slots) x.slots) same
+        (claim-listed (Contains stock.slots) job.standing (All-found (λ j. All (Contains stock.slots) (slots_of j.standing)) jobs i job all at))
+
+    by_number : (o : Option ℕ) → option_map (holding_in slot) (option_and_then (λ i. slice_get jobs i) o) ≡ Some h → All (Contains stock.slots) h.slots
+    by_number None is = absurd (cc)
+    by_number (Some i) is = by_job i (slice_get jobs i) refl is

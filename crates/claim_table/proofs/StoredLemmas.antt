@@ -1,0 +1,73 @@
+-- What holds of all that jobs list holds of all that they list after a claim.
+use Rattle.std.proofs.Common.{◌≡◌, ℕ, All, List, [], ◌∷◌, slice_get, slice_set, Option, None, Some, refl, sym, ap, subst}
+use Rattle.std.specs.Prelude.{Err, Ok, Result}
+use Rattle.std.specs.Option.{option_map_or}
+use Rattle.std.proofs.lemmas.List.Elements.{All-nil, All-set}
+use Rattle.ad_store.specs.Stock.{Stock}
+use Rattle.claim_table.specs.declared.answers.ClaimFault.{ClaimFault}
+use Rattle.claim_table.specs.declared.answers.Freed.{Freed}
+use Rattle.claim_table.specs.declared.job.Job.{Job}
+use Rattle.claim_table.specs.declared.job.Standing.{Standing}
+use Rattle.claim_table.specs.Claims.{IsClaimed, all_idle, claimed, claimed_at, first_failing, freed_all, granted, losers}
+use Rattle.claim_table.specs.Jobs.{idle_at, numbered, slots_of, with_standing}
+use Rattle.claim_table.proofs.HolderLemmas.{All-found}
+
+module _ (P : ℕ → Type 0) where
+  abbrev Listed : Job → Type 0
+  Listed job = All P (slots_of job.standing)
+
+  standing-keeps : (jobs : List Job) (i : ℕ) (standing : Standing) → All Listed jobs → All P (slots_of standing) → All Listed (with_standing jobs i standing)
+  standing-keeps jobs i standing all new = by (slice_get jobs i)
+    where
+      by : (o : Option Job) → All Listed (option_map_or (λ job. slice_set jobs i (record job { standing = standing })) o jobs)
+      by None = all
+      by (Some job) = All-set Listed jobs i (record job { standing = standing }) new all
+
+  idle-keeps : (jobs : List Job) (numbers : List ℕ) → All Listed jobs → All Listed (all_idle jobs numbers)
+  idle-keeps jobs [] all = all
+  idle-keeps jobs (k ∷ ks) all = idle-keeps (idle_at (Some k) jobs) ks (standing-keeps jobs k Standing.Idle all (All-nil P))
+
+  module _ (moment : ℕ) (stock : Stock) (name : List ℕ) (jobs : List Job) (all : All Listed jobs) where
+    abbrev Answer : Type 0
+    Answer = Result (List Freed) ClaimFault × List Job
+
+    at-keeps : (i : ℕ) (job : Job) (s : Standing) → All P (slots_of s) → All Listed (claimed_at moment stock jobs i (record job { standing = s })).1
+    at-keeps i job Standing.Idle offered = all
+    at-keeps i job (Standing.Claimed slots) offered = all
+    at-keeps i job (Standing.Matched slots) offered = by (first_failing moment stock jobs job.request slots)
+      where
+        gained : Answer
+        gained = (Ok (freed_all jobs (losers jobs slots)), granted jobs i slots)
+
+        by : (o : Option ℕ) → All Listed (option_map_or (λ slot. (Err (ClaimFault.Stale slot), with_standing jobs i Standing.Idle)) o gained).1
+        unfolding gained
+        by None = standing-keeps (all_idle jobs (losers jobs slots)) i (Standing.Claimed slots) (idle-keeps jobs (losers jobs slots) all) offered
+        by (Some slot) = standing-keeps jobs i Standing.Idle all (All-nil P)
+
+    claimed-keeps : All Listed (claimed moment stock name jobs).1
+    claimed-keeps = by_number (numbered name jobs)
+      where
+        abbrev nobody : Answer
+        nobody = (Err ClaimFault.NoJob, jobs)
+
+        by_job : (i : ℕ) (o : Option Job) → slice_get jobs i ≡ o → All Listed (option_map_or (claimed_at moment stock jobs i) o nobody).1
+        by_job i None at = all
+        by_job i (Some job) at = at-keeps i job job.standing (All-found Listed jobs i job all at)
+
+        by_number : (o : Option ℕ) → All Listed (option_map_or (λ i. option_map_or (claimed_at moment stock jobs i) (slice_get jobs i) nobody) o nobody).1
+        by_number None = all
+        by_number (Some i) = by_job i (slice_get jobs i) refl
+
+    -- after a claim, whatever it answers
+    pub claim-keeps : (answer : Result (List Freed) ClaimFault) (new : List Job) → IsClaimed answer jobs new (claimed moment stock name jobs) → All Listed new
+    claim-keeps answer new is = by answer is
+      where
+        told : (a : Result (List Freed) ClaimFault) → claimed moment stock name jobs ≡ (a, new) → All Listed new
+        told a same = subst (All Listed) (ap (λ (x : Answer). x.1) same) claimed-keeps
+
+        by : (a : Result (List Freed) ClaimFault) → IsClaimed a jobs new (claimed moment stock name jobs) → All Listed new
+        by (Ok freed) same = told (Ok freed) same
+        by (Err ClaimFault.NoJob) same = told (Err ClaimFault.NoJob) same
+        by (Err (ClaimFault.WrongState state)) same = told (Err (ClaimFault.WrongState state)) same
+        by (Err (ClaimFault.Stale slot)) same = told (Err (ClaimFault.Stale slot)) same
+        by (Err ClaimFault.OutOfMemory) same = subst (All Listed) (sym same) all

@@ -1,0 +1,241 @@
+// Claims: what is offered to a job is checked anew before the job has it.
+ghost use Rattle.std.specs.Prelude.{◌≡◌, ◌≤◌, ◌<◌, ◌+◌, ◌*◌, All, Contains, IfOk, OnErr, OnOk, None, Some, length, option_map, slice_get, if◌then◌else◌};
+ghost use Rattle.std.specs.Option.{option_map_or};
+ghost use Rattle.ad_tree.specs.Ad.{ad_frames};
+ghost use Rattle.ad_store.specs.Store.{stock_of};
+ghost use Rattle.eval_scope.specs.Shown.{world_of};
+ghost use Rattle.eval_scope.specs.World.{attribute_count};
+ghost use Rattle.bilateral_match.specs.Docks.{is_last_decided, last_ad};
+ghost use Rattle.bilateral_match.specs.Pool.{holder_world};
+ghost use Rattle.claim_table.specs.declared.answers.JobState.{JobState};
+ghost use Rattle.claim_table.specs.declared.job.Standing.{Standing};
+ghost use Rattle.claim_table.specs.Claims as claims;
+ghost use Rattle.claim_table.specs.Holders.{holder_of};
+ghost use Rattle.claim_table.specs.Jobs.{claimed_by, offer_of, slots_of, state_of, with_standing};
+ghost use Rattle.claim_table.specs.Table.{jobs_of};
+
+use crate::notes::put;
+use crate::{ClaimFault, ClaimTable, FreedList, Job, JobState};
+use ad_eval::{dock, rank};
+use ad_store::{Holdings, Store};
+use ad_tree::{Ad, Request};
+use bilateral_match::{is_decided, is_won};
+use eval_scope::World;
+use pool_steps::Steps;
+use pool_text::{OutOfMemory, Slots};
+use std::convert::AsSlice;
+use std::sync::ledger::Ledger;
+
+impl ClaimTable {
+    /// Claims for the job of a name what is offered to it. Each resource of the offer is checked anew, in order: it passes
+    /// where its dock is true now, with those before it docked too, and where it is unclaimed or ranks its holder strictly
+    /// lower than this job. (A match is checked again by the claiming protocol: Raman, Livny and Solomon 1998.)
+    ///
+    /// Where all pass the job has claimed them. The jobs that held one of them become idle with all their resources freed;
+    /// they are told in the order of the offer, each once, with what they had. `Stale` exactly where one fails, with the
+    /// slot of the first that does; then the job is idle. `WrongState` exactly where nothing is offered to the job, `NoJob`
+    /// exactly where no job has the name. After want of memory all is as it was.
+    ///
+    /// It counts in `tops` four at most for each dock of the offer that no test decides, in `entry` what these evaluations
+    /// enter, and in `touch` nine at most for each resource: its look, and those at the holder's resources.
+    pub fn claim<F: Ledger, E: Ledger, T: Ledger>(
+        &mut self,
+        store: &Store,
+        name: &[u8],
+        moment: u64,
+        tops: &mut Steps<F>,
+        entry: &mut Steps<E>,
+        touch: &mut Steps<T>,
+    ) -> Result<FreedList, ClaimFault>
+        requires { All (λ job. All (Contains (stock_of store.now).slots) (slots_of job.standing)) (jobs_of self.old) }
+        ensures claim { claims.IsClaimed result (jobs_of self.old) (jobs_of self.new) (claims.claimed moment (stock_of store.now) name.now (jobs_of self.old)) }
+        ensures evaluations { tops.new ≤ tops.old + 4 * claims.undecided_for moment (stock_of store.now) name.now (jobs_of self.old) }
+        ensures entries { entry.new ≤ entry.old + claims.entered_for moment (stock_of store.now) name.now (jobs_of self.old) }
+        ensures looks { touch.new ≤ touch.old + 9 * length (claims.offer_named name.now (jobs_of self.old)) }
+    {
+        let Some(i) = self.find(name) else {
+            return Err(ClaimFault::NoJob);
+        };
+        let job = &self.jobs[i];
+        let state = job.standing.state();
+        if state != JobState::Matched {
+            return Err(ClaimFault::WrongState(state));
+        }
+        let Ok(failing) = self.first_failing(store, job, moment, tops, entry, touch) else {
+            return Err(ClaimFault::OutOfMemory);
+        };
+        if let Some(slot) = failing {
+            let _slots = self.free(i);
+            return Err(ClaimFault::Stale(slot));
+        }
+        let Ok(freed) = self.grant(i) else {
+            return Err(ClaimFault::OutOfMemory);
+        };
+        Ok(freed)
+    }
+
+    // The slot of the first of the resources that are offered to a job that doesn't pass.
+    fn first_failing<F: Ledger, E: Ledger, T: Ledger>(
+        &self,
+        store: &Store,
+        job: &Job,
+        moment: u64,
+        tops: &mut Steps<F>,
+        entry: &mut Steps<E>,
+        touch: &mut Steps<T>,
+    ) -> Result<Option<usize>, OutOfMemory>
+        requires stored { All (λ j. All (Contains (stock_of store.now).slots) (slots_of j.standing)) (jobs_of self.now) }
+        requires offered { All (Contains (stock_of store.now).slots) (offer_of job.now.standing) }
+        requires few { length (offer_of job.now.standing) ≤ 8 }
+        ensures failing { IfOk result (λ slot. slot ≡ claims.first_failing moment (stock_of store.now) (jobs_of self.now) job.now.request (offer_of job.now.standing)) }
+        ensures evaluations { tops.new ≤ tops.old + 4 * claims.sum_over (λ slot world. if is_last_decided world then 0 else 1) moment (stock_of store.now) job.now }
+        ensures entries { entry.new ≤ entry.old + claims.sum_over (claims.entered_in moment (stock_of store.now) (jobs_of self.now)) moment (stock_of store.now) job.now }
+        ensures looks { touch.new ≤ touch.old + 9 * length (offer_of job.now.standing) }
+    {
+        let request = &job.request;
+        let slots = job.standing.offer();
+        let mut world = World::new(moment, &request.ad, &request.ports);
+        for slot in slots {
+            let ad = store.look(*slot, touch);
+            world.dock(ad);
+            if !self.passes(
+                store, request, *slot, ad, &world, moment, tops, entry, touch,
+            )? {
+                return Ok(Some(*slot));
+            }
+        }
+        Ok(None)
+    }
+
+    // Whether the resource in a slot, which was docked last, passes. Nothing is evaluated where a test decides the dock.
+    fn passes<F: Ledger, E: Ledger, T: Ledger>(
+        &self,
+        store: &Store,
+        request: &Request,
+        slot: usize,
+        ad: &Ad,
+        world: &World<'_>,
+        moment: u64,
+        tops: &mut Steps<F>,
+        entry: &mut Steps<E>,
+        touch: &mut Steps<T>,
+    ) -> Result<bool, OutOfMemory>
+        requires stored { All (λ j. All (Contains (stock_of store.now).slots) (slots_of j.standing)) (jobs_of self.now) }
+        requires request { (world_of world.now).request ≡ ad_frames request.now.ad }
+        requires ports { (world_of world.now).ports ≡ request.now.ports }
+        requires docked { 0 < length (world_of world.now).docked }
+        requires last { last_ad (world_of world.now) ≡ ad_frames ad.now }
+        ensures passes { IfOk result (λ b. b ≡ claims.passes moment (stock_of store.now) (jobs_of self.now) slot (world_of world.now)) }
+        ensures evaluations { tops.new ≤ tops.old + 4 * (if is_last_decided (world_of world.now) then 0 else 1) }
+        ensures entries { entry.new ≤ entry.old + claims.entered_in moment (stock_of store.now) (jobs_of self.now) slot (world_of world.now) }
+        ensures looks { touch.new ≤ touch.old + 8 }
+    {
+        if is_decided(self.alloc, request, world.request_place().frame, ad) {
+            return Ok(false);
+        }
+        if !dock(self.alloc, world, tops, entry)? {
+            return Ok(false);
+        }
+        self.wins(store, slot, world, moment, tops, entry, touch)
+    }
+
+    // Whether the resource in a slot, which was docked last, is unclaimed, or ranks its holder strictly lower than the job.
+    fn wins<F: Ledger, E: Ledger, T: Ledger>(
+        &self,
+        store: &Store,
+        slot: usize,
+        world: &World<'_>,
+        moment: u64,
+        tops: &mut Steps<F>,
+        entry: &mut Steps<E>,
+        touch: &mut Steps<T>,
+    ) -> Result<bool, OutOfMemory>
+        requires { All (λ j. All (Contains (stock_of store.now).slots) (slots_of j.standing)) (jobs_of self.now) }
+        ensures won { IfOk result (λ b. b ≡ claims.is_won moment (stock_of store.now) (jobs_of self.now) slot (world_of world.now)) }
+        ensures evaluations { tops.new ≤ tops.old + 2 }
+        ensures entries { entry.new ≤ entry.old + attribute_count (world_of world.now)
+            + option_map_or (λ holding. attribute_count (holder_world moment (stock_of store.now) holding)) (holder_of (jobs_of self.now) slot) 0 }
+        ensures looks { touch.new ≤ touch.old + 8 }
+    {
+        let holder = self.holder(slot);
+        if holder.is_none() {
+            return Ok(true);
+        }
+        let regard = rank(self.alloc, world, world.resource_place(), tops, entry)?;
+        is_won(
+            self.alloc, store, holder, regard, moment, tops, entry, touch,
+        )
+    }
+
+    // Job `i` claims what is offered to it, also from the jobs that have claimed it. Memory is taken first.
+    fn grant(&mut self, i: usize) -> Result<FreedList, OutOfMemory>
+        requires { option_map (λ job. state_of job.standing) (slice_get (jobs_of self.old) i) ≡ Some JobState.Matched }
+        ensures freed { IfOk result (λ list. list ≡ claims.freed_all (jobs_of self.old) (claims.losers (jobs_of self.old) (claims.offer_at i (jobs_of self.old)))) }
+        ensures ok { OnOk result (jobs_of self.new ≡ claims.granted (jobs_of self.old) i (claims.offer_at i (jobs_of self.old))) }
+        ensures err { OnErr result (jobs_of self.new ≡ jobs_of self.old) }
+    {
+        let losers = self.losers(self.jobs[i].standing.offer())?;
+        let freed = self.tell_all(losers.as_slice())?;
+        self.make_all_idle(losers.as_slice());
+        self.settle(i);
+        Ok(freed)
+    }
+
+    // The numbers of the jobs that have claimed one of the slots, each once, in the order of the slots.
+    fn losers(&self, slots: &[usize]) -> Result<Slots, OutOfMemory>
+        ensures { IfOk result (λ numbers. numbers ≡ claims.losers (jobs_of self.now) slots.now) }
+    {
+        let mut numbers = Slots::new(self.alloc);
+        for slot in slots {
+            add_once(&mut numbers, self.claimed_by(*slot))?;
+        }
+        Ok(numbers)
+    }
+
+    // The jobs of these numbers, each with the slots that it has.
+    fn tell_all(&self, numbers: &[usize]) -> Result<FreedList, OutOfMemory>
+        requires { All (λ i. i < length (jobs_of self.now)) numbers.now }
+        ensures { IfOk result (λ list. list ≡ claims.freed_all (jobs_of self.now) numbers.now) }
+    {
+        let mut freed = FreedList::new(self.alloc);
+        for i in numbers {
+            self.tell(Some(*i), &mut freed)?;
+        }
+        Ok(freed)
+    }
+
+    // Makes the jobs of these numbers idle.
+    fn make_all_idle(&mut self, numbers: &[usize])
+        requires { All (λ i. i < length (jobs_of self.old)) numbers.now }
+        ensures { jobs_of self.new ≡ claims.all_idle (jobs_of self.old) numbers.now }
+    {
+        for i in numbers {
+            self.make_idle(Some(*i));
+        }
+    }
+
+    // Job `i` claims what is offered to it, which nobody has claimed.
+    fn settle(&mut self, i: usize)
+        requires matched { option_map (λ job. state_of job.standing) (slice_get (jobs_of self.old) i) ≡ Some JobState.Matched }
+        requires free { All (λ slot. claimed_by slot (jobs_of self.old) ≡ None) (claims.offer_at i (jobs_of self.old)) }
+        ensures { jobs_of self.new ≡ with_standing (jobs_of self.old) i (Standing.Claimed (claims.offer_at i (jobs_of self.old))) }
+    {
+        let slots = self.jobs[i].standing.offer();
+        put(&mut self.offers, slots, None);
+        put(&mut self.claims, slots, Some(i));
+        self.jobs[i].standing.settle(self.alloc);
+    }
+}
+
+// Adds a number at the end, unless it is there.
+fn add_once(numbers: &mut Slots, number: Option<usize>) -> Result<(), OutOfMemory>
+    ensures { OnOk result (numbers.new ≡ claims.once numbers.old number) }
+{
+    let Some(i) = number else {
+        return Ok(());
+    };
+    if numbers.as_slice().contains(&i) {
+        return Ok(());
+    }
+    numbers.push(i)
+}

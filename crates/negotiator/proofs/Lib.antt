@@ -1,6 +1,15 @@
+mod ActiveLemmas
 pub mod AlikeLemmas
+mod BudgetLemmas
 pub mod CycleLemmas
+pub mod JobLemmas
 mod PriorityLemmas
+mod QueueLemmas
+mod ReadyLemmas
+mod ShiftLemmas
+mod SearchLemmas
+mod SpinLoopLemmas
 pub mod StoredLemmas
 mod SumLemmas
+mod TurnLoopLemmas
 mod UserLemmas

@@ -3,18 +3,21 @@ use Rattle.std.proofs.Common.{◌≡◌, ◌≤◌, ◌<◌, ◌+◌, ℕ, zero,
 use Rattle.std.specs.Prelude.{IfSome, option_and_then, option_map}
 use Rattle.std.specs.List.{cons_option}
 use Rattle.std.specs.Ordering.{is_lt}
-use Rattle.std.proofs.lemmas.List.{get_or_default}
+use Rattle.std.proofs.lemmas.List.{get_or_default, length-map}
 use Rattle.std.proofs.lemmas.List.Elements.{All-append, All-cons, All-head, All-nil, All-tail}
 use Rattle.ad_tree.specs.Ad.{ad_frames}
 use Rattle.ad_tree.specs.Frames.{Frame}
 use Rattle.ad_tree.specs.declared.request.Request.{Request}
+use Rattle.ad_store.specs.declared.store.Store.{Store}
 use Rattle.ad_store.specs.Stock.{Advert, Stock}
+use Rattle.ad_store.specs.Store.{stock_of}
 use Rattle.bilateral_match.specs.declared.member.Member.{Member}
 use Rattle.bilateral_match.specs.Members.{as_member, best, best_slot, earlier, first_of, is_member, member_order, members, members_from}
 use Rattle.bilateral_match.specs.Pool.{Pool, slot_at}
 use Rattle.claim_table.specs.declared.job.Job.{Job}
 use Rattle.negotiator.specs.Cycle.{Market, Offer, PlainSpin, PlainTurn, cycle_of, has_offer, is_empty, offers_in, offers_of, places, shares_of, spin, spins_within, turn, turns, users_of, waiting_count, waits}
-use Rattle.negotiator.specs.Markets.{found, found_for, pool_for}
+use Rattle.negotiator.specs.Markets.{found, found_for, market_of, pool_for, with_offers}
+use Rattle.negotiator.specs.Priorities.{Setting}
 use Rattle.negotiator.proofs.CycleLemmas.{offer, offers-kept, turn-by}
 
 -- ---- in a cycle
@@ -106,3 +109,15 @@ module _ (moment : ℕ) (stock : Stock) (beside : length stock.ads ≤ length st
       by : (o : Option Job) → option_and_then (λ (job : Job). found_for moment stock jobs job.request) o ≡ Some slots → All (Contains stock.slots) slots
       by None e = absurd (cc)
       by (Some job) e = found-for jobs job.request slots e
+
+-- ---- a store
+
+module _ (store : Store) where
+  beside : length (stock_of store).ads ≤ length (stock_of store).slots
+  beside = simp length-map (omega arith)
+
+  pub cycle-stored : (moment : ℕ) (settings : List Setting) (jobs : List Job)
+      → All (λ (o : Offer ℕ). All (Contains (stock_of store).slots) o.resources) (offers_of (cycle_of (market_of moment (stock_of store) settings jobs)))
+  cycle-stored moment settings jobs =
+      cycle-all (market_of moment (stock_of store) settings jobs) (All (Contains (stock_of store).slots))
+      (λ made i slots e. found-stored moment (stock_of store) beside (with_offers made jobs) i slots e)

@@ -4,4 +4,6 @@ pub mod Cycle
 pub mod Mapped
 pub mod Markets
 pub mod Priorities
+pub mod Queues
+pub mod Scenes
 pub mod Settings

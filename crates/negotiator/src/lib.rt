@@ -5,7 +5,11 @@
 mod answers;
 mod laws;
 mod priorities;
+mod queues;
+mod scene;
+mod search;
 mod spins;
+mod turns;
 
 pub use answers::{Cycle, Offered, OfferedList, PriorityFault, Spin, Turn, Turns};
 pub use laws::{
@@ -13,4 +17,6 @@ pub use laws::{
     users_with_a_waiting_job_take_turns_in_order,
 };
 pub use priorities::Priorities;
+pub use queues::Queue;
+pub use scene::Scene;
 pub use spins::cycle;

@@ -9,18 +9,25 @@ ghost use Rattle.claim_table.specs.Table.{jobs_of};
 ghost use Rattle.literal_index.specs.Shown.{IsIndex};
 ghost use Rattle.negotiator.specs.Budget.{ArePaid, AreWithin, counts, entries_for, left_for, open_for, over_idle};
 ghost use Rattle.negotiator.specs.Cycle.{cycle_from, cycle_of, is_of, offers_in, offers_of, places, spin, users_of, waits};
-ghost use Rattle.negotiator.specs.Markets.{IsPart, free_among, market_of, spin_named, with_offers};
+ghost use Rattle.negotiator.specs.Markets.{IsPart, free_among, is_free, market_of, spin_named, with_offers};
 ghost use Rattle.negotiator.specs.Priorities.{priority_of};
+ghost use Rattle.negotiator.specs.Queues.{AreQueues};
+ghost use Rattle.negotiator.specs.Scenes.{IsReady, market_in, stock_in, users_at};
 ghost use Rattle.negotiator.specs.Settings.{settings_of};
 ghost use Rattle.pie_slices.specs.Slices.{weight_of};
 
-use crate::{Cycle, Priorities};
+use crate::queues::queues_of;
+use crate::search::is_idle;
+use crate::turns::run_turns;
+use crate::{Cycle, Priorities, Queue, Scene, Spin};
 use ad_store::Store;
 use claim_table::ClaimTable;
 use literal_index::Index;
+use pie_slices::{Slices, slices, weight};
 use pool_steps::Steps;
-use pool_text::OutOfMemory;
+use pool_text::{OutOfMemory, Slots};
 use std::alloc::Global;
+use std::convert::AsSlice;
 use std::sync::ledger::Ledger;
 
 /// Goes through a cycle of negotiation: spins, up to and with the first that makes no offer. In a spin the users with an
@@ -60,6 +67,162 @@ pub fn cycle<F: Ledger, E: Ledger, T: Ledger>(
     ensures entries { entry.new ≤ entry.old + over_idle (entries_for moment (stock_of store.now)) (jobs_of claims.old) }
     ensures looks { touch.new ≤ touch.old + 9 * over_idle (left_for (stock_of store.now)) (jobs_of claims.old) }
 {
-    let _len = store.len();
-    Err(OutOfMemory)
+    let scene = Scene {
+        alloc,
+        store,
+        index,
+        priorities,
+        moment,
+    };
+    let queues = queues_of(&scene, claims)?;
+    let mut failed = vec![in alloc; false; claims.len()]?;
+    run_spins(
+        &scene,
+        claims,
+        &queues,
+        &mut failed,
+        tops,
+        entry,
+        touch,
+    )
+}
+
+// The spins up to and with the first that makes no offer.
+fn run_spins<F: Ledger, E: Ledger, T: Ledger>(
+    scene: &Scene<'_>,
+    claims: &mut ClaimTable,
+    queues: &[Queue],
+    failed: &mut [bool],
+    tops: &mut Steps<F>,
+    entry: &mut Steps<E>,
+    touch: &mut Steps<T>,
+) -> Result<Cycle, OutOfMemory>
+    requires queues { AreQueues (market_in scene.now (jobs_of claims.old)) queues.now }
+    requires ready { IsReady scene.now (jobs_of claims.old) failed.old }
+    ensures cycle { IfOk result (λ spins. spins ≡ map (spin_named (jobs_of claims.old)) (cycle_of (market_in scene.now (jobs_of claims.old)))) }
+    ensures table { OnOk result (jobs_of claims.new ≡ with_offers (offers_of (cycle_of (market_in scene.now (jobs_of claims.old)))) (jobs_of claims.old)) }
+    ensures part { OnErr result (IsPart (offers_of (cycle_of (market_in scene.now (jobs_of claims.old)))) (jobs_of claims.old) (jobs_of claims.new)) }
+    ensures within { AreWithin scene.now.moment (stock_in scene.now) (jobs_of claims.old) failed.old (counts tops.old entry.old touch.old) (counts tops.new entry.new touch.new) }
+{
+    let mut spins = Cycle::new(scene.alloc);
+    loop {
+        let spin = run_spin(scene, claims, queues, failed, tops, entry, touch)?;
+        let last = spin.turns.len() == 0;
+        spins.push(spin)?;
+        if last {
+            return Ok(spins);
+        }
+    }
+}
+
+// One spin.
+fn run_spin<F: Ledger, E: Ledger, T: Ledger>(
+    scene: &Scene<'_>,
+    claims: &mut ClaimTable,
+    queues: &[Queue],
+    failed: &mut [bool],
+    tops: &mut Steps<F>,
+    entry: &mut Steps<E>,
+    touch: &mut Steps<T>,
+) -> Result<Spin, OutOfMemory>
+    requires queues { AreQueues (market_in scene.now (jobs_of claims.old)) queues.now }
+    requires ready { IsReady scene.now (jobs_of claims.old) failed.old }
+    ensures spin { IfOk result (λ one. one ≡ spin_named (jobs_of claims.old) (spin (market_in scene.now (jobs_of claims.old)) [])) }
+    ensures table { OnOk result (jobs_of claims.new ≡ with_offers (offers_in (spin (market_in scene.now (jobs_of claims.old)) []).turns) (jobs_of claims.old)) }
+    ensures part { OnErr result (IsPart (offers_in (spin (market_in scene.now (jobs_of claims.old)) []).turns) (jobs_of claims.old) (jobs_of claims.new)) }
+    ensures ready { IsReady scene.now (jobs_of claims.new) failed.new }
+    ensures paid { OnOk result (ArePaid scene.now.moment (stock_in scene.now) (jobs_of claims.old) (jobs_of claims.new) failed.old failed.new (counts tops.old entry.old touch.old) (counts tops.new entry.new touch.new)) }
+    ensures within { AreWithin scene.now.moment (stock_in scene.now) (jobs_of claims.old) failed.old (counts tops.old entry.old touch.old) (counts tops.new entry.new touch.new) }
+{
+    let free = free_count(scene.store, claims);
+    let active = active_of(scene, claims, queues)?;
+    let weights = weights_of(scene, queues, active.as_slice())?;
+    let slices = slices(scene.alloc, free, weights.as_slice())?;
+    let turns = run_turns(
+        scene,
+        claims,
+        queues,
+        active.as_slice(),
+        slices.as_slice(),
+        failed,
+        tops,
+        entry,
+        touch,
+    )?;
+    Ok(Spin { free, turns })
+}
+
+// How many resources are neither offered nor claimed.
+fn free_count(store: &Store, claims: &ClaimTable) -> u64
+    ensures free { result ≡ free_among (stock_of store.now) (jobs_of claims.now) }
+    ensures few { result ≤ 10 ^ 4 }
+{
+    let mut free = 0;
+    for i in 0..store.len() {
+        if is_free_slot(claims, store.at(i)) {
+            free += 1;
+        }
+    }
+    free
+}
+
+// Whether a slot is neither offered nor claimed.
+fn is_free_slot(claims: &ClaimTable, slot: usize) -> bool
+    ensures { result ≡ is_free (jobs_of claims.now) slot }
+{
+    if claims.offered_to(slot).is_some() {
+        return false;
+    }
+    claims.claimed_by(slot).is_none()
+}
+
+// The numbers of the queues whose users have an idle job.
+fn active_of(
+    scene: &Scene<'_>,
+    claims: &ClaimTable,
+    queues: &[Queue],
+) -> Result<Slots, OutOfMemory>
+    requires { AreQueues (market_in scene.now (jobs_of claims.now)) queues.now }
+    ensures users { IfOk result (λ active. users_at queues.now active ≡ users_of (market_in scene.now (jobs_of claims.now)) []) }
+    ensures within { IfOk result (All (λ k. k < length queues.now)) }
+{
+    let mut active = Slots::new(scene.alloc);
+    for k in 0..queues.len() {
+        if has_idle(scene, claims, &queues[k]) {
+            active.push(k)?;
+        }
+    }
+    Ok(active)
+}
+
+// Whether the user of a queue has an idle job.
+fn has_idle(scene: &Scene<'_>, claims: &ClaimTable, queue: &Queue) -> bool
+    requires { queue.now.places ≡ filter (is_of (market_in scene.now (jobs_of claims.now)) queue.now.user) (places (market_in scene.now (jobs_of claims.now)).jobs) }
+    ensures { result ≡ list_any (waits (market_in scene.now (jobs_of claims.now)) queue.now.user []) (places (market_in scene.now (jobs_of claims.now)).jobs) }
+{
+    for place in queue.places.as_slice() {
+        if is_idle(claims, *place) {
+            return true;
+        }
+    }
+    false
+}
+
+// The weights of the users of these queues.
+fn weights_of(
+    scene: &Scene<'_>,
+    queues: &[Queue],
+    active: &[usize],
+) -> Result<Slices, OutOfMemory>
+    requires { All (λ k. k < length queues.now) active.now }
+    ensures weights { IfOk result (λ weights. weights ≡ map (λ user. weight_of (priority_of user (settings_of scene.now.priorities.now))) (users_at queues.now active.now)) }
+    ensures least { IfOk result (All (λ w. 1 ≤ w)) }
+    ensures most { IfOk result (All (λ w. w ≤ 10 ^ 12)) }
+{
+    let mut weights = Slices::new(scene.alloc);
+    for k in active {
+        let number = scene.priorities.get(queues[*k].user.bytes());
+        weights.push(weight(number))?;
+    }
+    Ok(weights)
 }

@@ -1,17 +1,56 @@
-use Rattle.std.proofs.Common.{◌≡◌, [], All, Contains, refl, arith}
+use Rattle.std.proofs.Common.{◌≤◌, Bool, List, ℕ, ap, false, replicate, subst, sym, ◌∙◌}
 use Rattle.ad_store.specs.Store.{stock_of}
 use Rattle.claim_table.specs.Table.{jobs_of}
-use Rattle.negotiator.specs.Markets.{market_of, with_offers}
+use Rattle.negotiator.specs.declared.queues.Queue.{Queue}
+use Rattle.negotiator.specs.Budget.{counts, is_marked}
+use Rattle.negotiator.specs.Markets.{market_of}
+use Rattle.negotiator.specs.Queues.{AreQueues}
 use Rattle.negotiator.specs.Settings.{settings_of}
-use Rattle.negotiator.proofs.StoredLemmas.{cycle-all, found-stored}
+use Rattle.negotiator.proofs.BudgetLemmas.{entries-start, evaluations-start, looks-start, none-marked}
+use Rattle.negotiator.proofs.ReadyLemmas.{ready-start}
+use Rattle.negotiator.proofs.SpinLoopLemmas.{on_err, part-none}
+use Rattle.negotiator.proofs.StoredLemmas.{cycle-stored}
 use Rattle.negotiator.proofs.spins.cycle.Goals as goal
 
-pub returns-clause-part : goal.returns-clause-part
-returns-clause-part g c = record { front = []; rest = _; all = refl; made = refl }
+pub returns-in_err-queues-clause-part : goal.returns-in_err-queues-clause-part
+returns-in_err-queues-clause-part g c = on_err _ (part-none _ (jobs_of c.args.claims.now))
+
+pub returns-in_err-queues-clause-stored : goal.returns-in_err-queues-clause-stored
+returns-in_err-queues-clause-stored g c = cycle-stored c.args.store.now c.args.moment (settings_of c.args.priorities.now) (jobs_of c.args.claims.now)
+
+pub returns-in_err-failed-clause-part : goal.returns-in_err-failed-clause-part
+returns-in_err-failed-clause-part g c = on_err _ (part-none _ (jobs_of c.args.claims.now))
+
+pub returns-in_err-failed-clause-stored : goal.returns-in_err-failed-clause-stored
+returns-in_err-failed-clause-stored g c = cycle-stored c.args.store.now c.args.moment (settings_of c.args.priorities.now) (jobs_of c.args.claims.now)
+
+pub run_spins-requires-clause-queues : goal.run_spins-requires-clause-queues
+run_spins-requires-clause-queues g c =
+    subst (λ (queues : List Queue). AreQueues (market_of c.args.moment (stock_of c.args.store.now) (settings_of c.args.priorities.now) (jobs_of c.args.claims.now)) queues) (sym c.deref.ensures.value) c.in_ok-queues.ensures
+
+pub run_spins-requires-clause-ready : goal.run_spins-requires-clause-ready
+run_spins-requires-clause-ready g c =
+    let none = c.deref_mut.ensures.value ∙ c.in_ok-failed.ensures.items_if_clones_equal (λ y h. h) in
+    ready-start _ (jobs_of c.args.claims.now) c.deref_mut.result.now c.requires.index c.requires.stored c.requires.single (subst (λ (n : ℕ). n ≤ 10000) c.len.ensures.len c.len.ensures.few)
+    (none ∙ ap (λ (n : ℕ). replicate n false) c.len.ensures.len)
 
 pub returns-clause-stored : goal.returns-clause-stored
-returns-clause-stored g c =
-    let stock = stock_of c.args.store.now in
-    let jobs = jobs_of c.args.claims.now in
-    cycle-all (market_of c.args.moment stock (settings_of c.args.priorities.now) jobs) (All (Contains stock.slots))
-    (λ made i rs found. found-stored c.args.moment stock (omega (arith, c.len-len.ensures.ads, c.len-len.ensures.slots)) (with_offers made jobs) i rs found)
+returns-clause-stored g c = cycle-stored c.args.store.now c.args.moment (settings_of c.args.priorities.now) (jobs_of c.args.claims.now)
+
+pub returns-clause-evaluations : goal.returns-clause-evaluations
+returns-clause-evaluations g c =
+    let none = c.deref_mut.ensures.value ∙ c.in_ok-failed.ensures.items_if_clones_equal (λ y h. h) in
+    evaluations-start c.args.moment (stock_of c.args.store.now) (jobs_of c.args.claims.now) c.deref_mut.result.now (λ k. ap (λ (f : List Bool). is_marked f k) none ∙ none-marked c.len.result k)
+    (counts c.args.tops.now c.args.entry.now c.args.touch.now) (counts c.run_spins.new.tops c.run_spins.new.entry c.run_spins.new.touch) c.run_spins.ensures.within
+
+pub returns-clause-entries : goal.returns-clause-entries
+returns-clause-entries g c =
+    let none = c.deref_mut.ensures.value ∙ c.in_ok-failed.ensures.items_if_clones_equal (λ y h. h) in
+    entries-start c.args.moment (stock_of c.args.store.now) (jobs_of c.args.claims.now) c.deref_mut.result.now (λ k. ap (λ (f : List Bool). is_marked f k) none ∙ none-marked c.len.result k)
+    (counts c.args.tops.now c.args.entry.now c.args.touch.now) (counts c.run_spins.new.tops c.run_spins.new.entry c.run_spins.new.touch) c.run_spins.ensures.within
+
+pub returns-clause-looks : goal.returns-clause-looks
+returns-clause-looks g c =
+    let none = c.deref_mut.ensures.value ∙ c.in_ok-failed.ensures.items_if_clones_equal (λ y h. h) in
+    looks-start c.args.moment (stock_of c.args.store.now) (jobs_of c.args.claims.now) c.deref_mut.result.now (λ k. ap (λ (f : List Bool). is_marked f k) none ∙ none-marked c.len.result k)
+    (counts c.args.tops.now c.args.entry.now c.args.touch.now) (counts c.run_spins.new.tops c.run_spins.new.entry c.run_spins.new.touch) c.run_spins.ensures.within

@@ -1,0 +1,243 @@
+-- Jobs, and the pool that they see, once one more offer is made.
+use Rattle.std.proofs.Common.{◌≡◌, ◌≢◌, ◌≤◌, ◌<◌, ◌+◌, ◌*◌, ◌==◌, ℕ, zero, suc, Bool, true, false, not, ◌&&◌, ◌||◌, cond, eqb, if◌then◌else◌, All, List, [], ◌∷◌, ◌++◌, length, map, filter, position, slice_get, slice_set, sum_by, Option, None, Some, is_some, ltb, refl, ap, sym, ◌∙◌, subst, arith, zero-le, eq-eqb}
+use Rattle.std.specs.Prelude.{option_and_then, option_map}
+use Rattle.std.specs.List.{list_any, position_or_len, prefix_len, range_with_len}
+use Rattle.std.specs.Option.{option_map_or}
+use Rattle.std.proofs.lemmas.Bool.Decides.{nat_tests}
+use Rattle.std.proofs.lemmas.List.Elements.{All-cons, All-head, All-nil, All-tail}
+use Rattle.std.proofs.Math.ListN.{length-set}
+use Rattle.ad_tree.specs.Ad.{ad_frames}
+use Rattle.ad_tree.specs.declared.request.Request.{Request}
+use Rattle.ad_store.specs.Holdings.{Holding}
+use Rattle.ad_store.specs.Stock.{Stock}
+use Rattle.bilateral_match.specs.Counts.{entered_for, open_count}
+use Rattle.bilateral_match.specs.Members.{best, best_slot}
+use Rattle.bilateral_match.specs.Pool.{AreStored, Pool, pool_of, slot_at}
+use Rattle.bilateral_match.specs.declared.member.Member.{Member}
+use Rattle.bilateral_match.proofs.OfferLemmas.{fewer-entered, fewer-open, none-later}
+use Rattle.claim_table.specs.declared.job.Job.{Job}
+use Rattle.claim_table.specs.declared.job.Standing.{Standing}
+use Rattle.claim_table.specs.Holders.{holder_of, holding_in}
+use Rattle.claim_table.specs.Jobs.{claim_of, claimed_by, lists, offer_of, offered_to, wanted, with_standing}
+use Rattle.claim_table.proofs.ListLemmas.{map-set_same, position-map}
+use Rattle.negotiator.specs.Budget.{entries_for, evaluations_for, is_idle_at, looks_for, price_at}
+use Rattle.negotiator.specs.Markets.{found, found_for, is_idle, pool_for}
+
+-- ---- a job that is idle
+
+pub record IdleJob (jobs : List Job) (i : ℕ) : Type 0 where
+  pub job : Job
+  pub at : slice_get jobs i ≡ Some job
+  pub idle : job.standing ≡ Standing.Idle
+
+pub idle-job : (jobs : List Job) (i : ℕ) → is_idle_at jobs i ≡ true → IdleJob jobs i
+idle-job jobs i e = by (slice_get jobs i) refl e
+  where
+    standing : (s : Standing) → is_idle s ≡ true → s ≡ Standing.Idle
+    standing Standing.Idle e = refl
+    standing (Standing.Matched slots) e = absurd (cc)
+    standing (Standing.Claimed slots) e = absurd (cc)
+
+    by : (o : Option Job) → slice_get jobs i ≡ o → option_map_or (λ (job : Job). is_idle job.standing) o false ≡ true → IdleJob jobs i
+    by None at e = absurd (cc)
+    by (Some job) at e = record { job = job; at = at; idle = standing job.standing e }
+
+-- ---- lists
+
+pub get-map : {A B : Type 0} (f : A → B) (xs : List A) (i : ℕ) → slice_get (map f xs) i ≡ option_map f (slice_get xs i)
+get-map f [] i = refl
+get-map f (x ∷ xs) zero = refl
+get-map f (x ∷ xs) (suc i) = get-map f xs i
+
+position-within : {A : Type 0} (p : A → Bool) (xs : List A) → ltb (position_or_len p xs) (length xs) ≡ list_any p xs
+position-within p [] = refl
+position-within p (x ∷ xs) = by (p x) (position-within p xs)
+  where
+    by : (b : Bool) → ltb (position_or_len p xs) (length xs) ≡ list_any p xs → ltb (cond (not b) (1 + position_or_len p xs) 0) (suc (length xs)) ≡ b || list_any p xs
+    by true rest = grind (arith, nat_tests)
+    by false rest = let same : ltb (1 + position_or_len p xs) (suc (length xs)) ≡ ltb (position_or_len p xs) (length xs) = grind (arith, nat_tests) in same ∙ rest
+
+pub position-some : {A : Type 0} (p : A → Bool) (xs : List A) → is_some (position p xs) ≡ list_any p xs
+position-some p xs = by (ltb (position_or_len p xs) (length xs)) ∙ position-within p xs
+  where
+    by : (b : Bool) → is_some (cond b (Some (position_or_len p xs)) None) ≡ b
+    by true = refl
+    by false = refl
+
+any-set : {A : Type 0} (p : A → Bool) (xs : List A) (i : ℕ) (old new : A) → slice_get xs i ≡ Some old → p old ≡ false → list_any p xs ≡ true → list_any p (slice_set xs i new) ≡ true
+any-set p [] i old new at none some = absurd (cc)
+any-set p (x ∷ xs) zero old new at none some =
+    let here : x ≡ old = cc in
+    let rest : list_any p xs ≡ true = sym (ap (λ b. b || list_any p xs) (ap p here ∙ none)) ∙ some in
+    rw rest (or-true (p new))
+  where
+    or-true : (a : Bool) → a || true ≡ true
+    or-true true = refl
+    or-true false = refl
+any-set p (x ∷ xs) (suc i) old new at none some = by (p x) some (any-set p xs i old new at none)
+  where
+    by : (b : Bool) → b || list_any p xs ≡ true → (list_any p xs ≡ true → list_any p (slice_set xs i new) ≡ true) → b || list_any p (slice_set xs i new) ≡ true
+    by true some rest = refl
+    by false some rest = rest some
+
+pub idle-set : (jobs : List Job) (i k : ℕ) (old new : Job) → slice_get jobs i ≡ Some old → is_idle new.standing ≡ false → is_idle_at (slice_set jobs i new) k ≡ (is_idle_at jobs k && not (i == k))
+idle-set [] i k old new at busy = absurd (cc)
+idle-set (j ∷ jobs) zero zero old new at busy = busy ∙ sym (none (is_idle j.standing))
+  where
+    none : (b : Bool) → b && not (eqb 0 0) ≡ false
+    none true = refl
+    none false = refl
+idle-set (j ∷ jobs) zero (suc k) old new at busy = let other : eqb 0 (suc k) ≡ false = grind (arith, nat_tests) in sym (ap (λ b. is_idle_at jobs k && not b) other ∙ same (is_idle_at jobs k))
+  where
+    same : (b : Bool) → b && true ≡ b
+    same true = refl
+    same false = refl
+idle-set (j ∷ jobs) (suc i) zero old new at busy = let other : eqb (suc i) 0 ≡ false = grind (arith, nat_tests) in sym (ap (λ b. is_idle j.standing && not b) other ∙ same (is_idle j.standing))
+  where
+    same : (b : Bool) → b && true ≡ b
+    same true = refl
+    same false = refl
+idle-set (j ∷ jobs) (suc i) (suc k) old new at busy =
+    let next : eqb i k ≡ eqb (suc i) (suc k) = grind (arith, nat_tests) in
+    idle-set jobs i k old new at busy ∙ ap (λ b. is_idle_at jobs k && not b) next
+
+-- ---- one more offer
+
+module _ (jobs : List Job) (i : ℕ) (slots : List ℕ) (idle : is_idle_at jobs i ≡ true) where
+  abbrev pub later : List Job
+  later = with_standing jobs i (Standing.Matched slots)
+
+  abbrev pub one : IdleJob jobs i
+  one = idle-job jobs i idle
+
+  abbrev changed : Job
+  changed = record one.job { standing = Standing.Matched slots }
+
+  pub later-is : later ≡ slice_set jobs i changed
+  later-is = ap (λ o. option_map_or (λ (job : Job). slice_set jobs i (record job { standing = Standing.Matched slots })) o jobs) one.at
+
+  pub map-later : {A : Type 0} (f : Job → A) → f changed ≡ f one.job → map f later ≡ map f jobs
+  map-later f same = ap (map f) later-is ∙ map-set_same f jobs i one.job changed one.at same
+
+  pub requests-later : map (λ (job : Job). job.request) later ≡ map (λ (job : Job). job.request) jobs
+  requests-later = map-later (λ (job : Job). job.request) refl
+
+  pub names-later : map (λ (job : Job). job.name) later ≡ map (λ (job : Job). job.name) jobs
+  names-later = map-later (λ (job : Job). job.name) refl
+
+  pub length-later : length later ≡ length jobs
+  length-later = ap length later-is ∙ length-set jobs i changed
+
+  -- ---- what is claimed stays
+
+  abbrev claims : ℕ → Job → Bool
+  claims slot job = lists (claim_of job.standing) slot
+
+  no-claim : (slot : ℕ) → claims slot changed ≡ claims slot one.job
+  no-claim slot = sym (ap (λ s. lists (claim_of s) slot) one.idle)
+
+  pub claimed-later : (slot : ℕ) → claimed_by slot later ≡ claimed_by slot jobs
+  claimed-later slot =
+      sym (position-map (λ (b : Bool). b) (claims slot) later)
+      ∙ ap (position (λ (b : Bool). b)) (map-later (claims slot) (no-claim slot))
+      ∙ position-map (λ (b : Bool). b) (claims slot) jobs
+
+  holding-in : (js : List Job) (slot : ℕ) (o : Option ℕ) → option_map (holding_in slot) (option_and_then (λ k. slice_get js k) o) ≡ option_and_then (λ k. slice_get (map (holding_in slot) js) k) o
+  holding-in js slot None = refl
+  holding-in js slot (Some k) = sym (get-map (holding_in slot) js k)
+
+  no-holding : (slot : ℕ) → holding_in slot changed ≡ holding_in slot one.job
+  no-holding slot = sym (ap (λ (s : Standing). let h : Holding = record { request = one.job.request; slots = claim_of s; port = position_or_len (λ t. t == slot) (claim_of s) } in h) one.idle)
+
+  pub holder-later : (slot : ℕ) → holder_of later slot ≡ holder_of jobs slot
+  holder-later slot =
+      holding-in later slot (claimed_by slot later)
+      ∙ ap (option_and_then (λ k. slice_get (map (holding_in slot) later) k)) (claimed-later slot)
+      ∙ ap (λ hs. option_and_then (λ k. slice_get hs k) (claimed_by slot jobs)) (map-later (holding_in slot) (no-holding slot))
+      ∙ sym (holding-in jobs slot (claimed_by slot jobs))
+
+  pub stored-later : (stock : Stock) → AreStored stock (holder_of jobs) → AreStored stock (holder_of later)
+  stored-later stock stored slot h is = stored slot h (sym (holder-later slot) ∙ is)
+
+  pub single-later : All (λ (job : Job). job.request.ports ≡ []) jobs → All (λ (job : Job). job.request.ports ≡ []) later
+  single-later single =
+      let P : List Request → Type 0 = All (λ (r : Request). r.ports ≡ []) in
+      All-unmap later (subst P (sym requests-later) (All-mapped jobs single))
+    where
+      All-mapped : (js : List Job) → All (λ (job : Job). job.request.ports ≡ []) js → All (λ (r : Request). r.ports ≡ []) (map (λ (job : Job). job.request) js)
+      All-mapped [] h = All-nil (λ (r : Request). r.ports ≡ [])
+      All-mapped (j ∷ js) h = All-cons (λ (r : Request). r.ports ≡ []) j.request (map (λ (job : Job). job.request) js) (All-head (λ (job : Job). job.request.ports ≡ []) j js h) (All-mapped js (All-tail (λ (job : Job). job.request.ports ≡ []) j js h))
+
+      All-unmap : (js : List Job) → All (λ (r : Request). r.ports ≡ []) (map (λ (job : Job). job.request) js) → All (λ (job : Job). job.request.ports ≡ []) js
+      All-unmap [] h = All-nil (λ (job : Job). job.request.ports ≡ [])
+      All-unmap (j ∷ js) h = All-cons (λ (job : Job). job.request.ports ≡ []) j js (All-head (λ (r : Request). r.ports ≡ []) j.request (map (λ (job : Job). job.request) js) h) (All-unmap js (All-tail (λ (r : Request). r.ports ≡ []) j.request (map (λ (job : Job). job.request) js) h))
+
+  -- ---- what is offered stays offered
+
+  pub offered-later : (slot : ℕ) → is_some (offered_to slot jobs) ≡ true → is_some (offered_to slot later) ≡ true
+  offered-later slot some =
+      let offers : Job → Bool = λ job. lists (offer_of job.standing) slot in
+      let before : list_any (λ (job : Job). lists (offer_of job.standing) slot) jobs ≡ true = sym (position-some (λ (job : Job). lists (offer_of job.standing) slot) jobs) ∙ some in
+      position-some (λ (job : Job). lists (offer_of job.standing) slot) later
+      ∙ ap (list_any (λ (job : Job). lists (offer_of job.standing) slot)) later-is
+      ∙ any-set (λ (job : Job). lists (offer_of job.standing) slot) jobs i one.job changed one.at (ap (λ s. lists (offer_of s) slot) one.idle) before
+
+  -- ---- who is idle
+
+  pub idle-later : (k : ℕ) → is_idle_at later k ≡ (is_idle_at jobs k && not (i == k))
+  idle-later k = ap (λ js. is_idle_at js k) later-is ∙ idle-set jobs i k one.job changed one.at refl
+
+  -- ---- the pool
+
+  module _ (moment : ℕ) (stock : Stock) where
+    abbrev before : Pool
+    before = pool_for moment stock jobs
+
+    abbrev offered : ℕ → Bool
+    offered place = is_some (offered_to (slot_at stock place) later)
+
+    pub pool-later : pool_for moment stock later ≡ record before { is_offered = offered }
+    pool-later = ap (pool_of moment stock (λ slot. is_some (offered_to slot later))) (λ j slot. holder-later slot j)
+
+    more : (place : ℕ) → before.is_offered place ≡ true → offered place ≡ true
+    more place some = offered-later (slot_at stock place) some
+
+    pub fails-later : (request : Request) → found_for moment stock jobs request ≡ None → found_for moment stock later request ≡ None
+    fails-later request none =
+        ap (λ pool. option_map (λ slot. slot ∷ []) (best_slot stock pool (ad_frames request.ad))) pool-later
+        ∙ ap (λ o. option_map (λ slot. slot ∷ []) (option_map (λ (m : Member). slot_at stock m.place) o))
+        (none-later before (ad_frames request.ad) offered more (no-member (best before (ad_frames request.ad)) none))
+      where
+        no-member : (o : Option Member) → option_map (λ slot. slot ∷ []) (option_map (λ (m : Member). slot_at stock m.place) o) ≡ None → o ≡ None
+        no-member None e = refl
+        no-member (Some m) e = absurd (cc)
+
+    pub evaluations-later : (request : Request) → evaluations_for moment stock later request ≤ evaluations_for moment stock jobs request
+    evaluations-later request =
+        let same = ap (λ pool. open_count pool (ad_frames request.ad)) pool-later in
+        let fewer = fewer-open before (ad_frames request.ad) offered more in
+        omega (arith, same, fewer)
+
+    pub entries-later : (request : Request) → entries_for moment stock later request ≤ entries_for moment stock jobs request
+    entries-later request =
+        let same = ap (λ pool. entered_for pool (ad_frames request.ad)) pool-later in
+        let fewer = fewer-entered before (ad_frames request.ad) offered more in
+        omega (arith, same, fewer)
+
+    found-at : (js : List Job) (k : ℕ) → found moment stock js k ≡ option_and_then (found_for moment stock js) (slice_get (map (λ (job : Job). job.request) js) k)
+    found-at js k = by js k (λ r. found_for moment stock js r)
+      where
+        by : (js : List Job) (k : ℕ) (h : Request → Option (List ℕ)) → option_and_then (λ (job : Job). h job.request) (slice_get js k) ≡ option_and_then h (slice_get (map (λ (job : Job). job.request) js) k)
+        by [] k h = refl
+        by (j ∷ js) zero h = refl
+        by (j ∷ js) (suc k) h = by js k h
+
+    pub found-later : (k : ℕ) → found moment stock jobs k ≡ None → found moment stock later k ≡ None
+    found-later k none =
+        found-at later k
+        ∙ ap (λ rs. option_and_then (found_for moment stock later) (slice_get rs k)) requests-later
+        ∙ by (slice_get (map (λ (job : Job). job.request) jobs) k) (sym (found-at jobs k) ∙ none)
+      where
+        by : (o : Option Request) → option_and_then (found_for moment stock jobs) o ≡ None → option_and_then (found_for moment stock later) o ≡ None
+        by None e = refl
+        by (Some r) e = fails-later r e

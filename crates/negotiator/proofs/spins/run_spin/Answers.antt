@@ -1,0 +1,75 @@
+use Rattle.std.proofs.Common.{◌≤◌, ◌<◌, ◌^◌, List, ℕ, All, ap, length, map, subst, sym, ◌∙◌}
+use Rattle.claim_table.specs.Table.{jobs_of}
+use Rattle.negotiator.specs.Budget.{counts}
+use Rattle.negotiator.specs.Priorities.{priority_of}
+use Rattle.negotiator.specs.Scenes.{stock_in, users_at}
+use Rattle.negotiator.specs.Settings.{settings_of}
+use Rattle.negotiator.proofs.BudgetLemmas.{within-none}
+use Rattle.negotiator.proofs.SpinLoopLemmas.{few-weights, on_err, part-none, slices-length, spin-part, spin-shown, spin-table}
+use Rattle.pie_slices.specs.Slices.{weight_of}
+use Rattle.negotiator.proofs.spins.run_spin.Goals as goal
+
+pub returns-in_err-active-clause-part : goal.returns-in_err-active-clause-part
+returns-in_err-active-clause-part g c = on_err _ (part-none _ (jobs_of c.args.claims.now))
+
+pub returns-in_err-active-clause-within : goal.returns-in_err-active-clause-within
+returns-in_err-active-clause-within g c =
+    within-none c.args.scene.now.moment (stock_in c.args.scene.now) (jobs_of c.args.claims.now) c.args.failed.now (counts c.args.tops.now c.args.entry.now c.args.touch.now)
+
+pub weights_of-requires : goal.weights_of-requires
+weights_of-requires g c = subst (All (λ (k : ℕ). k < length c.args.queues.now)) (sym c.as_slice.ensures) c.in_ok-active.ensures.within
+
+pub returns-in_err-weights-clause-part : goal.returns-in_err-weights-clause-part
+returns-in_err-weights-clause-part g c = on_err _ (part-none _ (jobs_of c.args.claims.now))
+
+pub returns-in_err-weights-clause-within : goal.returns-in_err-weights-clause-within
+returns-in_err-weights-clause-within g c =
+    within-none c.args.scene.now.moment (stock_in c.args.scene.now) (jobs_of c.args.claims.now) c.args.failed.now (counts c.args.tops.now c.args.entry.now c.args.touch.now)
+
+pub slices-requires-clause-users : goal.slices-requires-clause-users
+slices-requires-clause-users g c =
+    few-weights c.args.scene.now (jobs_of c.args.claims.now) c.args.queues.now c.as_slice.result.now c.as_slice-2.result.now c.requires.ready.few
+    (ap (users_at c.args.queues.now) c.as_slice.ensures ∙ c.in_ok-active.ensures.users) (c.as_slice-2.ensures ∙ c.in_ok-weights.ensures.weights)
+
+pub slices-requires-clause-least : goal.slices-requires-clause-least
+slices-requires-clause-least g c = subst (All (λ (w : ℕ). 1 ≤ w)) (sym c.as_slice-2.ensures) c.in_ok-weights.ensures.least
+
+pub slices-requires-clause-most : goal.slices-requires-clause-most
+slices-requires-clause-most g c = subst (All (λ (w : ℕ). w ≤ 10 ^ 12)) (sym c.as_slice-2.ensures) c.in_ok-weights.ensures.most
+
+pub returns-in_err-slices-clause-part : goal.returns-in_err-slices-clause-part
+returns-in_err-slices-clause-part g c = on_err _ (part-none _ (jobs_of c.args.claims.now))
+
+pub returns-in_err-slices-clause-within : goal.returns-in_err-slices-clause-within
+returns-in_err-slices-clause-within g c =
+    within-none c.args.scene.now.moment (stock_in c.args.scene.now) (jobs_of c.args.claims.now) c.args.failed.now (counts c.args.tops.now c.args.entry.now c.args.touch.now)
+
+pub run_turns-requires-clause-own : goal.run_turns-requires-clause-own
+run_turns-requires-clause-own g c = c.requires.queues.places
+
+pub run_turns-requires-clause-active : goal.run_turns-requires-clause-active
+run_turns-requires-clause-active g c = subst (All (λ (k : ℕ). k < length c.args.queues.now)) (sym c.as_slice-3.ensures) c.in_ok-active.ensures.within
+
+pub run_turns-requires-clause-slices : goal.run_turns-requires-clause-slices
+run_turns-requires-clause-slices g c =
+    let users = ap (users_at c.args.queues.now) c.as_slice-3.ensures ∙ c.in_ok-active.ensures.users in
+    let weights = c.as_slice-2.ensures ∙ c.in_ok-weights.ensures.weights ∙ ap (λ (l : List ℕ). map (λ user. weight_of (priority_of user (settings_of c.args.scene.now.priorities.now))) (users_at c.args.queues.now l)) (c.as_slice.ensures ∙ sym c.as_slice-3.ensures) in
+    slices-length c.args.scene.now (jobs_of c.args.claims.now) c.args.queues.now c.as_slice-3.result.now c.as_slice-2.result.now c.as_slice-4.result.now c.free_count-free.result c.free_count-free.ensures.free users weights (c.as_slice-4.ensures ∙ c.in_ok-slices.ensures)
+
+pub returns-in_err-turns-clause-part : goal.returns-in_err-turns-clause-part
+returns-in_err-turns-clause-part g c =
+    let users = ap (users_at c.args.queues.now) c.as_slice-3.ensures ∙ c.in_ok-active.ensures.users in
+    let weights = c.as_slice-2.ensures ∙ c.in_ok-weights.ensures.weights ∙ ap (λ (l : List ℕ). map (λ user. weight_of (priority_of user (settings_of c.args.scene.now.priorities.now))) (users_at c.args.queues.now l)) (c.as_slice.ensures ∙ sym c.as_slice-3.ensures) in
+    on_err _ (spin-part c.args.scene.now (jobs_of c.args.claims.now) c.args.queues.now c.as_slice-3.result.now c.as_slice-2.result.now c.as_slice-4.result.now c.free_count-free.result c.free_count-free.ensures.free users weights (c.as_slice-4.ensures ∙ c.in_ok-slices.ensures) (jobs_of c.run_turns.new.claims) c.in_err-turns.ensures.part)
+
+pub returns-clause-spin : goal.returns-clause-spin
+returns-clause-spin g c =
+    let users = ap (users_at c.args.queues.now) c.as_slice-3.ensures ∙ c.in_ok-active.ensures.users in
+    let weights = c.as_slice-2.ensures ∙ c.in_ok-weights.ensures.weights ∙ ap (λ (l : List ℕ). map (λ user. weight_of (priority_of user (settings_of c.args.scene.now.priorities.now))) (users_at c.args.queues.now l)) (c.as_slice.ensures ∙ sym c.as_slice-3.ensures) in
+    spin-shown c.args.scene.now (jobs_of c.args.claims.now) c.args.queues.now c.as_slice-3.result.now c.as_slice-2.result.now c.as_slice-4.result.now c.free_count-free.result c.free_count-free.ensures.free users weights (c.as_slice-4.ensures ∙ c.in_ok-slices.ensures) c.in_ok-turns.turns c.in_ok-turns.ensures.turns
+
+pub returns-clause-table : goal.returns-clause-table
+returns-clause-table g c =
+    let users = ap (users_at c.args.queues.now) c.as_slice-3.ensures ∙ c.in_ok-active.ensures.users in
+    let weights = c.as_slice-2.ensures ∙ c.in_ok-weights.ensures.weights ∙ ap (λ (l : List ℕ). map (λ user. weight_of (priority_of user (settings_of c.args.scene.now.priorities.now))) (users_at c.args.queues.now l)) (c.as_slice.ensures ∙ sym c.as_slice-3.ensures) in
+    spin-table c.args.scene.now (jobs_of c.args.claims.now) c.args.queues.now c.as_slice-3.result.now c.as_slice-2.result.now c.as_slice-4.result.now c.free_count-free.result c.free_count-free.ensures.free users weights (c.as_slice-4.ensures ∙ c.in_ok-slices.ensures) (jobs_of c.run_turns.new.claims) c.in_ok-turns.ensures.table

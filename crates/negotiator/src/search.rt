@@ -1,0 +1,147 @@
+// The search for one job.
+ghost use Rattle.std.specs.Prelude.{◌≡◌, ◌≢◌, ◌<◌, true, [], All, AllPairs, IfOk, IfSome, OnErr, OnOk, Some, length, option_map, slice_get};
+ghost use Rattle.std.specs.Option.{option_map_or};
+ghost use Rattle.bilateral_match.specs.Pool.{AreStored};
+ghost use Rattle.bilateral_match.specs.Rows.{rows_of};
+ghost use Rattle.claim_table.specs.declared.job.Standing.{Standing};
+ghost use Rattle.claim_table.specs.Holders.{holder_of};
+ghost use Rattle.claim_table.specs.Jobs.{AreFree, wanted, with_standing};
+ghost use Rattle.claim_table.specs.Table.{jobs_of};
+ghost use Rattle.literal_index.specs.Shown.{IsIndex};
+ghost use Rattle.negotiator.specs.Budget.{ArePaid, AreWithin, IsSearched, counts, is_idle_at};
+ghost use Rattle.negotiator.specs.Markets.{found, offer_named};
+ghost use Rattle.negotiator.specs.Scenes.{IsReady, stock_in};
+
+use crate::{Offered, Scene};
+use bilateral_match::best;
+use claim_table::{ClaimTable, JobState};
+use pool_steps::Steps;
+use pool_text::{OutOfMemory, Slots};
+use std::alloc::Global;
+use std::convert::AsSlice;
+use std::sync::ledger::Ledger;
+
+// Whether job `i` is idle.
+pub(crate) fn is_idle(claims: &ClaimTable, i: usize) -> bool
+    requires { i < length (jobs_of claims.now) }
+    ensures { result ≡ is_idle_at (jobs_of claims.now) i }
+{
+    claims.names_are_apart();
+    let Some(state) = claims.state(claims.job(i).bytes()) else {
+        return false;
+    };
+    match state {
+        JobState::Idle => true,
+        JobState::Matched => false,
+        JobState::Claimed => false,
+    }
+}
+
+// How many resources job `i` wants: one for each port, or one where it has none.
+pub(crate) fn wants(claims: &ClaimTable, i: usize) -> u64
+    requires { i < length (jobs_of claims.now) }
+    ensures { option_map (λ job. wanted job.request) (slice_get (jobs_of claims.now) i) ≡ Some result }
+{
+    claims.request(i).ports.len().max(1) as u64
+}
+
+// The resources that job `i` finds.
+fn search<F: Ledger, E: Ledger, T: Ledger>(
+    scene: &Scene<'_>,
+    claims: &ClaimTable,
+    i: usize,
+    tops: &mut Steps<F>,
+    entry: &mut Steps<E>,
+    touch: &mut Steps<T>,
+) -> Result<Option<Slots>, OutOfMemory>
+    requires place { i < length (jobs_of claims.now) }
+    requires index { IsIndex scene.now.index.now (rows_of (stock_in scene.now)) }
+    requires stored { AreStored (stock_in scene.now) (holder_of (jobs_of claims.now)) }
+    requires single { All (λ job. job.request.ports ≡ []) (jobs_of claims.now) }
+    ensures found { IfOk result (λ slots. slots ≡ found scene.now.moment (stock_in scene.now) (jobs_of claims.now) i) }
+    ensures free { IfOk result (λ slots. IfSome slots (λ list. AreFree list (jobs_of claims.now))) }
+    ensures distinct { IfOk result (λ slots. IfSome slots (AllPairs (λ a b. a ≢ b))) }
+    ensures enough { IfOk result (λ slots. IfSome slots (λ list. option_map (λ job. wanted job.request) (slice_get (jobs_of claims.now) i) ≡ Some (length list))) }
+    ensures counted { IsSearched scene.now.moment (stock_in scene.now) (jobs_of claims.now) i (counts tops.old entry.old touch.old) (counts tops.new entry.new touch.new) }
+{
+    let request = claims.request(i);
+    let Some(slot) = best(
+        scene.alloc,
+        scene.store,
+        scene.index,
+        claims,
+        request,
+        scene.moment,
+        tops,
+        entry,
+        touch,
+    )?
+    else {
+        return Ok(None);
+    };
+    let mut slots = Slots::new(scene.alloc);
+    slots.push(slot)?;
+    Ok(Some(slots))
+}
+
+// Offers resources to job `i`, and tells the offer.
+fn give(
+    alloc: Global,
+    claims: &mut ClaimTable,
+    i: usize,
+    slots: Slots,
+) -> Result<Offered, OutOfMemory>
+    requires idle { is_idle_at (jobs_of claims.old) i ≡ true }
+    requires free { AreFree slots (jobs_of claims.old) }
+    requires distinct { AllPairs (λ a b. a ≢ b) slots }
+    requires enough { option_map (λ job. wanted job.request) (slice_get (jobs_of claims.old) i) ≡ Some (length slots) }
+    ensures offered { IfOk result (λ offered. offered ≡ offer_named (jobs_of claims.old) (record { job = i; resources = slots })) }
+    ensures ok { OnOk result (jobs_of claims.new ≡ with_standing (jobs_of claims.old) i (Standing.Matched slots)) }
+    ensures err { OnErr result (jobs_of claims.new ≡ jobs_of claims.old) }
+{
+    let job = claims.job(i).copy()?;
+    let shown = copy_of(alloc, slots.as_slice())?;
+    claims.offer(i, slots)?;
+    Ok(Offered { job, slots: shown })
+}
+
+// A list with these slots.
+fn copy_of(alloc: Global, slots: &[usize]) -> Result<Slots, OutOfMemory>
+    ensures { IfOk result (λ list. list ≡ slots.now) }
+{
+    let mut list = Slots::new(alloc);
+    for slot in slots {
+        list.push(*slot)?;
+    }
+    Ok(list)
+}
+
+// Gives job `i`, which is idle, what it finds. A job that finds nothing is marked: it will find nothing once more is
+// offered, so it isn't searched for again.
+pub(crate) fn try_job<F: Ledger, E: Ledger, T: Ledger>(
+    scene: &Scene<'_>,
+    claims: &mut ClaimTable,
+    i: usize,
+    failed: &mut [bool],
+    tops: &mut Steps<F>,
+    entry: &mut Steps<E>,
+    touch: &mut Steps<T>,
+) -> Result<Option<Offered>, OutOfMemory>
+    requires idle { is_idle_at (jobs_of claims.old) i ≡ true }
+    requires ready { IsReady scene.now (jobs_of claims.old) failed.old }
+    ensures offered { IfOk result (λ o. o ≡ option_map (λ slots. offer_named (jobs_of claims.old) (record { job = i; resources = slots })) (found scene.now.moment (stock_in scene.now) (jobs_of claims.old) i)) }
+    ensures table { OnOk result (jobs_of claims.new ≡ option_map_or (λ slots. with_standing (jobs_of claims.old) i (Standing.Matched slots)) (found scene.now.moment (stock_in scene.now) (jobs_of claims.old) i) (jobs_of claims.old)) }
+    ensures err { OnErr result (jobs_of claims.new ≡ jobs_of claims.old) }
+    ensures ready { IsReady scene.now (jobs_of claims.new) failed.new }
+    ensures paid { OnOk result (ArePaid scene.now.moment (stock_in scene.now) (jobs_of claims.old) (jobs_of claims.new) failed.old failed.new (counts tops.old entry.old touch.old) (counts tops.new entry.new touch.new)) }
+    ensures within { AreWithin scene.now.moment (stock_in scene.now) (jobs_of claims.old) failed.old (counts tops.old entry.old touch.old) (counts tops.new entry.new touch.new) }
+{
+    if failed[i] {
+        return Ok(None);
+    }
+    let Some(slots) = search(scene, claims, i, tops, entry, touch)? else {
+        failed[i] = true;
+        return Ok(None);
+    };
+    Ok(Some(give(scene.alloc, claims, i, slots)?))
+}

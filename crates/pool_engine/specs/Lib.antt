@@ -1,5 +1,6 @@
 pub mod Books
 pub mod Changes
+pub mod Claiming
 pub mod Ends
 pub mod Events
 pub mod Indexed

@@ -1,0 +1,59 @@
+// The commands that claim what is offered to a job, and that give it back.
+ghost use Rattle.std.specs.Prelude.{◌≡◌, ◌≤◌, ◌+◌, ◌*◌, ℕ, List, IfOk, IsTrue};
+ghost use Rattle.negotiator.specs.Priorities.{Setting};
+ghost use Rattle.pool_replies.specs.Replies.{is_printable};
+ghost use Rattle.pool_engine.specs.Claiming as steps;
+ghost use Rattle.pool_engine.specs.Pool.{state_with};
+
+use crate::books::Books;
+use claim_table::{ClaimFault, JobFault, JobState};
+use pool_replies::{Refusal, Reply};
+use pool_steps::Steps;
+use pool_text::{Names, OutOfMemory, Text};
+use std::alloc::Global;
+use std::sync::ledger::Ledger;
+
+/// `claim`: what is offered to the job is checked anew, resource by resource, and the job has it where all of it passes. It
+/// counts in `tops` four at most for each dock of the offer that literal attributes leave undecided, and in `touch` nine at
+/// most for each resource of it.
+#[tactic(auto, unfolding(pool_replies::specs::Replies::is_printable, pool_replies::specs::Refusals::is_printable_refusal))]
+pub(crate) fn claim<F: Ledger, E: Ledger, T: Ledger>(
+    alloc: Global,
+    books: &mut Books,
+    job: &Text,
+    moment: u64,
+    tops: &mut Steps<F>,
+    entry: &mut Steps<E>,
+    touch: &mut Steps<T>,
+) -> Result<Reply, OutOfMemory>
+    ensures step { IfOk result (λ reply. (priorities : List Setting)
+        → steps.claim (state_with moment priorities books.old) job.now ≡ (state_with moment priorities books.new, reply)) }
+    ensures printable { IfOk result (λ reply. IsTrue (is_printable reply)) }
+    ensures cost { (priorities : List Setting) → tops.new ≤ tops.old + 4 * steps.undecided_for_claim (state_with moment priorities books.old) job.now }
+    ensures looks { (priorities : List Setting) → touch.new ≤ touch.old + 9 * steps.offered_for_claim (state_with moment priorities books.old) job.now }
+{
+    let named = job.copy()?;
+    let names = names_of(alloc, &books.ads.store, books.claims.slots(job.bytes()))?;
+    match books.claim(job.bytes(), moment, tops, entry, touch) {
+        Ok(preempted) => Ok(Reply::Claimed { job: named, names, preempted }),
+        Err(ClaimFault::NoJob) => Ok(Reply::Refused(Refusal::UnknownName)),
+        Err(ClaimFault::WrongState(state)) => Ok(Reply::Refused(Refusal::WrongState(state))),
+        Err(ClaimFault::Stale(slot)) => Ok(Reply::Refused(Refusal::Stale(name_of(&books.ads.store, slot)?))),
+        Err(ClaimFault::OutOfMemory) => Err(OutOfMemory),
+    }
+}
+
+/// `release`: the job gives back what is offered to it or what it has claimed.
+#[tactic(auto, unfolding(pool_replies::specs::Replies::is_printable, pool_replies::specs::Refusals::is_printable_refusal))]
+pub(crate) fn release(books: &mut Books, job: &Text) -> Result<Reply, OutOfMemory>
+    ensures step { IfOk result (λ reply. (moment : ℕ) (priorities : List Setting)
+        → steps.release (state_with moment priorities books.old) job.now ≡ (state_with moment priorities books.new, reply)) }
+    ensures printable { IfOk result (λ reply. IsTrue (is_printable reply)) }
+{
+    let named = job.copy()?;
+    match books.release(job.bytes()) {
+        Ok(()) => Ok(Reply::Released(named)),
+        Err(JobFault::NoJob) => Ok(Reply::Refused(Refusal::UnknownName)),
+        Err(JobFault::WrongState(state)) => Ok(Reply::Refused(Refusal::WrongState(state))),
+    }
+}

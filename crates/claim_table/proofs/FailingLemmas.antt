@@ -1,12 +1,14 @@
 -- The resources of an offer, checked one after another.
-use Rattle.std.proofs.Common.{◌≡◌, ℕ, zero, suc, ◌+◌, ◌<◌, ◌≤◌, Bool, true, false, not, if◌then◌else◌, List, [], ◌∷◌, length, sum_by, None, Some, refl, sym, ◌∙◌, ap, arith}
+use Rattle.std.proofs.Common.{◌≡◌, ℕ, zero, suc, ◌+◌, ◌-◌, ◌<◌, ◌≤◌, Bool, true, false, not, if◌then◌else◌, List, [], ◌∷◌, ◌++◌, get_or, length, sum_by, take, None, Some, refl, sym, ◌∙◌, ap, arith, add-one, add-suc, add-zero}
 use Rattle.std.specs.Prelude.{find, option_map, slice_index}
 use Rattle.std.specs.List.{range_with_len}
-use Rattle.std.proofs.lemmas.List.FromFn.{counting_more, take_counting}
-use Rattle.std.proofs.lemmas.List.Sums.{sum_by-take-le, sum_by_push}
+use Rattle.std.proofs.lemmas.List.Sums.{sum_by_push}
+use Rattle.ad_tree.specs.Frames.{Frame}
 use Rattle.ad_tree.specs.declared.request.Request.{Request}
 use Rattle.ad_store.specs.Stock.{Stock}
-use Rattle.eval_scope.specs.World.{PlainWorld}
+use Rattle.eval_scope.specs.World.{PlainWorld, with_docked}
+use Rattle.bilateral_match.specs.Pool.{ad_in, slots_world}
+use Rattle.bilateral_match.proofs.DockingLemmas.{dock-next}
 use Rattle.claim_table.specs.declared.job.Job.{Job}
 use Rattle.claim_table.specs.Claims.{first_failing, passes, ports_of, sum_over, world_at}
 use Rattle.claim_table.specs.Jobs.{offer_of}
@@ -45,6 +47,10 @@ module _ (test : ℕ → Bool) where
       let same : (k : ℕ) → 0 + k ≡ k = λ k. omega arith in
       none_in 0 n (λ k less. ap test (same k) ∙ before k less)
 
+range-last : (a n j : ℕ) → a + n ≡ j → range_with_len a (suc n) ≡ range_with_len a n ++ j ∷ []
+range-last a zero j is = let first : a ≡ j = omega (arith, is) in ap (λ k. k ∷ []) first
+range-last a (suc n) j is = ap (λ l. a ∷ l) (range-last (a + 1) n j (omega (arith, is)))
+
 -- ---- an offer
 
 module _ (moment : ℕ) (stock : Stock) (request : Request) (slots : List ℕ) where
@@ -52,42 +58,64 @@ module _ (moment : ℕ) (stock : Stock) (request : Request) (slots : List ℕ) w
   pub upto : (ℕ → PlainWorld → ℕ) → ℕ → ℕ
   upto gives n = sum_by (λ port. gives (slice_index slots port) (world_at moment stock request slots port)) (range_with_len 0 n)
 
-  pub upto-none : (gives : ℕ → PlainWorld → ℕ) → upto gives 0 ≡ 0
-  unfolding upto
-  upto-none gives = refl
-
   pub upto-next : (gives : ℕ → PlainWorld → ℕ) (n : ℕ) → upto gives (n + 1) ≡ upto gives n + gives (slice_index slots n) (world_at moment stock request slots n)
   unfolding upto
   upto-next gives n =
-      ap (sum_by (λ port. gives (slice_index slots port) (world_at moment stock request slots port))) (counting_more 0 n n (omega arith))
-      ∙ sum_by_push (λ port. gives (slice_index slots port) (world_at moment stock request slots port)) (range_with_len 0 n) n
+      let count : ℕ → ℕ = λ port. gives (slice_index slots port) (world_at moment stock request slots port) in
+      ap (λ k. sum_by count (range_with_len 0 k)) (add-one n) ∙ ap (sum_by count) (range-last 0 n n (omega arith)) ∙ sum_by_push count (range_with_len 0 n) n
+
+  upto-grows : (gives : ℕ → PlainWorld → ℕ) (n k : ℕ) → upto gives n ≤ upto gives (n + k)
+  upto-grows gives n zero = let same = ap (upto gives) (add-zero n) in omega (arith, same)
+  upto-grows gives n (suc k) =
+      let same = ap (upto gives) (add-suc n k) in
+      let next = upto-next gives (n + k) in
+      let one = ap (upto gives) (add-one (n + k)) in
+      omega (arith, same, one, next, upto-grows gives n k)
 
   pub upto-most : (gives : ℕ → PlainWorld → ℕ) (n : ℕ) → n ≤ length slots → upto gives n ≤ upto gives (length slots)
-  unfolding upto
   upto-most gives n within =
-      let part = sum_by-take-le (λ port. gives (slice_index slots port) (world_at moment stock request slots port)) (range_with_len 0 (length slots)) n in
-      let same = ap (sum_by (λ port. gives (slice_index slots port) (world_at moment stock request slots port))) (take_counting 0 (length slots) n within) in
-      omega (arith, part, same)
+      let rest : n + (length slots - n) ≡ length slots = omega (arith, within) in
+      let same = ap (upto gives) rest in
+      let more = upto-grows gives n (length slots - n) in
+      omega (arith, same, more)
 
-  -- the sum over what is offered to a job
-  pub upto-all : (gives : ℕ → PlainWorld → ℕ) (job : Job) → request ≡ job.request → slots ≡ offer_of job.standing → upto gives (length slots) ≡ sum_over gives moment stock job
+  -- the world in which one more is docked is that of its port
+  pub docked-at : (i : ℕ) (w v : PlainWorld) (fs : List Frame) → i < length slots → w ≡ slots_world moment stock request (take i slots)
+      → fs ≡ ad_in stock (get_or slots i 0) → v ≡ with_docked w fs → v ≡ world_at moment stock request slots i
+  docked-at i w v fs within before ad docked =
+      dock-next moment stock request slots i 0 w v fs within before ad docked ∙ ap (λ n. slots_world moment stock request (take n slots)) (add-one i)
+
+-- what is checked of the offer to a job
+module _ (moment : ℕ) (stock : Stock) (jobs : List Job) (job : Job) (slots : List ℕ) (offered : slots ≡ offer_of job.standing) where
+  abbrev fails-at : ℕ → Bool
+  fails-at port = not (passes moment stock jobs (slice_index slots port) (world_at moment stock job.request slots port))
+
+  pub first-found : (i : ℕ) → i < length slots → ((k : ℕ) → k < i → passes moment stock jobs (slice_index slots k) (world_at moment stock job.request slots k) ≡ true)
+      → passes moment stock jobs (slice_index slots i) (world_at moment stock job.request slots i) ≡ false
+      → Some (slice_index slots i) ≡ first_failing moment stock jobs job.request (offer_of job.standing)
+  first-found i within before here =
+      sym (ap (first_failing moment stock jobs job.request) (sym offered)
+      ∙ ap (option_map (slice_index slots)) (found_at fails-at (length slots) i within (λ k less. ap not (before k less)) (ap not here)))
+
+  pub all-pass : (i : ℕ) → length slots ≤ i → ((k : ℕ) → k < i → passes moment stock jobs (slice_index slots k) (world_at moment stock job.request slots k) ≡ true)
+      → None ≡ first_failing moment stock jobs job.request (offer_of job.standing)
+  all-pass i past before =
+      sym (ap (first_failing moment stock jobs job.request) (sym offered)
+      ∙ ap (option_map (slice_index slots)) (none_at fails-at (length slots) (λ k less. ap not (before k (omega (arith, past, less))))))
+
+-- what is counted stays within the sum over the offer
+module _ (moment : ℕ) (stock : Stock) (job : Job) (slots : List ℕ) (offered : slots ≡ offer_of job.standing) (gives : ℕ → PlainWorld → ℕ) where
+  upto-all : upto moment stock job.request slots gives (length slots) ≡ sum_over gives moment stock job
   unfolding upto
-  upto-all gives job asked offered =
-      ap (λ (r : Request). sum_by (λ port. gives (slice_index slots port) (world_at moment stock r slots port)) (ports_of slots)) asked
-      ∙ ap (λ s. sum_by (λ port. gives (slice_index s port) (world_at moment stock job.request s port)) (ports_of s)) offered
+  upto-all = ap (λ s. sum_by (λ port. gives (slice_index s port) (world_at moment stock job.request s port)) (ports_of s)) offered
 
-  module _ (jobs : List Job) where
-    -- the resource at a port passes
-    abbrev pub PassesAt : ℕ → Type 0
-    PassesAt port = passes moment stock jobs (slice_index slots port) (world_at moment stock request slots port) ≡ true
+  pub counted-most : (i : ℕ) → i ≤ length slots → upto moment stock job.request slots gives i ≤ sum_over gives moment stock job
+  counted-most i within = let most = upto-most moment stock job.request slots gives i within in let all = upto-all in omega (arith, most, all)
 
-    pub first-found : (i : ℕ) → i < length slots → ((k : ℕ) → k < i → PassesAt k) → passes moment stock jobs (slice_index slots i) (world_at moment stock request slots i) ≡ false
-        → first_failing moment stock jobs request slots ≡ Some (slice_index slots i)
-    first-found i within before here =
-        ap (option_map (slice_index slots))
-        (found_at (λ port. not (passes moment stock jobs (slice_index slots port) (world_at moment stock request slots port))) (length slots) i within (λ k less. ap not (before k less)) (ap not here))
-
-    pub all-pass : (i : ℕ) → length slots ≤ i → ((k : ℕ) → k < i → PassesAt k) → first_failing moment stock jobs request slots ≡ None
-    all-pass i past before =
-        ap (option_map (slice_index slots))
-        (none_at (λ port. not (passes moment stock jobs (slice_index slots port) (world_at moment stock request slots port))) (length slots) (λ k less. ap not (before k (omega (arith, past, less)))))
+  pub counted-within : (i : ℕ) (v : PlainWorld) → i < length slots → v ≡ world_at moment stock job.request slots i
+      → upto moment stock job.request slots gives i + gives (slice_index slots i) v ≤ sum_over gives moment stock job
+  counted-within i v within world =
+      let next = upto-next moment stock job.request slots gives i in
+      let most = counted-most (i + 1) (omega (arith, within)) in
+      let here = ap (gives (slice_index slots i)) world in
+      omega (arith, next, most, here)

@@ -41,7 +41,7 @@ none_of true b none = absurd (cc)
 none_of false b none = none
 
 -- a job that isn't among them stays
-pub get-all_idle : (jobs : List Job) (numbers : List ℕ) (i : ℕ) → lists numbers i ≡ false → slice_get (all_idle jobs numbers) i ≡ slice_get jobs i
+get-all_idle : (jobs : List Job) (numbers : List ℕ) (i : ℕ) → lists numbers i ≡ false → slice_get (all_idle jobs numbers) i ≡ slice_get jobs i
 get-all_idle jobs [] i none = refl
 get-all_idle jobs (k ∷ ks) i none =
     get-all_idle (idle_at (Some k) jobs) ks i (none_of (eqb k i) (lists ks i) none)
@@ -133,14 +133,14 @@ module _ (jobs : List Job) where
 
   gathered-has : (slots numbers : List ℕ) (slot k : ℕ) → lists slots slot ≡ true → claimed_by slot jobs ≡ Some k → lists (gathered numbers slots) k ≡ true
   gathered-has [] numbers slot k listed is = absurd (cc)
-  gathered-has (s ∷ slots) numbers slot k listed is = by (eqb s slot) refl listed
+  gathered-has (s ∷ slots) numbers slot k listed is = by (eqb s slot) refl listed (λ rest. gathered-has slots (once numbers (claimed_by s jobs)) slot k rest is)
     where
-      by : (b : Bool) → eqb s slot ≡ b → (b || lists slots slot) ≡ true → lists (gathered (once numbers (claimed_by s jobs)) slots) k ≡ true
-      by true same first =
+      by : (b : Bool) → eqb s slot ≡ b → (b || lists slots slot) ≡ true → (lists slots slot ≡ true → lists (gathered (once numbers (claimed_by s jobs)) slots) k ≡ true) → lists (gathered (once numbers (claimed_by s jobs)) slots) k ≡ true
+      by true same first later =
           let here : s ≡ slot = grind (arith, nat_tests) in
           gathered-keeps slots (once numbers (claimed_by s jobs)) k
           (subst (λ o. lists (once numbers o) k ≡ true) (sym (ap (λ t. claimed_by t jobs) here ∙ is)) (once-adds numbers k))
-      by false same rest = gathered-has slots (once numbers (claimed_by s jobs)) slot k rest is
+      by false same rest later = later rest
 
   gathered-all : (P : ℕ → Type 0) → ((slot : ℕ) → IfSome (claimed_by slot jobs) P) → (slots numbers : List ℕ) → All P numbers → All P (gathered numbers slots)
   gathered-all P each [] numbers all = all
@@ -187,7 +187,7 @@ module _ (claims : List (Option ℕ)) (jobs : List Job) (noted : AreNoted claim_
           by (Some k) is = passes_within (λ job. lists (claim_of job.standing) is.0) jobs k is.1
 
   -- a job that something is offered to has claimed nothing, so it is none of them
-  pub matched_wins : (slots : List ℕ) (i : ℕ) → option_map (λ job. state_of job.standing) (slice_get jobs i) ≡ Some JobState.Matched → lists (losers jobs slots) i ≡ false
+  matched_wins : (slots : List ℕ) (i : ℕ) → option_map (λ job. state_of job.standing) (slice_get jobs i) ≡ Some JobState.Matched → lists (losers jobs slots) i ≡ false
   matched_wins slots i matched = by (lists (losers jobs slots) i) refl
     where
       claims_none : (standing : Standing) (slot : ℕ) → state_of standing ≡ JobState.Matched → lists (claim_of standing) slot ≡ false
@@ -208,7 +208,7 @@ module _ (claims : List (Option ℕ)) (jobs : List Job) (noted : AreNoted claim_
       by false listed = refl
 
   -- once the losers are idle, nobody has claimed the slots
-  pub losers_leave : (slots : List ℕ) → All (λ slot. claimed_by slot (all_idle jobs (losers jobs slots)) ≡ None) slots
+  losers_leave : (slots : List ℕ) → All (λ slot. claimed_by slot (all_idle jobs (losers jobs slots)) ≡ None) slots
   losers_leave slots = λ k d within. sym (free (get_or slots k d) (listed_at slots k d within))
     where
       free : (slot : ℕ) → lists slots slot ≡ true → None ≡ claimed_by slot (all_idle jobs (losers jobs slots))
@@ -225,5 +225,18 @@ module _ (claims : List (Option ℕ)) (jobs : List Job) (noted : AreNoted claim_
               absurd (cc)
 
   -- the job that claims is as it was
-  pub offer-stays : (slots : List ℕ) (i : ℕ) → option_map (λ job. state_of job.standing) (slice_get jobs i) ≡ Some JobState.Matched → slice_get (all_idle jobs (losers jobs slots)) i ≡ slice_get jobs i
-  offer-stays slots i matched = get-all_idle jobs (losers jobs slots) i (matched_wins slots i matched)
+  module _ (i : ℕ) (matched : option_map (λ job. state_of job.standing) (slice_get jobs i) ≡ Some JobState.Matched) where
+    abbrev rest : List Job
+    rest = all_idle jobs (losers jobs (offer_at i jobs))
+
+    same-job : slice_get (all_idle jobs (losers jobs (offer_at i jobs))) i ≡ slice_get jobs i
+    same-job = get-all_idle jobs (losers jobs (offer_at i jobs)) i (matched_wins (offer_at i jobs) i matched)
+
+    pub still-matched : option_map (λ job. state_of job.standing) (slice_get (all_idle jobs (losers jobs (offer_at i jobs))) i) ≡ Some JobState.Matched
+    still-matched = ap (option_map (λ (job : Job). state_of job.standing)) same-job ∙ matched
+
+    pub same-offer : offer_at i (all_idle jobs (losers jobs (offer_at i jobs))) ≡ offer_at i jobs
+    same-offer = ap (λ o. option_map_or (λ (job : Job). offer_of job.standing) o []) same-job
+
+    pub offer-left : All (λ slot. claimed_by slot (all_idle jobs (losers jobs (offer_at i jobs))) ≡ None) (offer_at i (all_idle jobs (losers jobs (offer_at i jobs))))
+    offer-left = subst (All (λ slot. claimed_by slot rest ≡ None)) (sym same-offer) (losers_leave (offer_at i jobs))

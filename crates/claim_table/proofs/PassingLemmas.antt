@@ -28,57 +28,20 @@ use Rattle.claim_table.proofs.HolderLemmas.{All-found}
 
 -- ---- the test of literal attributes
 
-module _ (w : PlainWorld) (request : Request) (at : AdPlace) (side : at ≡ request_side w) (ports : w.ports ≡ request.ports) where
-  -- the last dock is decided as the contract of the tests says it
-  pub decided-here : (fs : List Frame) → w.request ≡ ad_frames request.ad → last_ad w ≡ fs → is_dock_decided (ad_frames request.ad) at.frame (labels_of request.ports) fs ≡ is_last_decided w
-  decided-here fs asked last =
-      ap (λ (p : AdPlace). is_dock_decided (ad_frames request.ad) p.frame (labels_of request.ports) fs) side
-      ∙ ap (λ (r : List Frame). is_dock_decided r (request_side w).frame (labels_of request.ports) fs) (sym asked)
-      ∙ ap (λ ps. is_dock_decided w.request (request_side w).frame (labels_of ps) fs) (sym ports)
-      ∙ ap (is_dock_decided w.request (request_side w).frame (labels_of w.ports)) (sym last)
+-- the last dock is decided as the contract of the tests says it
+pub decided-here : (w : PlainWorld) (request : Request) (fs : List Frame) (at : AdPlace) → at ≡ request_side w → w.request ≡ ad_frames request.ad → w.ports ≡ request.ports → last_ad w ≡ fs
+    → is_dock_decided (ad_frames request.ad) at.frame (labels_of request.ports) fs ≡ is_last_decided w
+decided-here w request fs at side asked ports last =
+    ap (λ (p : AdPlace). is_dock_decided (ad_frames request.ad) p.frame (labels_of request.ports) fs) side
+    ∙ ap (λ (r : List Frame). is_dock_decided r (request_side w).frame (labels_of request.ports) fs) (sym asked)
+    ∙ ap (λ ps. is_dock_decided w.request (request_side w).frame (labels_of ps) fs) (sym ports)
+    ∙ ap (is_dock_decided w.request (request_side w).frame (labels_of w.ports)) (sym last)
 
-  -- the last dock is at a frame of the request
-  pub frame-here : at.frame < length (ad_frames request.ad)
-  frame-here =
-      let there = frame-there (ad_frames request.ad) request.ports (length w.docked) request.are_ports request.ad.is_ad.root in
-      let place : at.frame ≡ (request_side w).frame = ap (λ (p : AdPlace). p.frame) side in
-      subst (λ k. k < length (ad_frames request.ad)) (sym (place ∙ ap (λ ps. (request_side (record w { ports = ps })).frame) ports)) there
+-- a resource whose dock a test decides doesn't pass
+pub decided-fails : (moment : ℕ) (stock : Stock) (jobs : List Job) (slot : ℕ) (w : PlainWorld) → 0 < length w.docked → is_last_decided w ≡ true → false ≡ passes moment stock jobs slot w
+decided-fails moment stock jobs slot w some decided = sym (ap (λ b. b && is_won moment stock jobs slot w) (not-docked w some decided))
 
--- ---- the dock
-
-module _ (moment : ℕ) (stock : Stock) (jobs : List Job) (slot : ℕ) (w : PlainWorld) where
-  pub undocked : is_docked w ≡ false → false ≡ passes moment stock jobs slot w
-  undocked fails = sym (ap (λ b. b && is_won moment stock jobs slot w) fails)
-
-  pub decided-fails : 0 < length w.docked → is_last_decided w ≡ true → false ≡ passes moment stock jobs slot w
-  decided-fails some decided = undocked (not-docked w some decided)
-
-  pub docked-wins : (r : Result Bool OutOfMemory) → true ≡ is_docked w → IfOk r (λ b. b ≡ is_won moment stock jobs slot w) → IfOk r (λ b. b ≡ passes moment stock jobs slot w)
-  docked-wins r docks won = subst (λ d. IfOk r (λ b. b ≡ (d && is_won moment stock jobs slot w))) docks won
-
-  abbrev pub holder_attributes : ℕ
-  holder_attributes = option_map_or (λ holding. attribute_count (holder_world moment stock holding)) (holder_of jobs slot) 0
-
-  -- where no test decides the dock, all that may be counted is
-  pub once-undecided : is_last_decided w ≡ false → (if is_last_decided w then 0 else 1) ≡ 1
-  once-undecided undecided = ap (λ (b : Bool). if b then 0 else 1) undecided
-
-  pub entered-undecided : is_last_decided w ≡ false → entered_in moment stock jobs slot w ≡ 3 * attribute_count w + holder_attributes
-  entered-undecided undecided = ap (λ (b : Bool). if b then 0 else 3 * attribute_count w + holder_attributes) undecided
-
-  -- ---- the holder
-
-  abbrev won_over : ℤ → Option Holding → Bool
-  won_over n held = option_map_or (λ h. int_lt (regard_in (holder_world moment stock h)) n) held true
-
-  pub unclaimed-won : (holder : Option Held) → is_some holder ≡ false → option_map holding_of holder ≡ holder_of jobs slot → true ≡ is_won moment stock jobs slot w
-  unclaimed-won None none who = ap (won_over (regard_in w)) who
-  unclaimed-won (Some h) none who = absurd (cc)
-
-  pub won-here : (holder : Option Held) (n : ℤ) (at : AdPlace) (r : Result Bool OutOfMemory) → at ≡ resource_side w → n ≡ rank_by w at → option_map holding_of holder ≡ holder_of jobs slot
-      → IfOk r (λ b. b ≡ option_map_or (λ h. int_lt (regard_in (holder_world moment stock h)) n) (option_map holding_of holder) true) → IfOk r (λ b. b ≡ is_won moment stock jobs slot w)
-  won-here holder n at r side ranks who won =
-      subst (λ (x : Bool). IfOk r (λ b. b ≡ x)) (ap (λ k. won_over k (option_map holding_of holder)) (ranks ∙ ap (rank_by w) side) ∙ ap (won_over (regard_in w)) who) won
+-- ---- the holder
 
 -- what is claimed is listed
 claim-listed : (P : ℕ → Type 0) (standing : Standing) → All P (slots_of standing) → All P (claim_of standing)

@@ -1,0 +1,16 @@
+use Rattle.ad_store.specs.Store.{stock_of}
+use Rattle.bilateral_match.proofs.MemberWeighLemmas.{holder-stands, holder-stored}
+use Rattle.claim_table.specs.Holders.{holder_of}
+use Rattle.claim_table.specs.Table.{jobs_of}
+use Rattle.claim_table.proofs.PassingLemmas.{holders-stored}
+use Rattle.claim_table.proofs.table.ClaimTable.wins.Goals as goal
+
+pub is_won-requires-clause-stored : goal.is_won-requires-clause-stored
+is_won-requires-clause-stored g c =
+    let stock = stock_of c.args.store.now in
+    let jobs = jobs_of c.args.self.now in
+    holder-stored stock (holder_of jobs) c.args.slot c.holder-holder.result (holders-stored stock jobs c.requires) c.holder-holder.ensures.who
+
+pub is_won-requires-clause-stands : goal.is_won-requires-clause-stands
+is_won-requires-clause-stands g c =
+    holder-stands (stock_of c.args.store.now) (holder_of (jobs_of c.args.self.now)) c.args.slot c.holder-holder.result c.holder-holder.ensures.stands

@@ -76,9 +76,14 @@ module _ (moment : ℕ) (stock : Stock) (name : List ℕ) (jobs : List Job) wher
           → claimed moment stock name jobs ≡ (Err (ClaimFault.Stale slot), with_standing jobs i Standing.Idle)
       claimed-stale slot failing = claimed-checked ∙ ap by_failing failing
 
-      pub claimed-granted : first_failing moment stock jobs job.request (offer_of job.standing) ≡ None
-          → claimed moment stock name jobs ≡ (Ok (freed_all jobs (losers jobs (offer_of job.standing))), granted jobs i (offer_of job.standing))
-      claimed-granted none = claimed-checked ∙ ap by_failing none
+      pub claimed-granted : (freed : List Freed) (new : List Job) → first_failing moment stock jobs job.request (offer_of job.standing) ≡ None
+          → freed ≡ freed_all jobs (losers jobs (offer_at i jobs)) → new ≡ granted jobs i (offer_at i jobs) → claimed moment stock name jobs ≡ (Ok freed, new)
+      claimed-granted freed new none told changed =
+          let offer = offer-found jobs i job at in
+          claimed-checked ∙ ap by_failing none ∙ both (ap (λ slots. freed_all jobs (losers jobs slots)) (sym offer) ∙ sym told) (ap (granted jobs i) (sym offer) ∙ sym changed)
+        where
+          both : {a b : List Freed} {js ks : List Job} → a ≡ b → js ≡ ks → ◌≡◌ {A = Result (List Freed) ClaimFault × List Job} (Ok a, js) (Ok b, ks)
+          both same others = cc
 
     -- what is counted is that of the job
 

@@ -31,32 +31,31 @@ module _ (P : ℕ → Type 0) where
     abbrev Answer : Type 0
     Answer = Result (List Freed) ClaimFault × List Job
 
+    abbrev nobody : Answer
+    nobody = (Err ClaimFault.NoJob, jobs)
+
+    abbrev gained : ℕ → List ℕ → Answer
+    gained i slots = (Ok (freed_all jobs (losers jobs slots)), granted jobs i slots)
+
+    checked-keeps : (i : ℕ) (slots : List ℕ) → All P slots → (o : Option ℕ) → All Listed (option_map_or (λ slot. (Err (ClaimFault.Stale slot), with_standing jobs i Standing.Idle)) o (gained i slots)).1
+    checked-keeps i slots offered None = standing-keeps (all_idle jobs (losers jobs slots)) i (Standing.Claimed slots) (idle-keeps jobs (losers jobs slots) all) offered
+    checked-keeps i slots offered (Some slot) = standing-keeps jobs i Standing.Idle all (All-nil P)
+
     at-keeps : (i : ℕ) (job : Job) (s : Standing) → All P (slots_of s) → All Listed (claimed_at moment stock jobs i (record job { standing = s })).1
     at-keeps i job Standing.Idle offered = all
     at-keeps i job (Standing.Claimed slots) offered = all
-    at-keeps i job (Standing.Matched slots) offered = by (first_failing moment stock jobs job.request slots)
-      where
-        gained : Answer
-        gained = (Ok (freed_all jobs (losers jobs slots)), granted jobs i slots)
+    at-keeps i job (Standing.Matched slots) offered = checked-keeps i slots offered (first_failing moment stock jobs job.request slots)
 
-        by : (o : Option ℕ) → All Listed (option_map_or (λ slot. (Err (ClaimFault.Stale slot), with_standing jobs i Standing.Idle)) o gained).1
-        unfolding gained
-        by None = standing-keeps (all_idle jobs (losers jobs slots)) i (Standing.Claimed slots) (idle-keeps jobs (losers jobs slots) all) offered
-        by (Some slot) = standing-keeps jobs i Standing.Idle all (All-nil P)
+    one-keeps : (i : ℕ) (o : Option Job) → slice_get jobs i ≡ o → All Listed (option_map_or (claimed_at moment stock jobs i) o nobody).1
+    one-keeps i None at = all
+    one-keeps i (Some job) at = at-keeps i job job.standing (All-found Listed jobs i job all at)
 
     claimed-keeps : All Listed (claimed moment stock name jobs).1
-    claimed-keeps = by_number (numbered name jobs)
+    claimed-keeps = by (numbered name jobs)
       where
-        abbrev nobody : Answer
-        nobody = (Err ClaimFault.NoJob, jobs)
-
-        by_job : (i : ℕ) (o : Option Job) → slice_get jobs i ≡ o → All Listed (option_map_or (claimed_at moment stock jobs i) o nobody).1
-        by_job i None at = all
-        by_job i (Some job) at = at-keeps i job job.standing (All-found Listed jobs i job all at)
-
-        by_number : (o : Option ℕ) → All Listed (option_map_or (λ i. option_map_or (claimed_at moment stock jobs i) (slice_get jobs i) nobody) o nobody).1
-        by_number None = all
-        by_number (Some i) = by_job i (slice_get jobs i) refl
+        by : (o : Option ℕ) → All Listed (option_map_or (λ i. option_map_or (claimed_at moment stock jobs i) (slice_get jobs i) nobody) o nobody).1
+        by None = all
+        by (Some i) = one-keeps i (slice_get jobs i) refl
 
     -- after a claim, whatever it answers
     pub claim-keeps : (answer : Result (List Freed) ClaimFault) (new : List Job) → IsClaimed answer jobs new (claimed moment stock name jobs) → All Listed new

@@ -1,0 +1,167 @@
+use Rattle.std.proofs.Common.{◌≡◌, ◌≤◌, ◌+◌, ◌*◌, ◌∙◌, ◌<◌, ℕ, All, Contains, Some, None, ap, arith, length, refl, rules, slice_get, subst, sym}
+use Rattle.std.specs.Prelude.{Err, Ok, option_map}
+use Rattle.std.proofs.lemmas.Option.{slice_get_read}
+use Rattle.ad_store.specs.Store.{stock_of}
+use Rattle.claim_table.specs.declared.answers.ClaimFault.{ClaimFault}
+use Rattle.claim_table.specs.declared.answers.JobState.{JobState}
+use Rattle.claim_table.specs.declared.job.Job.{Job}
+use Rattle.claim_table.specs.Jobs.{IsFilled, offer_of, slots_of, state_of}
+use Rattle.claim_table.specs.Table.{jobs_of}
+use Rattle.claim_table.proofs.ClaimLemmas.{claimed-granted, claimed-stale, entered-named, offer-few, offer-found, offer-listed, offer-named, undecided-named}
+use Rattle.claim_table.proofs.HolderLemmas.{All-found}
+use Rattle.claim_table.proofs.table.ClaimTable.claim.Goals as goal
+
+pub first_failing-requires-clause-offered : goal.first_failing-requires-clause-offered
+first_failing-requires-clause-offered g c =
+    let jobs = jobs_of c.args.self.now in
+    let i = c.in-Some.i in
+    let job = c.index-job.result.now in
+    let at : slice_get jobs i ≡ Some job = slice_get_read jobs (length jobs) i job refl c.in-Some.ensures.within c.index-job.ensures in
+    let held = Contains (stock_of c.args.store.now).slots in
+    offer-listed held job.standing (All-found (λ j. All held (slots_of j.standing)) jobs i job c.requires at)
+
+pub first_failing-requires-clause-few : goal.first_failing-requires-clause-few
+first_failing-requires-clause-few g c =
+    let jobs = jobs_of c.args.self.now in
+    let i = c.in-Some.i in
+    let job = c.index-job.result.now in
+    let at : slice_get jobs i ≡ Some job = slice_get_read jobs (length jobs) i job refl c.in-Some.ensures.within c.index-job.ensures in
+    offer-few job (All-found IsFilled jobs i job c.args.self.now.kept.filled at)
+
+pub returns-in_default-first_failing-clause-evaluations : goal.returns-in_default-first_failing-clause-evaluations
+returns-in_default-first_failing-clause-evaluations g c =
+    let jobs = jobs_of c.args.self.now in
+    let i = c.in-Some.i in
+    let job = c.index-job.result.now in
+    let at : slice_get jobs i ≡ Some job = slice_get_read jobs (length jobs) i job refl c.in-Some.ensures.within c.index-job.ensures in
+    let named = undecided-named c.args.moment (stock_of c.args.store.now) c.args.name.now jobs i job (sym c.in-Some.ensures.number) at in
+    omega (arith, named, c.first_failing.ensures.evaluations)
+
+pub returns-in_default-first_failing-clause-entries : goal.returns-in_default-first_failing-clause-entries
+returns-in_default-first_failing-clause-entries g c =
+    let jobs = jobs_of c.args.self.now in
+    let i = c.in-Some.i in
+    let job = c.index-job.result.now in
+    let at : slice_get jobs i ≡ Some job = slice_get_read jobs (length jobs) i job refl c.in-Some.ensures.within c.index-job.ensures in
+    let named = entered-named c.args.moment (stock_of c.args.store.now) c.args.name.now jobs i job (sym c.in-Some.ensures.number) at in
+    omega (arith, named, c.first_failing.ensures.entries)
+
+pub returns-in_default-first_failing-clause-looks : goal.returns-in_default-first_failing-clause-looks
+returns-in_default-first_failing-clause-looks g c =
+    let jobs = jobs_of c.args.self.now in
+    let i = c.in-Some.i in
+    let job = c.index-job.result.now in
+    let at : slice_get jobs i ≡ Some job = slice_get_read jobs (length jobs) i job refl c.in-Some.ensures.within c.index-job.ensures in
+    let named = ap {B = ℕ} length (offer-named c.args.moment (stock_of c.args.store.now) c.args.name.now jobs i job (sym c.in-Some.ensures.number) at) in
+    omega (arith, named, c.first_failing.ensures.looks)
+
+pub returns-in-Some-failing-clause-claim : goal.returns-in-Some-failing-clause-claim
+returns-in-Some-failing-clause-claim g c =
+    let jobs = jobs_of c.args.self.now in
+    let i = c.in-Some.i in
+    let job = c.index-job.result.now in
+    let at : slice_get jobs i ≡ Some job = slice_get_read jobs (length jobs) i job refl c.in-Some.ensures.within c.index-job.ensures in
+    let matched : state_of job.standing ≡ JobState.Matched = search rules in
+    let failing = sym c.in-Ok.ensures.failing ∙ c.in-Some-failing.is in
+    claimed-stale c.args.moment (stock_of c.args.store.now) c.args.name.now jobs i job (sym c.in-Some.ensures.number) at matched c.in-Some-failing.slot failing
+    ∙ ap (λ js. (Err (ClaimFault.Stale c.in-Some-failing.slot), js)) (sym c.free-slots.ensures.jobs)
+
+pub returns-in-Some-failing-clause-evaluations : goal.returns-in-Some-failing-clause-evaluations
+returns-in-Some-failing-clause-evaluations g c =
+    let jobs = jobs_of c.args.self.now in
+    let i = c.in-Some.i in
+    let job = c.index-job.result.now in
+    let at : slice_get jobs i ≡ Some job = slice_get_read jobs (length jobs) i job refl c.in-Some.ensures.within c.index-job.ensures in
+    let named = undecided-named c.args.moment (stock_of c.args.store.now) c.args.name.now jobs i job (sym c.in-Some.ensures.number) at in
+    omega (arith, named, c.first_failing.ensures.evaluations)
+
+pub returns-in-Some-failing-clause-entries : goal.returns-in-Some-failing-clause-entries
+returns-in-Some-failing-clause-entries g c =
+    let jobs = jobs_of c.args.self.now in
+    let i = c.in-Some.i in
+    let job = c.index-job.result.now in
+    let at : slice_get jobs i ≡ Some job = slice_get_read jobs (length jobs) i job refl c.in-Some.ensures.within c.index-job.ensures in
+    let named = entered-named c.args.moment (stock_of c.args.store.now) c.args.name.now jobs i job (sym c.in-Some.ensures.number) at in
+    omega (arith, named, c.first_failing.ensures.entries)
+
+pub returns-in-Some-failing-clause-looks : goal.returns-in-Some-failing-clause-looks
+returns-in-Some-failing-clause-looks g c =
+    let jobs = jobs_of c.args.self.now in
+    let i = c.in-Some.i in
+    let job = c.index-job.result.now in
+    let at : slice_get jobs i ≡ Some job = slice_get_read jobs (length jobs) i job refl c.in-Some.ensures.within c.index-job.ensures in
+    let named = ap {B = ℕ} length (offer-named c.args.moment (stock_of c.args.store.now) c.args.name.now jobs i job (sym c.in-Some.ensures.number) at) in
+    omega (arith, named, c.first_failing.ensures.looks)
+
+pub grant-requires : goal.grant-requires
+grant-requires g c =
+    let jobs = jobs_of c.args.self.now in
+    let i = c.in-Some.i in
+    let job = c.index-job.result.now in
+    let at : slice_get jobs i ≡ Some job = slice_get_read jobs (length jobs) i job refl c.in-Some.ensures.within c.index-job.ensures in
+    let matched : state_of job.standing ≡ JobState.Matched = search rules in
+    ap (option_map (λ (j : Job). state_of j.standing)) at ∙ ap (λ s. Some s) matched
+
+pub returns-in_default-grant-clause-evaluations : goal.returns-in_default-grant-clause-evaluations
+returns-in_default-grant-clause-evaluations g c =
+    let jobs = jobs_of c.args.self.now in
+    let i = c.in-Some.i in
+    let job = c.index-job.result.now in
+    let at : slice_get jobs i ≡ Some job = slice_get_read jobs (length jobs) i job refl c.in-Some.ensures.within c.index-job.ensures in
+    let named = undecided-named c.args.moment (stock_of c.args.store.now) c.args.name.now jobs i job (sym c.in-Some.ensures.number) at in
+    omega (arith, named, c.first_failing.ensures.evaluations)
+
+pub returns-in_default-grant-clause-entries : goal.returns-in_default-grant-clause-entries
+returns-in_default-grant-clause-entries g c =
+    let jobs = jobs_of c.args.self.now in
+    let i = c.in-Some.i in
+    let job = c.index-job.result.now in
+    let at : slice_get jobs i ≡ Some job = slice_get_read jobs (length jobs) i job refl c.in-Some.ensures.within c.index-job.ensures in
+    let named = entered-named c.args.moment (stock_of c.args.store.now) c.args.name.now jobs i job (sym c.in-Some.ensures.number) at in
+    omega (arith, named, c.first_failing.ensures.entries)
+
+pub returns-in_default-grant-clause-looks : goal.returns-in_default-grant-clause-looks
+returns-in_default-grant-clause-looks g c =
+    let jobs = jobs_of c.args.self.now in
+    let i = c.in-Some.i in
+    let job = c.index-job.result.now in
+    let at : slice_get jobs i ≡ Some job = slice_get_read jobs (length jobs) i job refl c.in-Some.ensures.within c.index-job.ensures in
+    let named = ap {B = ℕ} length (offer-named c.args.moment (stock_of c.args.store.now) c.args.name.now jobs i job (sym c.in-Some.ensures.number) at) in
+    omega (arith, named, c.first_failing.ensures.looks)
+
+pub returns-clause-claim : goal.returns-clause-claim
+returns-clause-claim g c =
+    let jobs = jobs_of c.args.self.now in
+    let i = c.in-Some.i in
+    let job = c.index-job.result.now in
+    let at : slice_get jobs i ≡ Some job = slice_get_read jobs (length jobs) i job refl c.in-Some.ensures.within c.index-job.ensures in
+    let matched : state_of job.standing ≡ JobState.Matched = search rules in
+    let failing = sym c.in-Ok.ensures.failing ∙ c.in_default-failing.is in
+    claimed-granted c.args.moment (stock_of c.args.store.now) c.args.name.now jobs i job (sym c.in-Some.ensures.number) at matched c.in-Ok-grant.freed (jobs_of c.grant.new.self) failing c.in-Ok-grant.ensures.freed c.in-Ok-grant.ensures.ok
+
+pub returns-clause-evaluations : goal.returns-clause-evaluations
+returns-clause-evaluations g c =
+    let jobs = jobs_of c.args.self.now in
+    let i = c.in-Some.i in
+    let job = c.index-job.result.now in
+    let at : slice_get jobs i ≡ Some job = slice_get_read jobs (length jobs) i job refl c.in-Some.ensures.within c.index-job.ensures in
+    let named = undecided-named c.args.moment (stock_of c.args.store.now) c.args.name.now jobs i job (sym c.in-Some.ensures.number) at in
+    omega (arith, named, c.first_failing.ensures.evaluations)
+
+pub returns-clause-entries : goal.returns-clause-entries
+returns-clause-entries g c =
+    let jobs = jobs_of c.args.self.now in
+    let i = c.in-Some.i in
+    let job = c.index-job.result.now in
+    let at : slice_get jobs i ≡ Some job = slice_get_read jobs (length jobs) i job refl c.in-Some.ensures.within c.index-job.ensures in
+    let named = entered-named c.args.moment (stock_of c.args.store.now) c.args.name.now jobs i job (sym c.in-Some.ensures.number) at in
+    omega (arith, named, c.first_failing.ensures.entries)
+
+pub returns-clause-looks : goal.returns-clause-looks
+returns-clause-looks g c =
+    let jobs = jobs_of c.args.self.now in
+    let i = c.in-Some.i in
+    let job = c.index-job.result.now in
+    let at : slice_get jobs i ≡ Some job = slice_get_read jobs (length jobs) i job refl c.in-Some.ensures.within c.index-job.ensures in
+    let named = ap {B = ℕ} length (offer-named c.args.moment (stock_of c.args.store.now) c.args.name.now jobs i job (sym c.in-Some.ensures.number) at) in
+    omega (arith, named, c.first_failing.ensures.looks)

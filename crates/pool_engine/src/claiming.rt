@@ -1,16 +1,20 @@
 // The commands that claim what is offered to a job, and that give it back.
-ghost use Rattle.std.specs.Prelude.{◌≡◌, ◌≤◌, ◌+◌, ◌*◌, ℕ, List, IfOk, IsTrue};
+ghost use Rattle.std.specs.Prelude.{◌≡◌, ◌≤◌, ◌+◌, ◌*◌, ℕ, List, map, IfOk, IsTrue};
 ghost use Rattle.negotiator.specs.Priorities.{Setting};
 ghost use Rattle.pool_replies.specs.Replies.{is_printable};
+ghost use Rattle.pool_engine.specs.Books.{queue_of};
+ghost use Rattle.pool_engine.specs.ClaimAnswers as answers;
 ghost use Rattle.pool_engine.specs.Claiming as steps;
 ghost use Rattle.pool_engine.specs.Pool.{state_with};
 
 use crate::books::Books;
-use claim_table::{ClaimFault, JobFault, JobState};
+use crate::negotiation::{name_of, names_of};
+use claim_table::{ClaimFault, FreedList, JobFault};
 use pool_replies::{Refusal, Reply};
 use pool_steps::Steps;
 use pool_text::{Names, OutOfMemory, Text};
 use std::alloc::Global;
+use std::convert::AsSlice;
 use std::sync::ledger::Ledger;
 
 /// `claim`: what is offered to the job is checked anew, resource by resource, and the job has it where all of it passes. It
@@ -33,14 +37,42 @@ pub(crate) fn claim<F: Ledger, E: Ledger, T: Ledger>(
     ensures looks { (priorities : List Setting) → touch.new ≤ touch.old + 9 * steps.offered_for_claim (state_with moment priorities books.old) job.now }
 {
     let named = job.copy()?;
-    let names = names_of(alloc, &books.ads.store, books.claims.slots(job.bytes()))?;
+    let names = names_given(alloc, books, job.bytes())?;
     match books.claim(job.bytes(), moment, tops, entry, touch) {
-        Ok(preempted) => Ok(Reply::Claimed { job: named, names, preempted }),
+        Ok(freed) => {
+            let preempted = losers(alloc, &freed);
+            drop(freed);
+            Ok(Reply::Claimed {
+                job: named,
+                names,
+                preempted: preempted?,
+            })
+        }
         Err(ClaimFault::NoJob) => Ok(Reply::Refused(Refusal::UnknownName)),
         Err(ClaimFault::WrongState(state)) => Ok(Reply::Refused(Refusal::WrongState(state))),
         Err(ClaimFault::Stale(slot)) => Ok(Reply::Refused(Refusal::Stale(name_of(&books.ads.store, slot)?))),
         Err(ClaimFault::OutOfMemory) => Err(OutOfMemory),
     }
+}
+
+// The names of the resources of the job of a name.
+fn names_given(alloc: Global, books: &Books, job: &[u8]) -> Result<Names, OutOfMemory>
+    ensures { IfOk result (λ names. names ≡ answers.names_given job.now (queue_of books.now)) }
+{
+    let store = &books.ads.store;
+    let claims = &books.claims;
+    names_of(alloc, store, claims.slots(job))
+}
+
+// The names of the jobs that lost their resources.
+fn losers(alloc: Global, freed: &FreedList) -> Result<Names, OutOfMemory>
+    ensures { IfOk result (λ names. names ≡ map (λ one. one.job) freed.now) }
+{
+    let mut names = Names::new(alloc);
+    for one in freed.as_slice() {
+        names.push(one.job.copy()?)?;
+    }
+    Ok(names)
 }
 
 /// `release`: the job gives back what is offered to it or what it has claimed.

@@ -1,5 +1,5 @@
 -- A claim and a release by slots and numbers are those by names.
-use Rattle.std.proofs.Common.{◌≡◌, ℕ, zero, suc, All, Bool, true, false, ◌&&◌, bytes_eq, cond, List, [], ◌∷◌, map, slice_get, Contains, Option, None, Some, option_map, Result, Ok, Err, IfSome, refl, sym, ◌∙◌, ap, subst}
+use Rattle.std.proofs.Common.{◌≡◌, ℕ, zero, suc, All, Bool, true, false, ◌&&◌, bytes_eq, cond, List, [], ◌∷◌, map, slice_get, Contains, Option, None, Some, option_map, Result, Ok, Err, OnErr, OnOk, IfSome, refl, sym, ◌∙◌, ap, subst}
 use Rattle.std.specs.List.{find, list_all}
 use Rattle.std.specs.Option.{option_and_then, option_map_or}
 use Rattle.std.specs.Cmp.Lexicographic.{bytes_decides}
@@ -78,11 +78,11 @@ single-released (Some i) jobs single = single-standing i Standing.Idle jobs sing
 
 named-by : (name : List ℕ) (jobs : List Job) (job : Job) → find (is_named name) jobs ≡ Some job → is_named name job ≡ true
 named-by name [] job found = absurd (cc)
-named-by name (x ∷ xs) job found = by (is_named name x) refl found
+named-by name (x ∷ xs) job found = by (is_named name x) refl found (λ later. named-by name xs job later)
   where
-    by : (b : Bool) → is_named name x ≡ b → cond b (Some x) (find (is_named name) xs) ≡ Some job → is_named name job ≡ true
-    by true is here = let same : x ≡ job = cc in ap (is_named name) (sym same) ∙ is
-    by false is later = named-by name xs job later
+    by : (b : Bool) → is_named name x ≡ b → cond b (Some x) (find (is_named name) xs) ≡ Some job → (find (is_named name) xs ≡ Some job → is_named name job ≡ true) → is_named name job ≡ true
+    by true is here rest = let same : x ≡ job = cc in ap (is_named name) (sym same) ∙ is
+    by false is later rest = rest later
 
 itself : (name : List ℕ) → bytes_eq name name ≡ true
 itself name = (bytes_decides name name).1 refl
@@ -152,7 +152,7 @@ module _ (stock : Stock) (moment : ℕ) (settings : List Setting) where
           (lists-contains stock.slots slot held,
           is ∙ ap (λ (queue : List QueuedJob). pair queue) (sym (restood-seen stock job.name Standing.Idle jobs i job apart at (itself job.name))))
         where
-          abbrev pair : List QueuedJob → State × Reply
+          pair : List QueuedJob → State × Reply
           pair queue = (then_jobs queue, reply.Refused (why.Stale (name_in stock slot)))
       checked-fits None held is =
           is ∙ ap (λ (queue : List QueuedJob). told queue job.name (map (name_in stock) slots) (seen.losers (map (queued stock) jobs) (map (name_in stock) slots))) (sym behind)
@@ -160,7 +160,7 @@ module _ (stock : Stock) (moment : ℕ) (settings : List Setting) where
           ∙ ap (λ (ns : List (List ℕ)). told (map (queued stock) (claims.granted jobs i slots)) name ns (seen.losers (map (queued stock) jobs) (map (name_in stock) slots))) (sym given)
           ∙ ap (told (map (queued stock) (claims.granted jobs i slots)) name (names_given name (map (queued stock) jobs))) (sym (losers-seen stock beside jobs apart stored slots listed))
         where
-          abbrev told : List QueuedJob → List ℕ → List (List ℕ) → List (List ℕ) → State × Reply
+          told : List QueuedJob → List ℕ → List (List ℕ) → List (List ℕ) → State × Reply
           told queue n ns lost = (then_jobs queue, reply.Claimed n ns lost)
 
     at-fits : (i : ℕ) (job : Job) (s : Standing) → slice_get jobs i ≡ Some (record job { standing = s }) → is_named name job ≡ true → IsSingle job → list_all (lists stock.slots) (slots_of s) ≡ true
@@ -205,7 +205,7 @@ module _ (moment : ℕ) (stock : Stock) (name : List ℕ) (jobs : List Job) (sin
   abbrev no_job : Answer
   no_job = (Err ClaimFault.NoJob, jobs)
 
-  checked-single : (i : ℕ) (slots : List ℕ) (o : Option ℕ) → All IsSingle (option_map_or (λ slot. (Err (ClaimFault.Stale slot), with_standing jobs i Standing.Idle)) o (Ok (claims.freed_all jobs (claims.losers jobs slots)), claims.granted jobs i slots)).1
+  checked-single : (i : ℕ) (slots : List ℕ) (o : Option ℕ) → All IsSingle (option_map_or {U = Answer} (λ slot. (Err (ClaimFault.Stale slot), with_standing jobs i Standing.Idle)) o (Ok (claims.freed_all jobs (claims.losers jobs slots)), claims.granted jobs i slots)).1
   checked-single i slots None = single-standing i (Standing.Claimed slots) (claims.all_idle jobs (claims.losers jobs slots)) (single-idle (claims.losers jobs slots) jobs single)
   checked-single i slots (Some slot) = single-standing i Standing.Idle jobs single
 
@@ -214,14 +214,14 @@ module _ (moment : ℕ) (stock : Stock) (name : List ℕ) (jobs : List Job) (sin
   at-single i job (Standing.Claimed slots) = single
   at-single i job (Standing.Matched slots) = checked-single i slots (claims.first_failing moment stock jobs job.request slots)
 
-  job-single : (i : ℕ) (o : Option Job) → All IsSingle (option_map_or (claims.claimed_at moment stock jobs i) o no_job).1
+  job-single : (i : ℕ) (o : Option Job) → All IsSingle (option_map_or {U = Answer} (claims.claimed_at moment stock jobs i) o no_job).1
   job-single i None = single
   job-single i (Some job) = at-single i job job.standing
 
   claimed-single : All IsSingle (claims.claimed moment stock name jobs).1
   claimed-single = by (numbered name jobs)
     where
-      by : (o : Option ℕ) → All IsSingle (option_map_or (λ i. option_map_or (claims.claimed_at moment stock jobs i) (slice_get jobs i) no_job) o no_job).1
+      by : (o : Option ℕ) → All IsSingle (option_map_or {U = Answer} (λ i. option_map_or (claims.claimed_at moment stock jobs i) (slice_get jobs i) no_job) o no_job).1
       by None = single
       by (Some i) = job-single i (slice_get jobs i)
 
@@ -241,17 +241,13 @@ module _ (stock : Stock) (moment : ℕ) (settings : List Setting) (name : List �
   abbrev here : List Job → State
   here js = record { moment = moment; ads = stock.ads; jobs = map (queued stock) js; priorities = settings }
 
-  -- what the books answer where the table answers so
-  abbrev done : Result (List ℕ) JobFault → Result (Unit {0}) JobFault
-  done (Ok slots) = Ok tt
-  done (Err fault) = Err fault
-
+  -- the jobs where the table answers so
   abbrev jobs_behind : Result (List ℕ) JobFault → List Job
   jobs_behind (Ok slots) = idle_at (numbered name jobs) jobs
   jobs_behind (Err fault) = jobs
 
   abbrev IsFree : Result (List ℕ) JobFault → Type 0
-  IsFree r = IsReleaseAnswer (here jobs) name (here (jobs_behind r)) (done r)
+  IsFree r = IsReleaseAnswer (here jobs) name (here (jobs_behind r)) r
 
   release-found : (o : Option Job) → find (is_named name) jobs ≡ o
       → ◌≡◌ {A = State × Reply} (seen.release (here jobs) name) (option_map_or (λ (q : QueuedJob). seen.release_as (here jobs) q q.standing) (option_map (queued stock) o) (here jobs, reply.Refused why.UnknownName))
@@ -267,7 +263,7 @@ module _ (stock : Stock) (moment : ℕ) (settings : List Setting) (name : List �
         is ∙ ap (λ (queue : List QueuedJob). told queue job.name) (sym (ap (λ o. map (queued stock) (idle_at o jobs)) number ∙ restood-seen stock job.name Standing.Idle jobs i job apart at (itself job.name)))
         ∙ ap (told (map (queued stock) (idle_at (numbered name jobs) jobs))) (sym ((bytes_decides name job.name).0 named))
       where
-        abbrev told : List QueuedJob → List ℕ → State × Reply
+        told : List QueuedJob → List ℕ → State × Reply
         told queue n = (record { moment = moment; ads = stock.ads; jobs = queue; priorities = settings }, reply.Released n)
 
     at-free : (job : Job) (s : Standing) → slice_get jobs i ≡ Some (record job { standing = s }) → is_named name job ≡ true
@@ -288,3 +284,12 @@ module _ (stock : Stock) (moment : ℕ) (settings : List Setting) (name : List �
           → IsFree (option_map_or (λ job. given_back job.standing) (option_and_then (λ i. slice_get jobs i) o) (Err JobFault.NoJob))
       by None number found = release-found None (sym found)
       by (Some i) number found = job-free i number (slice_get jobs i) refl (sym found)
+
+  pub released : (r : Result (List ℕ) JobFault) (later : List Job) → r ≡ release_answer name jobs → OnOk r (later ≡ idle_at (numbered name jobs) jobs) → OnErr r (later ≡ jobs) → IsReleaseAnswer (here jobs) name (here later) r
+  released (Ok slots) later is ok err = subst (λ (js : List Job). IsReleaseAnswer (here jobs) name (here js) (Ok slots)) (sym ok) (subst IsFree (sym is) release-seen)
+  released (Err fault) later is ok err = subst (λ (js : List Job). IsReleaseAnswer (here jobs) name (here js) (Err fault)) (sym err) (subst IsFree (sym is) release-seen)
+
+-- in any case what is left is stored, and single
+pub either-released : {T E : Type 0} (slots : List ℕ) (o : Option ℕ) (jobs later : List Job) (r : Result T E) → OnOk r (later ≡ idle_at o jobs) → OnErr r (later ≡ jobs) → are_stored slots jobs ≡ true → All IsSingle jobs → (are_stored slots later ≡ true) × All IsSingle later
+either-released slots o jobs later (Ok x) ok err stored single = (ap (are_stored slots) ok ∙ released-stored slots o jobs stored, subst (All IsSingle) (sym ok) (single-released o jobs single))
+either-released slots o jobs later (Err e) ok err stored single = (ap (are_stored slots) err ∙ stored, subst (All IsSingle) (sym err) single)

@@ -3,7 +3,6 @@ use Rattle.std.proofs.Common.{◌≡◌, ℕ, zero, suc, ◌+◌, ◌<◌, ◌�
 use Rattle.std.specs.Prelude.{slice_index}
 use Rattle.std.specs.List.{find, list_all, range_with_len}
 use Rattle.std.specs.Option.{option_map_or}
-use Rattle.std.proofs.lemmas.List.{length-map}
 use Rattle.std.proofs.lemmas.List.Elements.{All-head, All-tail}
 use Rattle.ad_store.specs.Stock.{Stock}
 use Rattle.ad_store.proofs.HeldLemmas.{both}
@@ -24,6 +23,10 @@ use Rattle.pool_engine.proofs.MatchedLemmas.{IsSingle}
 use Rattle.pool_engine.proofs.NameLemmas.{AreBeside}
 
 -- ---- the ports of an offer
+
+length-names : (name : ℕ → List ℕ) (slots : List ℕ) → length (map name slots) ≡ length slots
+length-names name [] = refl
+length-names name (s ∷ slots) = let rest = length-names name slots in omega (arith, rest)
 
 name-at : (name : ℕ → List ℕ) (slots : List ℕ) (port : ℕ) → port < length slots → seen.name_at (map name slots) port ≡ name (slice_index slots port)
 name-at name [] port within = absurd (omega (arith, within))
@@ -119,7 +122,7 @@ module _ (stock : Stock) (beside : AreBeside stock.ads stock.slots) (moment : �
     -- the first that fails
     pub failing-seen : seen.first_failing state (queued stock job) (map (name_in stock) slots) ≡ option_map (name_in stock) (claims.first_failing moment stock jobs job.request slots)
     failing-seen =
-        ap (λ n. option_map (seen.name_at names) (find fails_named (range_with_len 0 n))) (length-map (name_in stock) slots)
+        ap (λ n. option_map (seen.name_at names) (find fails_named (range_with_len 0 n))) (length-names (name_in stock) slots)
         ∙ found-alike fails_named fails_slots (seen.name_at names) (slice_index slots) (name_in stock) 0 (length slots) (length slots) (omega arith) each
 
     -- is in the store
@@ -130,7 +133,7 @@ module _ (stock : Stock) (beside : AreBeside stock.ads stock.slots) (moment : �
 
     undecided-one : seen.undecided_in state (queued stock job) names ≡ sum_by (λ port. if is_last_decided (claims.world_at moment stock job.request slots port) then 0 else 1) (claims.ports_of slots)
     undecided-one =
-        ap (λ n. sum_by (λ port. if is_last_decided (seen.world_at moment stock.ads (queued stock job) names port) then 0 else 1) (range_with_len 0 n)) (length-map (name_in stock) slots)
+        ap (λ n. sum_by (λ port. if is_last_decided (seen.world_at moment stock.ads (queued stock job) names port) then 0 else 1) (range_with_len 0 n)) (length-names (name_in stock) slots)
         ∙ (λ i. sum_by (λ port. if is_last_decided (world-seen stock beside moment job alone slots listed port i) then 0 else 1) (range_with_len 0 (length slots)))
 
   -- ---- what is counted
@@ -163,4 +166,4 @@ module _ (stock : Stock) (beside : AreBeside stock.ads stock.slots) (moment : �
     where
       by : (o : Option Job) → option_map_or (λ (q : QueuedJob). length (offer_names q.standing)) (option_map (queued stock) o) 0 ≡ length (option_map_or (λ (j : Job). offer_of j.standing) o [])
       by None = refl
-      by (Some job) = ap length (offer-names stock job.standing) ∙ length-map (name_in stock) (offer_of job.standing)
+      by (Some job) = ap length (offer-names stock job.standing) ∙ length-names (name_in stock) (offer_of job.standing)

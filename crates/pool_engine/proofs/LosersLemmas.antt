@@ -68,13 +68,13 @@ idle-among i (k ∷ ks) jobs = idle-among i ks (idle_at (Some k) jobs) ∙ ap (�
 -- one that is among them is idle already
 idle-already : (i : ℕ) (ks : List ℕ) (jobs : List Job) → lists ks i ≡ true → claims.all_idle jobs ks ≡ idle_at (Some i) (claims.all_idle jobs ks)
 idle-already i [] jobs listed = absurd (cc)
-idle-already i (k ∷ ks) jobs listed = by (eqb k i) refl listed
+idle-already i (k ∷ ks) jobs listed = by (eqb k i) refl listed (λ later. idle-already i ks (idle_at (Some k) jobs) later)
   where
-    by : (b : Bool) → eqb k i ≡ b → (b || lists ks i) ≡ true → claims.all_idle (idle_at (Some k) jobs) ks ≡ idle_at (Some i) (claims.all_idle (idle_at (Some k) jobs) ks)
-    by true is l =
+    by : (b : Bool) → eqb k i ≡ b → (b || lists ks i) ≡ true → (lists ks i ≡ true → claims.all_idle (idle_at (Some k) jobs) ks ≡ idle_at (Some i) (claims.all_idle (idle_at (Some k) jobs) ks)) → claims.all_idle (idle_at (Some k) jobs) ks ≡ idle_at (Some i) (claims.all_idle (idle_at (Some k) jobs) ks)
+    by true is l rest =
         let same : k ≡ i = grind (arith, nat_tests) in
         sym (idle-among i ks (idle_at (Some k) jobs) ∙ ap (λ js. claims.all_idle js ks) (ap (λ n. idle_at (Some i) (idle_at (Some n) jobs)) same ∙ idle-twice i jobs ∙ ap (λ n. idle_at (Some n) jobs) (sym same)))
-    by false is l = idle-already i ks (idle_at (Some k) jobs) l
+    by false is l rest = rest l
 
 idle-last : (i : ℕ) (ks : List ℕ) (jobs : List Job) → claims.all_idle jobs (ks ++ i ∷ []) ≡ idle_at (Some i) (claims.all_idle jobs ks)
 idle-last i [] jobs = refl

@@ -27,7 +27,7 @@ IsClaimAnswer stock s name t (Err (ClaimFault.Stale slot)) = Contains stock.slot
 IsClaimAnswer stock s name t (Err ClaimFault.OutOfMemory) = t ≡ s
 
 -- a release that is answered so
-abbrev pub IsReleaseAnswer : State → List ℕ → State → Result (Unit {0}) JobFault → Type 0
-IsReleaseAnswer s name t (Ok done) = ◌≡◌ {A = State × Reply} (release s name) (t, reply.Released name)
+abbrev pub IsReleaseAnswer : State → List ℕ → State → Result (List ℕ) JobFault → Type 0
+IsReleaseAnswer s name t (Ok slots) = ◌≡◌ {A = State × Reply} (release s name) (t, reply.Released name)
 IsReleaseAnswer s name t (Err JobFault.NoJob) = ◌≡◌ {A = State × Reply} (release s name) (t, reply.Refused why.UnknownName)
 IsReleaseAnswer s name t (Err (JobFault.WrongState state)) = (is_wrong_state state ≡ true) × ◌≡◌ {A = State × Reply} (release s name) (t, reply.Refused (why.WrongState state))

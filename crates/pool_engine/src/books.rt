@@ -21,7 +21,7 @@ use claim_table::{ClaimFault, ClaimTable, FreedList, JobFault};
 use negotiator::{Cycle, Priorities, cycle};
 use pool_replies::Reply;
 use pool_steps::Steps;
-use pool_text::OutOfMemory;
+use pool_text::{OutOfMemory, Slots};
 use std::alloc::Global;
 use std::sync::ledger::Ledger;
 
@@ -245,18 +245,18 @@ impl Books {
         self.ads.store.slots_are_apart();
         self.claims.names_are_apart();
         self.claims.resources_are_apart();
+        let ads = &self.ads;
         self.claims
-            .claim(&self.ads.store, name, moment, tops, entry, touch)
+            .claim(&ads.store, name, moment, tops, entry, touch)
     }
 
-    /// Makes the job of a name idle, and frees what is offered to it or claimed by it.
-    pub(crate) fn release(&mut self, name: &[u8]) -> Result<(), JobFault>
+    /// Makes the job of a name idle, and hands back what was offered to it or claimed by it.
+    pub(crate) fn release(&mut self, name: &[u8]) -> Result<Slots, JobFault>
         ensures ads { self.new.ads ≡ self.old.ads }
         ensures release { (moment : ℕ) (priorities : List Setting)
             → IsReleaseAnswer (state_with moment priorities self.old) name.now (state_with moment priorities self.new) result }
     {
         self.claims.names_are_apart();
-        let _slots = self.claims.release(name)?;
-        Ok(())
+        self.claims.release(name)
     }
 }

@@ -84,7 +84,7 @@ pub(crate) fn release(books: &mut Books, job: &Text) -> Result<Reply, OutOfMemor
 {
     let named = job.copy()?;
     match books.release(job.bytes()) {
-        Ok(()) => Ok(Reply::Released(named)),
+        Ok(_) => Ok(Reply::Released(named)),
         Err(JobFault::NoJob) => Ok(Reply::Refused(Refusal::UnknownName)),
         Err(JobFault::WrongState(state)) => Ok(Reply::Refused(Refusal::WrongState(state))),
     }

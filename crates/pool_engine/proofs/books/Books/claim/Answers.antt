@@ -16,7 +16,7 @@ invariant_of-self g c =
     let books = c.args.self.now in
     let stock = stock_of books.ads.store in
     let jobs = jobs_of books.claims in
-    let listed = held-all stock.slots (jobs_of c.claim.new.self) (claim-keeps (Contains stock.slots) c.args.moment stock c.args.name.now jobs (all-held stock.slots jobs books.listed) c.claim.result (jobs_of c.claim.new.self) c.claim.ensures.claim in
+    let listed = held-all stock.slots (jobs_of c.claim.new.self) (claim-keeps (Contains stock.slots) c.args.moment stock c.args.name.now jobs (all-held stock.slots jobs books.listed) c.claim.result (jobs_of c.claim.new.self) c.claim.ensures.claim) in
     let single = claim-single c.args.moment stock c.args.name.now jobs books.single c.claim.result (jobs_of c.claim.new.self) c.claim.ensures.claim in
     record { listed = listed; single = single }
 

@@ -14,4 +14,5 @@ pub mod PoolLemmas
 pub mod RowLemmas
 mod ScanLemmas
 mod TestLemmas
+pub mod UndecidedLemmas
 mod WeighLemmas

@@ -10,12 +10,11 @@ use Rattle.std.proofs.lemmas.Option.{get_or_from_slice_get, slice_get_within}
 use Rattle.ad_tree.specs.Frames.{Frame}
 use Rattle.ad_store.specs.Stock.{Advert}
 use Rattle.conjunct_plan.specs.declared.test.Test.{Test}
-use Rattle.conjunct_plan.specs.Decided.{is_decided, rules_out}
+use Rattle.conjunct_plan.specs.Decided.{is_decided, is_dock_decided, rules_out}
 use Rattle.conjunct_plan.specs.Tests.{tests_of}
 use Rattle.literal_index.specs.Rows.{passes, passing_slots, row_of}
-use Rattle.bilateral_match.specs.Candidates.{AreCandidates, places_where}
+use Rattle.bilateral_match.specs.Candidates.{AreCandidatesAt, places_where}
 use Rattle.bilateral_match.specs.Counts.{least_left, left_by}
-use Rattle.bilateral_match.specs.Docks.{is_undecided}
 use Rattle.bilateral_match.specs.Rows.{rows_beside}
 
 -- a test doesn't decide against the ad
@@ -41,8 +40,8 @@ places-within keeps k n (a ∷ ads) fits = by (places-within keeps (suc k) n ads
     by rest false = rest
 
 -- candidates are places of ads
-pub candidates-within : (request : List Frame) (ads : List Advert) (places : List ℕ) → AreCandidates request ads places → (n : ℕ) → length ads ≤ n → All (λ place. place < n) places
-candidates-within request ads places some n fits =
+pub candidates-within : (request : List Frame) (frame : ℕ) (labels : List (List ℕ)) (ads : List Advert) (places : List ℕ) → AreCandidatesAt request frame labels ads places → (n : ℕ) → length ads ≤ n → All (λ place. place < n) places
+candidates-within request frame labels ads places some n fits =
     All-permutation (λ place. place < n) (places_where some.passes 0 ads) places some.all (places-within some.passes 0 n ads (omega (arith, fits)))
 
 -- ---- slots that are apart
@@ -135,9 +134,9 @@ any-at p (t ∷ tests) (suc k) test within is passed = by (p t) (any-at p tests 
     by false e = e
 
 -- an ad that a test of the request doesn't leave has a decided dock
-not-left : (request : List Frame) (test : Test) → Contains (tests_of request 0 []) test → (advert : Advert) → leaves test advert ≡ false → is_undecided request advert.ad ≡ false
-not-left request test one advert e =
-    ap (λ (b : Bool). not (b || rules_out advert.ad 0 [] request 0)) (any-at (λ t. is_decided t advert.ad 0) (tests_of request 0 []) one.0 test one.1 one.2 (not-false (is_decided test advert.ad 0) e))
+not-left : (request : List Frame) (frame : ℕ) (labels : List (List ℕ)) (test : Test) → Contains (tests_of request frame labels) test → (advert : Advert) → leaves test advert ≡ false → not (is_dock_decided request frame labels advert.ad) ≡ false
+not-left request frame labels test one advert e =
+    ap (λ (b : Bool). not (b || rules_out advert.ad 0 [] request frame)) (any-at (λ t. is_decided t advert.ad 0) (tests_of request frame labels) one.0 test one.1 one.2 (not-false (is_decided test advert.ad 0) e))
   where
     not-false : (b : Bool) → not b ≡ false → b ≡ true
     not-false true e = refl
@@ -150,10 +149,10 @@ range-next a (suc n) =
     let same : (a + 1) + n ≡ a + suc n = omega arith in
     ap (λ (l : List ℕ). a ∷ l) (range-next (a + 1) n ∙ ap (λ (k : ℕ). range_with_len (a + 1) n ++ k ∷ []) same)
 
-module _ (request : List Frame) (ads : List Advert) (all : List ℕ) (same : length ads ≡ length all) where
+module _ (request : List Frame) (frame : ℕ) (labels : List (List ℕ)) (ads : List Advert) (all : List ℕ) (same : length ads ≡ length all) where
   -- the places of the slots that a test of the request leaves
-  pub left-candidates : (test : Test) (slots places : List ℕ) → AreApart all → Contains (tests_of request 0 []) test → left_by ads test ≡ least_left ads (tests_of request 0 [])
-      → IsPermutation (passing_slots test (rows_beside ads all)) slots → map (slice_get all) places ≡ map Some slots → AreCandidates request ads places
+  pub left-candidates : (test : Test) (slots places : List ℕ) → AreApart all → Contains (tests_of request frame labels) test → left_by ads test ≡ least_left ads (tests_of request frame labels)
+      → IsPermutation (passing_slots test (rows_beside ads all)) slots → map (slice_get all) places ≡ map Some slots → AreCandidatesAt request frame labels ads places
   left-candidates test slots places apart one least moved spelled =
       let are : places ≡ map (place_in all) slots = places-are all apart places slots spelled in
       let where_left : map (place_in all) (passing_slots test (rows_beside ads all)) ≡ places_where (leaves test) 0 ads = rows-places test all 0 ads all same (λ i slot is. place_in-is all apart i slot is ∙ sym (zero-add i)) in
@@ -162,7 +161,7 @@ module _ (request : List Frame) (ads : List Advert) (all : List ℕ) (same : len
       record {
         passes = leaves test;
         all = permuted;
-        others = λ advert e. not-left request test one advert e;
+        others = λ advert e. not-left request frame labels test one advert e;
         few = omega (arith, length_permutation (places_where (leaves test) 0 ads) places permuted, length-places (leaves test) 0 ads, least);
       }
 
@@ -175,7 +174,7 @@ module _ (request : List Frame) (ads : List Advert) (all : List ℕ) (same : len
   length-all k [] = refl
   length-all k (a ∷ ads) = ap suc (length-all (suc k) ads)
 
-  pub all-candidates : (places : List ℕ) → length ads ≡ least_left ads (tests_of request 0 []) → places ≡ range_with_len 0 (length all) → AreCandidates request ads places
+  pub all-candidates : (places : List ℕ) → length ads ≡ least_left ads (tests_of request frame labels) → places ≡ range_with_len 0 (length all) → AreCandidatesAt request frame labels ads places
   all-candidates places least are =
       let whole : places_where (λ a. true) 0 ads ≡ places = all-places 0 ads ∙ ap (range_with_len 0) same ∙ sym are in
       record {

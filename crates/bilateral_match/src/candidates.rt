@@ -5,7 +5,8 @@ ghost use Rattle.ad_tree.specs.Ad.{ad_frames};
 ghost use Rattle.ad_store.specs.Store.{stock_of};
 ghost use Rattle.literal_index.specs.Rows.{passing_slots};
 ghost use Rattle.literal_index.specs.Shown.{IsIndex};
-ghost use Rattle.bilateral_match.specs.Candidates.{AreCandidates};
+ghost use Rattle.conjunct_plan.specs.Tests.{labels_of};
+ghost use Rattle.bilateral_match.specs.Candidates.{AreCandidates, AreCandidatesAt};
 ghost use Rattle.bilateral_match.specs.Counts.{least_left, least_within, left_by};
 ghost use Rattle.bilateral_match.specs.Rows.{rows_of};
 
@@ -20,7 +21,7 @@ use std::convert::AsSlice;
 // Tests are counted up to each of these limits in turn, so that a test that leaves many ads costs no more than a narrow one.
 const LIMITS: [usize; 3] = [32, 256, 2048];
 
-/// The places of the ads to look at, in any order.
+/// The places of the ads to look at for a request without ports, in any order.
 pub fn candidates(
     alloc: Global,
     store: &Store,
@@ -32,9 +33,27 @@ pub fn candidates(
     ensures places { IfOk result (AreCandidates (ad_frames request.now.ad) (stock_of store.now).ads) }
     ensures held { IfOk result (All (λ place. place < length (stock_of store.now).slots)) }
 {
+    candidates_at(alloc, store, index, request, 0)
+}
+
+/// The places of the ads to look at for a frame of a request, in any order. The dock of any other ad with the frame is
+/// decided, and they are no more than the narrowest test of the frame's requirement leaves. This is for the crates that
+/// stand on this one.
+pub fn candidates_at(
+    alloc: Global,
+    store: &Store,
+    index: &Index,
+    request: &Request,
+    frame: u32,
+) -> Result<Slots, OutOfMemory>
+    requires index { IsIndex index.now (rows_of (stock_of store.now)) }
+    requires frame { frame < length (ad_frames request.now.ad) }
+    ensures places { IfOk result (AreCandidatesAt (ad_frames request.now.ad) frame (labels_of request.now.ports) (stock_of store.now).ads) }
+    ensures held { IfOk result (All (λ place. place < length (stock_of store.now).slots)) }
+{
     let count = store.len();
     store.slots_are_apart();
-    let tests = plan(alloc, &request.ad, 0, &request.ports)?;
+    let tests = plan(alloc, &request.ad, frame, &request.ports)?;
     let Some(test) = narrowest(store, index, &tests) else {
         return Ok(all_places(alloc, count)?);
     };

@@ -11,6 +11,7 @@ mod members;
 mod querying;
 mod weighing;
 
+pub use candidates::candidates_at;
 pub use choosing::best;
 pub use docking::{is_decided, pair};
 pub use hit::{Hit, Hits, Match};
@@ -20,5 +21,5 @@ pub use laws::{
     more_offers_leave_no_more_members, no_other_member_comes_before_the_best,
 };
 pub use member::Member;
-pub use members::is_won;
+pub use members::{is_live, is_won};
 pub use querying::query;

@@ -85,8 +85,8 @@ fn as_member(ranks: Ranks, claimed: bool, place: usize) -> Member
     }
 }
 
-// Whether the ad in a slot is live.
-fn is_live(store: &Store, slot: usize, moment: u64) -> bool
+/// Whether the ad in a slot is live.
+pub fn is_live(store: &Store, slot: usize, moment: u64) -> bool
     requires { Contains (stock_of store.now).slots slot }
     ensures { (i : ℕ) → slice_get (stock_of store.now).slots i ≡ Some slot
         → option_map (stock.is_live moment) (slice_get (stock_of store.now).ads i) ≡ Some result }

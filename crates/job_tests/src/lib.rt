@@ -1,13 +1,7 @@
-//! Tests of the store, the table of jobs, the choice of resources, claims and negotiation.
+//! Tests of the store and the table of jobs.
 #![tactic(auto)]
 
 #[cfg(test)]
-mod choice;
-#[cfg(test)]
-mod claiming;
-#[cfg(test)]
 mod claims;
-#[cfg(test)]
-mod negotiation;
 #[cfg(test)]
 mod store;

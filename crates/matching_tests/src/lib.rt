@@ -1,6 +1,8 @@
-//! Tests of the tests of requirements, the index and queries.
+//! Tests of the tests of requirements, the index, queries and the choice of the best resource.
 #![tactic(auto)]
 
+#[cfg(test)]
+mod choice;
 #[cfg(test)]
 mod index;
 #[cfg(test)]

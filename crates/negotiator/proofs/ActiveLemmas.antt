@@ -1,20 +1,20 @@
 -- The users of a spin, step by step, with their weights, and the resources that are free.
-use Rattle.std.proofs.Common.{◌≡◌, ◌≤◌, ◌<◌, ◌+◌, ◌*◌, ◌/◌, ◌^◌, ℕ, zero, suc, Bool, true, false, not, ◌&&◌, ◌||◌, cond, List, [], ◌∷◌, ◌++◌, All, count_by, filter, fold, get_or, length, map, slice_get, take, Option, None, Some, refl, ap, sym, ◌∙◌, subst, arith, Less, Equal, Greater}
+use Rattle.std.proofs.Common.{◌≡◌, ◌≤◌, ◌<◌, ◌+◌, ◌^◌, ℕ, zero, suc, Bool, true, false, ◌&&◌, ◌||◌, cond, List, [], ◌∷◌, ◌++◌, count_by, filter, fold, get_or, length, map, slice_get, take, Some, refl, ap, sym, ◌∙◌, arith, Less, Equal, Greater}
 use Rattle.std.specs.BTreeSet.{insert_key}
-use Rattle.std.specs.List.{list_any, range_with_len}
+use Rattle.std.specs.List.{list_any}
 use Rattle.std.specs.Option.{option_map_or}
 use Rattle.std.specs.Ordering.{match_ordering}
 use Rattle.std.specs.declared.cmp.Ordering.{Ordering}
-use Rattle.std.proofs.lemmas.List.{append-nil, length-map, map-append, take_all, take_more}
-use Rattle.std.proofs.lemmas.List.Elements.{All-push, filter-append}
+use Rattle.std.proofs.lemmas.List.{append-nil, map-append, take_all, take_more}
+use Rattle.std.proofs.lemmas.List.Elements.{filter-append}
 use Rattle.std.proofs.lemmas.List.Sums.{count_by_more_no, count_by_more_yes}
 use Rattle.std.proofs.lemmas.Nat.{div_below, le-div}
 use Rattle.ad_store.specs.Stock.{Stock}
 use Rattle.claim_table.specs.declared.job.Job.{Job}
 use Rattle.negotiator.specs.declared.queues.Queue.{Queue}
 use Rattle.negotiator.specs.Budget.{is_idle_at}
-use Rattle.negotiator.specs.Cycle.{Market, Waiting, all_users, is_of, is_waiting, places, user_order, users_of, waits}
-use Rattle.negotiator.specs.Markets.{is_free, market_of, waiting_of}
+use Rattle.negotiator.specs.Cycle.{Market, Waiting, all_users, is_of, places, user_order, users_of, waits}
+use Rattle.negotiator.specs.Markets.{is_free, market_of}
 use Rattle.negotiator.specs.Priorities.{Setting, priority_of}
 use Rattle.negotiator.specs.Queues.{AreQueues}
 use Rattle.negotiator.specs.Scenes.{users_at}
@@ -86,9 +86,9 @@ module _ (settings : List Setting) (queues : List Queue) (active : List ℕ) whe
       ∙ ap (λ (l : List ℕ). l ++ w ∷ []) so_far
       ∙ ap (λ (v : ℕ). map weigh before ++ v ∷ []) (w_is ∙ ap weight_of number_is)
       ∙ sym (ap (λ l. map weigh (users_at queues l)) (take_more active i 0 within ∙ ap (λ j. take i active ++ j ∷ []) here)
-        ∙ ap (map weigh) (map-append (λ j. option_map_or (λ (q : Queue). q.user) (slice_get queues j) []) (take i active) (k ∷ []))
-        ∙ map-append weigh before ((option_map_or (λ (q : Queue). q.user) (slice_get queues k) []) ∷ [])
-        ∙ ap (λ (u : List ℕ). map weigh before ++ weigh u ∷ []) (read-user queues k queue inside (sym is)))
+      ∙ ap (map weigh) (map-append (λ j. option_map_or (λ (q : Queue). q.user) (slice_get queues j) []) (take i active) (k ∷ []))
+      ∙ map-append weigh before ((option_map_or (λ (q : Queue). q.user) (slice_get queues k) []) ∷ [])
+      ∙ ap (λ (u : List ℕ). map weigh before ++ weigh u ∷ []) (read-user queues k queue inside (sym is)))
 
 -- ---- who is active
 

@@ -1,5 +1,5 @@
 -- Two markets that are alike, but for the names of their resources and for offers made before: they have the same cycle.
-use Rattle.std.proofs.Common.{◌≡◌, ◌+◌, ◌-◌, ◌==◌, ℕ, zero, suc, Bool, true, false, not, ◌&&◌, ◌||◌, nat_lt, cond, if◌then◌else◌, List, [], ◌∷◌, ◌++◌, filter, fold, length, flat_map, map, count_by, slice_get, Option, None, Some, bytes_eq, refl, ap, sym, ◌∙◌, subst, arith, append_assoc}
+use Rattle.std.proofs.Common.{◌≡◌, ◌-◌, ◌==◌, ℕ, zero, suc, Bool, true, false, not, ◌&&◌, ◌||◌, nat_lt, cond, if◌then◌else◌, List, [], ◌∷◌, ◌++◌, filter, fold, length, map, count_by, slice_get, Option, None, Some, bytes_eq, refl, ap, sym, ◌∙◌, subst, arith, append_assoc}
 use Rattle.std.specs.Prelude.{option_map}
 use Rattle.std.specs.List.{list_any, range_with_len}
 use Rattle.std.specs.Option.{option_map_or}
@@ -11,7 +11,7 @@ use Rattle.std.proofs.lemmas.List.Sums.{sum_by-cons}
 use Rattle.pie_slices.specs.Slices.{slices_of, weight_of}
 use Rattle.negotiator.specs.Cycle.{Market, Offer, PlainSpin, PlainTurn, Waiting, all_users, cycle_from, cycle_of, has_offer, is_empty, is_given, is_of, is_waiting, offers_in, places, shares_of, spin, spins_within, turn, turns, user_order, users_of, waiting_count, waits, wants_of}
 use Rattle.negotiator.specs.Mapped.{offer_mapped, spin_mapped, turn_mapped}
-use Rattle.negotiator.proofs.CycleLemmas.{from, offer, offers-append, offers-kept, waits-is}
+use Rattle.negotiator.proofs.CycleLemmas.{from, offer, offers-kept}
 
 -- what is put in the place of each offer in n, where g says which offers stand in n for those made in m
 pub record IsAlike {R S : Type 0} (rename : R → S) (m : Market R) (n : Market S) (g : List (Offer R) → List (Offer S)) (P : List (Offer R) → Type 0) : Type 0 where
@@ -96,7 +96,7 @@ module _ {R S : Type 0} (rename : R → S) (m : Market R) (n : Market S) (g : Li
   turn-alike user [] left given made p = kept-none made p
   turn-alike user (i ∷ is) left given made p =
       let here = from-alike user i is left given made p (waits m user made i) (given && nat_lt left (wants_of m i)) (m.find made i) refl refl
-          (turn-alike user is left given made p) (λ rs q. turn-alike user is (left - wants_of m i) true (made ++ offer i rs ∷ []) q) in
+      (turn-alike user is left given made p) (λ rs q. turn-alike user is (left - wants_of m i) true (made ++ offer i rs ∷ []) q) in
       record { same = choices user i is left given made p ∙ here.same; kept = here.kept }
 
   -- ---- a spin
@@ -171,9 +171,9 @@ module _ {R S : Type 0} (rename : R → S) (m : Market R) (n : Market S) (g : Li
       let all = turns-alike (users_of m made) (shares_of m made) made p in
       let ts = turns m (users_of m made) (shares_of m made) made in
       let there : turns n (users_of n (g made)) (shares_of n (g made)) (g made) ≡ renamed_turns ts =
-          ap (λ us. turns n us (shares_of n (g made)) (g made)) (users-same made)
-          ∙ ap (λ ss. turns n (users_of m made) ss (g made)) (shares-same made p)
-          ∙ all.same in
+      ap (λ us. turns n us (shares_of n (g made)) (g made)) (users-same made)
+      ∙ ap (λ ss. turns n (users_of m made) ss (g made)) (shares-same made p)
+      ∙ all.same in
       record {
         same =
             ap (λ f. let s : PlainSpin S = record { free = f; turns = filter has_offer (turns n (users_of n (g made)) (shares_of n (g made)) (g made)) } in s) (alike.free made p)

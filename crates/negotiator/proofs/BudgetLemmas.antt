@@ -1,10 +1,8 @@
 -- What is left to be counted: a mark or an offer takes away what one search may count.
-use Rattle.std.proofs.Common.{◌≡◌, ◌≢◌, ◌≤◌, ◌<◌, ◌+◌, ◌*◌, ◌==◌, ℕ, zero, suc, Bool, true, false, not, ◌&&◌, cond, eqb, if◌then◌else◌, List, [], ◌∷◌, filter, length, map, get_or, set, replicate, slice_get, sum_by, sum, Option, None, Some, refl, ap, sym, ◌∙◌, subst, arith, zero-le, add-zero, zero-add, mul-add, mul-zero, eq-eqb, ◌⊎◌, inl, inr, get_or-set_same, get_or-set_other}
-use Rattle.std.specs.Prelude.{option_map}
+use Rattle.std.proofs.Common.{◌≡◌, ◌≤◌, ◌<◌, ◌+◌, ◌*◌, ◌==◌, ℕ, zero, suc, Bool, true, false, not, ◌&&◌, cond, if◌then◌else◌, List, [], ◌∷◌, filter, length, map, get_or, set, replicate, slice_get, sum_by, Option, None, Some, refl, ap, sym, ◌∙◌, subst, arith, zero-le, add-zero, zero-add, mul-add, mul-zero, eq-eqb, ◌⊎◌, inl, inr, get_or-set_same, get_or-set_other}
 use Rattle.std.specs.List.{range_with_len}
 use Rattle.std.specs.Option.{option_map_or}
 use Rattle.std.proofs.lemmas.Bool.{cases_eq}
-use Rattle.std.proofs.lemmas.List.{get_or-replicate, get_or_past, length-replicate}
 use Rattle.std.proofs.lemmas.List.Sums.{sum_by-cons}
 use Rattle.ad_tree.specs.declared.request.Request.{Request}
 use Rattle.ad_store.specs.Stock.{Stock}
@@ -14,7 +12,7 @@ use Rattle.claim_table.specs.Jobs.{with_standing}
 use Rattle.negotiator.specs.Budget.{ArePaid, AreWithin, Counts, IsSearched, budget, due, entries_for, evaluations_for, is_idle_at, is_marked, left_for, looks_for, open_for, over_idle, price_at}
 use Rattle.negotiator.specs.Markets.{is_idle}
 use Rattle.negotiator.proofs.JobLemmas.{entries-later, evaluations-later, idle-later, later, length-later, requests-later}
-use Rattle.negotiator.proofs.SumLemmas.{sum-falls, sum-less}
+use Rattle.negotiator.proofs.SumLemmas.{sum-falls}
 
 -- ---- one term
 
@@ -59,7 +57,7 @@ module _ (price : List Job → Request → ℕ) where
   mark-pays jobs failed i place within =
       sum-falls (due price jobs failed) (due price jobs (set failed i true)) i (due price jobs failed i)
       (λ k other. less (is_idle_at jobs k && not (is_marked failed k)) (is_idle_at jobs k && not (is_marked (set failed i true) k)) (price_at price jobs k) (price_at price jobs k)
-          (and-less (is_idle_at jobs k) (is_idle_at jobs k) (is_marked failed k) (is_marked (set failed i true) k) (λ e. e) (marked-set failed i k within)) (omega arith))
+      (and-less (is_idle_at jobs k) (is_idle_at jobs k) (is_marked failed k) (is_marked (set failed i true) k) (λ e. e) (marked-set failed i k within)) (omega arith))
       (let gone = gone_at (is_idle_at jobs i) (price_at price jobs i) (is_marked (set failed i true) i) (get_or-set_same failed i true false within) in omega (arith, gone))
       0 (length jobs) (omega arith) (omega (arith, place))
     where
@@ -73,10 +71,10 @@ module _ (price : List Job → Request → ℕ) where
       → budget price (later jobs i slots idle) failed + due price jobs failed i ≤ budget price jobs failed
   offer-pays jobs failed i slots idle law =
       let falls = sum-falls (due price jobs failed) (due price (later jobs i slots idle) failed) i (due price jobs failed i)
-          (λ k other. less (is_idle_at jobs k && not (is_marked failed k)) (is_idle_at (later jobs i slots idle) k && not (is_marked failed k)) (price_at price jobs k) (price_at price (later jobs i slots idle) k)
-              (and-less (is_idle_at jobs k) (is_idle_at (later jobs i slots idle) k) (is_marked failed k) (is_marked failed k) (λ e. was_idle (is_idle_at jobs k) (i == k) (sym (idle-later jobs i slots idle k) ∙ e)) (λ e. e)) (price-less k))
-          (let gone = gone_at (is_idle_at (later jobs i slots idle) i) (price_at price (later jobs i slots idle) i) (is_marked failed i) (not_idle (is_idle_at jobs i) (idle-later jobs i slots idle i)) in omega (arith, gone))
-          0 (length jobs) (omega arith) (let within = idle-within jobs i idle in omega (arith, within)) in
+      (λ k other. less (is_idle_at jobs k && not (is_marked failed k)) (is_idle_at (later jobs i slots idle) k && not (is_marked failed k)) (price_at price jobs k) (price_at price (later jobs i slots idle) k)
+      (and-less (is_idle_at jobs k) (is_idle_at (later jobs i slots idle) k) (is_marked failed k) (is_marked failed k) (λ e. was_idle (is_idle_at jobs k) (i == k) (sym (idle-later jobs i slots idle k) ∙ e)) (λ e. e)) (price-less k))
+      (let gone = gone_at (is_idle_at (later jobs i slots idle) i) (price_at price (later jobs i slots idle) i) (is_marked failed i) (not_idle (is_idle_at jobs i) (idle-later jobs i slots idle i)) in omega (arith, gone))
+      0 (length jobs) (omega arith) (let within = idle-within jobs i idle in omega (arith, within)) in
       let size = ap (λ n. sum_by (due price (later jobs i slots idle) failed) (range_with_len 0 n)) (length-later jobs i slots idle) in
       omega (arith, falls, size)
     where
@@ -192,10 +190,10 @@ pub budget-start : (price : List Job → Request → ℕ) (jobs : List Job) (fai
 budget-start price jobs failed none =
     sum-places (λ (job : Job). if is_idle job.standing then price jobs job.request else 0) (due price jobs failed) 0 jobs
     (λ k job at.
-        ap (due price jobs failed) (zero-add k)
-        ∙ ap (λ b. if is_idle_at jobs k && not b then price_at price jobs k else 0) (none k)
-        ∙ ap (λ o. if option_map_or (λ (job : Job). is_idle job.standing) o false && true then option_map_or (λ (job : Job). price jobs job.request) o 0 else 0) at
-        ∙ same (is_idle job.standing) (price jobs job.request))
+    ap (due price jobs failed) (zero-add k)
+    ∙ ap (λ b. if is_idle_at jobs k && not b then price_at price jobs k else 0) (none k)
+    ∙ ap (λ o. if option_map_or (λ (job : Job). is_idle job.standing) o false && true then option_map_or (λ (job : Job). price jobs job.request) o 0 else 0) at
+    ∙ same (is_idle job.standing) (price jobs job.request))
     ∙ sym (sum-filter (λ (job : Job). price jobs job.request) (λ (job : Job). is_idle job.standing) jobs)
   where
     same : (b : Bool) (n : ℕ) → (if b && true then n else 0) ≡ (if b then n else 0)

@@ -1,12 +1,10 @@
 -- Turns, spins and cycles of any market, step by step.
-use Rattle.std.proofs.Common.{◌≡◌, ◌≤◌, ◌<◌, ◌+◌, ◌-◌, ◌==◌, ℕ, zero, suc, Bool, true, false, not, ◌&&◌, ◌||◌, nat_lt, cond, if◌then◌else◌, List, [], ◌∷◌, ◌++◌, filter, length, flat_map, map, count_by, slice_get, Option, None, Some, refl, ap, sym, ◌∙◌, subst, arith, append_assoc, eq-eqb}
-use Rattle.std.specs.List.{list_any, range_with_len}
+use Rattle.std.proofs.Common.{◌≡◌, ◌≤◌, ◌<◌, ◌+◌, ◌-◌, ◌==◌, ℕ, zero, suc, Bool, true, false, not, ◌&&◌, ◌||◌, nat_lt, cond, if◌then◌else◌, List, [], ◌∷◌, ◌++◌, filter, length, slice_get, Option, None, Some, refl, ap, sym, ◌∙◌, subst, arith, append_assoc, eq-eqb}
+use Rattle.std.specs.List.{list_any}
 use Rattle.std.specs.Option.{option_map_or}
-use Rattle.std.proofs.lemmas.Bool.{eqb-true}
 use Rattle.std.proofs.lemmas.List.{append-nil, length-append}
-use Rattle.std.proofs.lemmas.List.Sums.{sum_by-cons}
-use Rattle.negotiator.specs.Cycle.{Market, Offer, PlainSpin, PlainTurn, Waiting, cycle_from, has_offer, is_empty, is_given, is_of, is_waiting, offers_in, offers_of, places, shares_of, spin, spins_within, turn, turns, users_of, waiting_count, waits, wants_of}
-use Rattle.negotiator.proofs.SumLemmas.{sum-falls, sum-less}
+use Rattle.negotiator.specs.Cycle.{Market, Offer, PlainSpin, PlainTurn, Waiting, cycle_from, has_offer, is_empty, is_given, is_of, is_waiting, offers_in, places, shares_of, spin, spins_within, turn, turns, users_of, waiting_count, waits, wants_of}
+use Rattle.negotiator.proofs.SumLemmas.{sum-falls}
 
 -- ---- choices
 
@@ -61,11 +59,11 @@ module _ {R : Type 0} (market : Market R) (user : List ℕ) (i : ℕ) (is : List
   from waiting ended resources =
       if waiting
       then (if ended
-            then []
-            else option_map_or
-                 (λ rs. offer i rs ∷ turn market user is (left - wants_of market i) true (made ++ offer i rs ∷ []))
-                 resources
-                 (turn market user is left given made))
+      then []
+      else option_map_or
+      (λ rs. offer i rs ∷ turn market user is (left - wants_of market i) true (made ++ offer i rs ∷ []))
+      resources
+      (turn market user is left given made))
       else turn market user is left given made
 
   pub turn-skips : waits market user made i ≡ false → turn market user (i ∷ is) left given made ≡ turn market user is left given made
@@ -87,7 +85,7 @@ module _ {R : Type 0} (market : Market R) (user : List ℕ) (P : List ℕ → �
     (skips : (i : ℕ) (is : List ℕ) (left : ℕ) (given : Bool) (made rest : List (Offer R)) → P is left given made rest → P (i ∷ is) left given made rest)
     (ends : (i : ℕ) (is : List ℕ) (left : ℕ) (given : Bool) (made : List (Offer R)) → P (i ∷ is) left given made [])
     (finds : (i : ℕ) (is : List ℕ) (left : ℕ) (given : Bool) (made rest : List (Offer R)) (rs : List R) → waits market user made i ≡ true → market.find made i ≡ Some rs
-        → P is (left - wants_of market i) true (made ++ offer i rs ∷ []) rest → P (i ∷ is) left given made (offer i rs ∷ rest)) where
+    → P is (left - wants_of market i) true (made ++ offer i rs ∷ []) rest → P (i ∷ is) left given made (offer i rs ∷ rest)) where
   pub turn-by : (is : List ℕ) (left : ℕ) (given : Bool) (made : List (Offer R)) → P is left given made (turn market user is left given made)
   turn-by [] left given made = none left given made
   turn-by (i ∷ is) left given made = by (waits market user made i) refl (given && nat_lt left (wants_of market i)) (market.find made i) refl (turn-by is left given made) (λ rs. turn-by is (left - wants_of market i) true (made ++ offer i rs ∷ []))
@@ -148,8 +146,8 @@ module _ {R : Type 0} (market : Market R) where
       sum-falls (λ j. cond (is_waiting market made j) 1 0) (λ j. cond (is_waiting market (made ++ offer i rs ∷ []) j) 1 0) i 1
       (λ j other. one-less made i rs j)
       (let none = ap as_count (one-given made i rs) in
-       let one = ap as_count w in
-       omega (arith, none, one))
+      let one = ap as_count w in
+      omega (arith, none, one))
       0 (length market.jobs) (omega arith)
       (let within = within-from (λ job. job.is_idle) market.jobs i ((and-true (idle i) (not (is_given made i)) w).0) in omega (arith, within))
 
@@ -167,9 +165,9 @@ module _ {R : Type 0} (market : Market R) where
       (λ i is left given made rest h. h)
       (λ i is left given made. none-fewer made)
       (λ i is left given made rest rs w f h.
-          let one = one-fewer made i rs ((waits-is user made i w).1) in
-          let moved : waiting_count market (made ++ offer i rs ∷ [] ++ rest) ≡ waiting_count market (made ++ offer i rs ∷ rest) = ap (waiting_count market) (append_assoc made (offer i rs ∷ []) rest) in
-          omega (arith, one, h, moved))
+      let one = one-fewer made i rs ((waits-is user made i w).1) in
+      let moved : waiting_count market (made ++ offer i rs ∷ [] ++ rest) ≡ waiting_count market (made ++ offer i rs ∷ rest) = ap (waiting_count market) (append_assoc made (offer i rs ∷ []) rest) in
+      omega (arith, one, h, moved))
 
   pub turns-fewer : (users : List (List ℕ)) (slices : List ℕ) (made : List (Offer R)) → Fewer made (offers_in (turns market users slices made))
   turns-fewer [] slices made = none-fewer made

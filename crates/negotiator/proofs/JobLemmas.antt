@@ -1,7 +1,7 @@
 -- Jobs, and the pool that they see, once one more offer is made.
-use Rattle.std.proofs.Common.{◌≡◌, ◌≢◌, ◌≤◌, ◌<◌, ◌+◌, ◌*◌, ◌==◌, ℕ, zero, suc, Bool, true, false, not, ◌&&◌, ◌||◌, cond, eqb, if◌then◌else◌, All, List, [], ◌∷◌, ◌++◌, length, map, filter, position, slice_get, slice_set, sum_by, Option, None, Some, is_some, ltb, refl, ap, sym, ◌∙◌, subst, arith, zero-le, eq-eqb}
+use Rattle.std.proofs.Common.{◌≡◌, ◌≤◌, ◌+◌, ◌==◌, ℕ, zero, suc, Bool, true, false, not, ◌&&◌, ◌||◌, cond, eqb, All, List, [], ◌∷◌, length, map, position, slice_get, slice_set, Option, None, Some, is_some, ltb, refl, ap, sym, ◌∙◌, subst, arith}
 use Rattle.std.specs.Prelude.{option_and_then, option_map}
-use Rattle.std.specs.List.{list_any, position_or_len, prefix_len, range_with_len}
+use Rattle.std.specs.List.{list_any, position_or_len}
 use Rattle.std.specs.Option.{option_map_or}
 use Rattle.std.proofs.lemmas.Bool.Decides.{nat_tests}
 use Rattle.std.proofs.lemmas.List.Elements.{All-cons, All-head, All-nil, All-tail}
@@ -18,9 +18,9 @@ use Rattle.bilateral_match.proofs.OfferLemmas.{fewer-entered, fewer-open, none-l
 use Rattle.claim_table.specs.declared.job.Job.{Job}
 use Rattle.claim_table.specs.declared.job.Standing.{Standing}
 use Rattle.claim_table.specs.Holders.{holder_of, holding_in}
-use Rattle.claim_table.specs.Jobs.{claim_of, claimed_by, lists, offer_of, offered_to, wanted, with_standing}
+use Rattle.claim_table.specs.Jobs.{claim_of, claimed_by, lists, offer_of, offered_to, with_standing}
 use Rattle.claim_table.proofs.ListLemmas.{map-set_same, position-map}
-use Rattle.negotiator.specs.Budget.{entries_for, evaluations_for, is_idle_at, looks_for, price_at}
+use Rattle.negotiator.specs.Budget.{entries_for, evaluations_for, is_idle_at}
 use Rattle.negotiator.specs.Markets.{found, found_for, is_idle, pool_for}
 
 -- ---- a job that is idle

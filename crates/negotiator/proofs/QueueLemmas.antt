@@ -1,9 +1,8 @@
 -- Queues of users in order: how a place is added, and what they hold once all jobs are added.
-use Rattle.std.proofs.Common.{◌≡◌, ◌≢◌, ◌<◌, ◌≤◌, ◌+◌, ℕ, zero, suc, Bool, true, false, cond, List, [], ◌∷◌, ◌++◌, All, filter, fold, length, map, get_or, set, take, bytes_eq, Less, Equal, Greater, refl, ap, sym, ◌∙◌, ◌||◌, subst, arith, add-zero, zero-add}
-use Rattle.std.specs.Prelude.{insert, slice_get, Some, None, Option}
+use Rattle.std.proofs.Common.{◌≡◌, ◌≢◌, ◌<◌, ◌≤◌, ◌+◌, ℕ, zero, suc, Bool, true, false, cond, List, [], ◌∷◌, ◌++◌, All, filter, length, map, get_or, set, take, bytes_eq, Less, Equal, Greater, refl, ap, sym, ◌∙◌, ◌||◌, subst, arith, add-zero, zero-add}
+use Rattle.std.specs.Prelude.{insert, slice_get, Some}
 use Rattle.std.specs.BTreeSet.{insert_key}
 use Rattle.std.specs.Cmp.Lexicographic.{slice_cmp}
-use Rattle.std.specs.Cmp.{IsTotalOrder}
 use Rattle.std.specs.List.{AllByRecursion, AllWithin, list_any, range_with_len}
 use Rattle.std.specs.List.Sorted.{IsNonDecreasingBy, IsSortedBy, IsStrictlySortedBy}
 use Rattle.std.specs.Option.{option_map_or}
@@ -91,9 +90,9 @@ module _ (priority : List ℕ → ℕ) (user : List ℕ) (place : ℕ) where
     by-key j d low high =
         let less = Less-from_sorted order (users queues) j (j + 1) d.user sorted (omega arith) (omega (arith, high, length-users queues)) in
         let one : order (get_or queues j d).user (get_or queues (j + 1) d).user ≡ Less =
-            ap (λ x. order x (get_or queues (j + 1) d).user) (sym (user-at queues j d (omega (arith, high))))
-            ∙ ap (order (get_or (users queues) j d.user)) (sym (user-at queues (j + 1) d high))
-            ∙ less in
+        ap (λ x. order x (get_or queues (j + 1) d).user) (sym (user-at queues j d (omega (arith, high))))
+        ∙ ap (order (get_or (users queues) j d.user)) (sym (user-at queues (j + 1) d high))
+        ∙ less in
         ap is_lt (turned (get_or queues j d).user (get_or queues (j + 1) d).user Less Greater one refl)
 
     pub searchable : IsNonDecreasingBy (λ q. ordering_index (by-number q)) queues
@@ -283,7 +282,7 @@ module _ (market : Market ℕ) where
       fresh : list_any (bytes_eq user) (map (λ (q : Queue). q.user) queues) ≡ false → n ∷ [] ≡ filter (is_of market user) (range_with_len 0 (n + 1))
       fresh none =
           let all : list_any (λ (job : Waiting). bytes_eq user job.user) (take n market.jobs) || false ≡ false =
-              sym (from-among market.priority user [] (take n market.jobs)) ∙ ap (list_any (bytes_eq user)) (sym so_far.users) ∙ none in
+          sym (from-among market.priority user [] (take n market.jobs)) ∙ ap (list_any (bytes_eq user)) (sym so_far.users) ∙ none in
           let each = none-before (λ (job : Waiting). bytes_eq user job.user) market.jobs n ((or-false (list_any (λ (job : Waiting). bytes_eq user job.user) (take n market.jobs)) false all).0) in
           sym (more user true (same-bytes market.priority user user refl)
           ∙ ap (λ l. l ++ n ∷ []) (filter-none (is_of market user) 0 n (λ j low high. each j (omega (arith, high)))))

@@ -1,8 +1,8 @@
 -- The market of a pool once some offers are made, and the market of jobs that stand so.
-use Rattle.std.proofs.Common.{◌≡◌, ◌+◌, ◌==◌, ℕ, zero, suc, Bool, true, false, not, ◌&&◌, ◌||◌, cond, eqb, List, [], ◌∷◌, ◌++◌, All, filter, fold, get_or, length, map, slice_get, slice_set, Option, None, Some, bytes_eq, refl, ap, sym, ◌∙◌, subst, arith, append_assoc}
+use Rattle.std.proofs.Common.{◌≡◌, ◌==◌, ℕ, zero, suc, Bool, true, false, not, ◌&&◌, ◌||◌, List, [], ◌∷◌, ◌++◌, All, filter, fold, get_or, length, map, slice_get, slice_set, Option, None, Some, bytes_eq, refl, ap, sym, ◌∙◌, arith, append_assoc}
 use Rattle.std.specs.Prelude.{option_map}
 use Rattle.std.specs.BTreeSet.{insert_key}
-use Rattle.std.specs.List.{list_any, range_with_len}
+use Rattle.std.specs.List.{range_with_len}
 use Rattle.std.specs.Option.{option_map_or}
 use Rattle.std.proofs.lemmas.Bool.Decides.{nat_tests}
 use Rattle.std.proofs.lemmas.List.{append-nil, length-map, map-id}
@@ -15,13 +15,13 @@ use Rattle.claim_table.proofs.ListLemmas.{map-set_same}
 use Rattle.negotiator.specs.declared.queues.Queue.{Queue}
 use Rattle.negotiator.specs.Budget.{is_idle_at}
 use Rattle.negotiator.specs.Cycle.{Market, Offer, PlainSpin, PlainTurn, Waiting, all_users, is_given, is_of, is_waiting, places, spin, turn, user_order, waiting_count, wants_of}
-use Rattle.negotiator.specs.Mapped.{offer_mapped, spin_mapped, turn_mapped}
+use Rattle.negotiator.specs.Mapped.{offer_mapped, turn_mapped}
 use Rattle.negotiator.specs.Markets.{found, free_among, is_idle, market_of, waiting_of, with_offers}
 use Rattle.negotiator.specs.Priorities.{Setting, priority_of}
 use Rattle.negotiator.specs.Queues.{AreQueues}
 use Rattle.negotiator.proofs.AlikeLemmas.{IsAlike, count-same, filter-same, spin-alike, turn-alike}
 use Rattle.negotiator.proofs.CycleLemmas.{any-append}
-use Rattle.negotiator.proofs.JobLemmas.{get-map, idle-set}
+use Rattle.negotiator.proofs.JobLemmas.{idle-set}
 
 -- ---- what offers keep
 

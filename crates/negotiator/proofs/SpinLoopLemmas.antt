@@ -1,5 +1,5 @@
 -- The turns of a spin, and the spins of a cycle, as they run.
-use Rattle.std.proofs.Common.{◌≡◌, ◌≤◌, ◌<◌, ◌+◌, ◌^◌, ℕ, zero, suc, Bool, true, false, not, cond, if◌then◌else◌, List, [], ◌∷◌, ◌++◌, All, filter, length, map, drop, get_or, slice_get, flat_map, sum, refl, ap, sym, ◌∙◌, subst, arith, Result, Ok, Err, OnErr, append_assoc}
+use Rattle.std.proofs.Common.{◌≡◌, ◌≤◌, ◌<◌, ◌+◌, ◌^◌, ℕ, Bool, true, false, not, cond, if◌then◌else◌, List, [], ◌∷◌, ◌++◌, filter, length, map, drop, get_or, slice_get, sum, refl, ap, sym, ◌∙◌, subst, arith, Result, Ok, Err, OnErr, append_assoc}
 use Rattle.std.specs.Option.{option_map_or}
 use Rattle.std.proofs.lemmas.List.{append-nil, drop_all, drop_more, length-map, map-append}
 use Rattle.std.proofs.lemmas.List.Elements.{filter-append}

@@ -1,5 +1,5 @@
 -- What is offered in a cycle is what searches find, and so it is in the store.
-use Rattle.std.proofs.Common.{◌≡◌, ◌≤◌, ◌<◌, ◌+◌, ℕ, zero, suc, Bool, true, false, cond, if◌then◌else◌, List, [], ◌∷◌, ◌++◌, All, Contains, filter, flat_map, get_or, length, map, slice_index, slice_get, Option, None, Some, refl, ap, sym, ◌∙◌, subst, arith}
+use Rattle.std.proofs.Common.{◌≡◌, ◌≤◌, ◌<◌, ◌+◌, ℕ, zero, suc, Bool, true, false, if◌then◌else◌, List, [], ◌∷◌, ◌++◌, All, Contains, length, slice_get, Option, None, Some, sym, subst, arith}
 use Rattle.std.specs.Prelude.{IfSome, option_and_then, option_map}
 use Rattle.std.specs.List.{cons_option}
 use Rattle.std.specs.Ordering.{is_lt}
@@ -12,10 +12,10 @@ use Rattle.ad_store.specs.declared.store.Store.{Store}
 use Rattle.ad_store.specs.Stock.{Advert, Stock}
 use Rattle.ad_store.specs.Store.{stock_of}
 use Rattle.bilateral_match.specs.declared.member.Member.{Member}
-use Rattle.bilateral_match.specs.Members.{as_member, best, best_slot, earlier, first_of, is_member, member_order, members, members_from}
+use Rattle.bilateral_match.specs.Members.{as_member, best, earlier, first_of, is_member, member_order, members, members_from}
 use Rattle.bilateral_match.specs.Pool.{Pool, slot_at}
 use Rattle.claim_table.specs.declared.job.Job.{Job}
-use Rattle.negotiator.specs.Cycle.{Market, Offer, PlainSpin, PlainTurn, cycle_of, has_offer, is_empty, offers_in, offers_of, places, shares_of, spin, spins_within, turn, turns, users_of, waiting_count, waits}
+use Rattle.negotiator.specs.Cycle.{Market, Offer, cycle_of, is_empty, offers_in, offers_of, places, shares_of, spin, spins_within, turn, turns, users_of, waiting_count}
 use Rattle.negotiator.specs.Markets.{found, found_for, market_of, pool_for, with_offers}
 use Rattle.negotiator.specs.Priorities.{Setting}
 use Rattle.negotiator.proofs.CycleLemmas.{offer, offers-kept, turn-by}

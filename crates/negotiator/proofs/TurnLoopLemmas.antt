@@ -1,5 +1,5 @@
 -- A user's turn, job by job, as it runs.
-use Rattle.std.proofs.Common.{◌≡◌, ◌≤◌, ◌<◌, ◌+◌, ◌-◌, ◌==◌, ℕ, zero, suc, Bool, true, false, not, ◌&&◌, nat_lt, List, [], ◌∷◌, ◌++◌, All, filter, length, map, drop, get_or, slice_get, bytes_eq, cond, unwrap_or, Option, None, Some, refl, ap, sym, ◌∙◌, subst, arith, ◌⊎◌, inl, inr, append_assoc}
+use Rattle.std.proofs.Common.{◌≡◌, ◌≤◌, ◌<◌, ◌+◌, ◌-◌, ℕ, zero, suc, Bool, true, false, ◌&&◌, nat_lt, List, [], ◌∷◌, ◌++◌, filter, length, map, drop, get_or, slice_get, bytes_eq, cond, unwrap_or, Option, None, Some, refl, ap, sym, ◌∙◌, subst, arith, ◌⊎◌, inl, inr, append_assoc}
 use Rattle.std.specs.Prelude.{option_map}
 use Rattle.std.specs.Option.{option_map_or}
 use Rattle.std.proofs.lemmas.Bool.Decides.{nat_tests}
@@ -222,7 +222,7 @@ module _ (scene : Scene) (began : List Job) where
               tried-some wants wants_is later_offers pushed later_left less later_failed after ready paid =
                   subst (λ (n : ℕ). TurnLoop user is slice marks before (k + 1) n true later_offers later later_failed after) (sym less)
                   (turn-some answer.slots is_it.0 wants wants_is answer is_it.1 later_offers pushed later_failed later after (table-of (Some answer.slots) is_it.0) ready
-                    (paid-on scene.moment (stock_in scene) began jobs later marks failed later_failed before now after loop.paid paid))
+                  (paid-on scene.moment (stock_in scene) began jobs later marks failed later_failed before now after loop.paid paid))
 
   -- over the user's own places
   pub own-turn : (user : List ℕ) (is : List ℕ) (slice : ℕ) → is ≡ filter (is_of m user) (places m.jobs) → turn m user is slice false [] ≡ turn m user (places m.jobs) slice false []

@@ -1,5 +1,5 @@
 -- The users in order: each once, and those that have a job that waits.
-use Rattle.std.proofs.Common.{◌≡◌, ◌<◌, ◌≤◌, ◌+◌, ℕ, zero, suc, Bool, true, false, not, ◌&&◌, ◌||◌, cond, List, [], ◌∷◌, ◌++◌, filter, fold, length, take, bytes_eq, Less, Equal, Greater, refl, ap, sym, ◌∙◌, subst, arith}
+use Rattle.std.proofs.Common.{◌≡◌, ℕ, zero, suc, Bool, true, false, ◌&&◌, ◌||◌, cond, List, [], ◌∷◌, filter, fold, bytes_eq, Less, Equal, Greater, refl, ap, sym, ◌∙◌}
 use Rattle.std.specs.BTreeSet.{insert_key}
 use Rattle.std.specs.Cmp.{IsTotalOrder}
 use Rattle.std.specs.Cmp.Lexicographic.{slice_cmp}
@@ -10,7 +10,6 @@ use Rattle.std.specs.Prelude.{slice_get}
 use Rattle.std.specs.Ordering.{match_ordering, nat_cmp, ordering_reverse, ordering_then}
 use Rattle.std.specs.declared.cmp.Ordering.{Ordering}
 use Rattle.std.proofs.lemmas.Cmp.{nat_cmp_total, nat_list_cmp_total, on_total, then_total}
-use Rattle.std.proofs.lemmas.Map.Keys.{sorted_head, sorted_tail}
 use Rattle.std.proofs.lemmas.Map.Lookups.{exact_bytes}
 use Rattle.std.proofs.lemmas.Slice.Eq.{bytes_eq-Decides}
 use Rattle.negotiator.specs.Cycle.{Market, Offer, Waiting, all_users, is_waiting, places, user_order, users_of, waits}
@@ -87,7 +86,6 @@ module _ (priority : List ℕ → ℕ) where
   insert-among user [] new = refl
   insert-among user (other ∷ users) new = by (user_order priority new other) refl (insert-among user users new)
     where
-
       turn-round : (a b c : Bool) → a || (b || c) ≡ b || (a || c)
       turn-round true true c = refl
       turn-round true false c = refl

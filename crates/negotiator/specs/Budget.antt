@@ -1,5 +1,5 @@
 -- How much the searches of a cycle may count, where each job is searched for at most once.
-use Rattle.std.specs.Prelude.{◌≡◌, ℕ, ◌+◌, ◌*◌, ◌≤◌, Bool, true, false, not, ◌&&◌, List, [], filter, length, slice_get, slice_index_or, sum_by, Option, None, if◌then◌else◌}
+use Rattle.std.specs.Prelude.{◌≡◌, ℕ, ◌+◌, ◌*◌, ◌≤◌, Bool, true, false, not, ◌&&◌, List, [], filter, length, slice_get, slice_index_or, sum_by, None, if◌then◌else◌}
 use Rattle.std.specs.List.{range_with_len}
 use Rattle.std.specs.Option.{option_map_or}
 use Rattle.ad_tree.specs.Ad.{ad_frames}

@@ -86,11 +86,11 @@ module _ {R : Type 0} (market : Market R) where
   turn user (i ∷ is) left given made =
       if waits user made i
       then (if given && nat_lt left (wants_of i)
-            then []
-            else option_map_or
-                 (λ resources. record { job = i; resources = resources } ∷ turn user is (left - wants_of i) true (made ++ record { job = i; resources = resources } ∷ []))
-                 (market.find made i)
-                 (turn user is left given made))
+      then []
+      else option_map_or
+      (λ resources. record { job = i; resources = resources } ∷ turn user is (left - wants_of i) true (made ++ record { job = i; resources = resources } ∷ []))
+      (market.find made i)
+      (turn user is left given made))
       else turn user is left given made
 
   -- the turns of users with these slices, one behind the other

@@ -1,5 +1,5 @@
 -- Offers, turns and spins with other names for the resources.
-use Rattle.std.specs.Prelude.{List, map}
+use Rattle.std.specs.Prelude.{map}
 use Rattle.negotiator.specs.Cycle.{Offer, PlainSpin, PlainTurn}
 
 module _ {R S : Type 0} (rename : R → S) where

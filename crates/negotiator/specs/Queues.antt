@@ -1,5 +1,5 @@
 -- The jobs of each user, as a cycle keeps them.
-use Rattle.std.specs.Prelude.{◌≡◌, ℕ, ◌<◌, List, [], ◌∷◌, ◌++◌, All, filter, map}
+use Rattle.std.specs.Prelude.{◌≡◌, ℕ, List, [], ◌∷◌, ◌++◌, All, filter, map}
 use Rattle.std.specs.Ordering.{match_ordering}
 use Rattle.negotiator.specs.declared.queues.Queue.{Queue}
 use Rattle.negotiator.specs.Cycle.{Market, all_users, is_of, places, user_order}

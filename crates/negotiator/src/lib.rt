@@ -13,8 +13,7 @@ mod turns;
 
 pub use answers::{Cycle, Offered, OfferedList, PriorityFault, Spin, Turn, Turns};
 pub use laws::{
-    a_cycle_ends_with_the_first_spin_without_an_offer,
-    users_with_a_waiting_job_take_turns_in_order,
+    a_cycle_ends_with_the_first_spin_without_an_offer, users_with_a_waiting_job_take_turns_in_order,
 };
 pub use priorities::Priorities;
 pub use queues::Queue;

@@ -42,9 +42,7 @@ impl Queue {
     fn compare(&self, number: u64, user: &[u8]) -> Ordering
         ensures { result ≡ ordering_then (nat_cmp self.now.number number) (slice_cmp nat_cmp self.now.user user.now) }
     {
-        self.number
-            .cmp(&number)
-            .then(self.user.bytes().cmp(user))
+        self.number.cmp(&number).then(self.user.bytes().cmp(user))
     }
 }
 

@@ -76,15 +76,7 @@ pub fn cycle<F: Ledger, E: Ledger, T: Ledger>(
     };
     let queues = queues_of(&scene, claims)?;
     let mut failed = vec![in alloc; false; claims.len()]?;
-    run_spins(
-        &scene,
-        claims,
-        &queues,
-        &mut failed,
-        tops,
-        entry,
-        touch,
-    )
+    run_spins(&scene, claims, &queues, &mut failed, tops, entry, touch)
 }
 
 // The spins up to and with the first that makes no offer.
@@ -177,11 +169,7 @@ fn is_free_slot(claims: &ClaimTable, slot: usize) -> bool
 }
 
 // The numbers of the queues whose users have an idle job.
-fn active_of(
-    scene: &Scene<'_>,
-    claims: &ClaimTable,
-    queues: &[Queue],
-) -> Result<Slots, OutOfMemory>
+fn active_of(scene: &Scene<'_>, claims: &ClaimTable, queues: &[Queue]) -> Result<Slots, OutOfMemory>
     requires { AreQueues (market_in scene.now (jobs_of claims.now)) queues.now }
     ensures users { IfOk result (λ active. users_at queues.now active ≡ users_of (market_in scene.now (jobs_of claims.now)) []) }
     ensures within { IfOk result (All (λ k. k < length queues.now)) }
@@ -209,11 +197,7 @@ fn has_idle(scene: &Scene<'_>, claims: &ClaimTable, queue: &Queue) -> bool
 }
 
 // The weights of the users of these queues.
-fn weights_of(
-    scene: &Scene<'_>,
-    queues: &[Queue],
-    active: &[usize],
-) -> Result<Slices, OutOfMemory>
+fn weights_of(scene: &Scene<'_>, queues: &[Queue], active: &[usize]) -> Result<Slices, OutOfMemory>
     requires { All (λ k. k < length queues.now) active.now }
     ensures weights { IfOk result (λ weights. weights ≡ map (λ user. weight_of (priority_of user (settings_of scene.now.priorities.now))) (users_at queues.now active.now)) }
     ensures least { IfOk result (All (λ w. 1 ≤ w)) }

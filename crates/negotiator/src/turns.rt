@@ -86,9 +86,7 @@ pub(crate) fn run_turns<F: Ledger, E: Ledger, T: Ledger>(
     let mut turns = Turns::new(scene.alloc);
     for k in 0..active.len() {
         let queue = &queues[active[k]];
-        let offers = run_turn(
-            scene, claims, queue, slices[k], failed, tops, entry, touch,
-        )?;
+        let offers = run_turn(scene, claims, queue, slices[k], failed, tops, entry, touch)?;
         keep(&mut turns, queue, slices[k], offers)?;
     }
     Ok(turns)

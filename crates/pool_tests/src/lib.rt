@@ -1,13 +1,9 @@
-//! Tests of scripts, replies, runs and the claiming protocol.
+//! Tests of runs of the pool.
 #![tactic(auto)]
 
 #[cfg(test)]
 mod crowds;
 #[cfg(test)]
-mod replies;
+mod jobs;
 #[cfg(test)]
 mod runs;
-#[cfg(test)]
-mod scripts;
-#[cfg(test)]
-mod wire;

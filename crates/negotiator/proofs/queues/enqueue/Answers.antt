@@ -1,4 +1,4 @@
-use Rattle.std.proofs.Common.{rules, ℕ, List, sym, ◌∙◌, subst, All, map, ap, ◌<◌, ◌≤◌, ◌≡◌, length, slice_index_or, Equal, Greater, Less}
+use Rattle.std.proofs.Common.{rules, List, sym, ◌∙◌, subst, ◌<◌, ◌≤◌, ◌≡◌, length, slice_index_or, Equal, Greater, Less}
 use Rattle.std.specs.List.{AllWithin}
 use Rattle.std.specs.List.Sorted.{IsNonDecreasingBy}
 use Rattle.std.specs.Ordering.{nat_cmp, ordering_index, ordering_then}
@@ -18,7 +18,7 @@ returns-in_ok-push-in-Ok c =
     c.get-number.result c.get-number.ensures.number c.in-Ok.k c.index_mut.result.now c.push.new.self
     (subst P same c.in-Ok.ensures.bound) c.index_mut.ensures.value
     (subst (λ (qs : List Queue). (d : Queue) → ordering_then (nat_cmp (slice_index_or qs c.in-Ok.k d).number c.get-number.result) (slice_cmp nat_cmp (slice_index_or qs c.in-Ok.k d).user c.args.user.now) ≡ Equal) same
-        (c.in-Ok.ensures.position (λ q. ordering_then (nat_cmp q.number c.get-number.result) (slice_cmp nat_cmp q.user c.args.user.now)) (always_returns_same _ _ _ (λ a r g k. (search rules, search rules)))))
+    (c.in-Ok.ensures.position (λ q. ordering_then (nat_cmp q.number c.get-number.result) (slice_cmp nat_cmp q.user c.args.user.now)) (always_returns_same _ _ _ (λ a r g k. (search rules, search rules)))))
     c.in_ok-push-in-Ok.ensures.ok
 
 pub returns-in_ok-insert-in-Err : goal.returns-in_ok-insert-in-Err
@@ -26,7 +26,7 @@ returns-in_ok-insert-in-Err c =
     let same = c.deref.ensures.value in
     let P : List Queue → Type 0 = λ qs. c.in-Err.k ≤ length qs in
     let Q : List Queue → Type 0 = λ qs. AllWithin (λ q. ordering_then (nat_cmp q.number c.get-number.result) (slice_cmp nat_cmp q.user c.args.user.now) ≡ Less) qs 0 c.in-Err.k
-        × AllWithin (λ q. ordering_then (nat_cmp q.number c.get-number.result) (slice_cmp nat_cmp q.user c.args.user.now) ≡ Greater) qs c.in-Err.k (length qs) in
+    × AllWithin (λ q. ordering_then (nat_cmp q.number c.get-number.result) (slice_cmp nat_cmp q.user c.args.user.now) ≡ Greater) qs c.in-Err.k (length qs) in
     let S : List Queue → Type 0 = λ qs. IsNonDecreasingBy (λ q. ordering_index (ordering_then (nat_cmp q.number c.get-number.result) (slice_cmp nat_cmp q.user c.args.user.now))) qs in
     let parts = c.in-Err.ensures.position (λ q. ordering_then (nat_cmp q.number c.get-number.result) (slice_cmp nat_cmp q.user c.args.user.now)) (always_returns_same _ _ _ (λ a r g k. (search rules, search rules))) in
     let up = searchable (λ u. priority_of u (settings_of c.args.priorities.now)) c.args.user.now c.args.place c.args.queues.now.items c.requires.order c.requires.numbers c.get-number.result c.get-number.ensures.number in

@@ -1,4 +1,4 @@
-use Rattle.std.proofs.Common.{◌≡◌, Some, ap, sym, ◌∙◌}
+use Rattle.std.proofs.Common.{Some, ap, sym, ◌∙◌}
 use Rattle.claim_table.specs.Table.{jobs_of}
 use Rattle.negotiator.proofs.SearchLemmas.{idle-state, is_idle_state, state-by-name}
 use Rattle.negotiator.proofs.search.is_idle.Goals as goal

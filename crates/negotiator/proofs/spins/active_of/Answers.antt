@@ -1,4 +1,4 @@
-use Rattle.std.proofs.Common.{◌≡◌, ◌<◌, List, ℕ, All, ap, arith, filter, length, subst, sym, ◌∙◌}
+use Rattle.std.proofs.Common.{◌≡◌, ◌<◌, ℕ, All, ap, filter, length, subst, sym, ◌∙◌}
 use Rattle.std.proofs.lemmas.List.Elements.{All-nil, All-push}
 use Rattle.claim_table.specs.Table.{jobs_of}
 use Rattle.negotiator.specs.declared.queues.Queue.{Queue}
@@ -26,16 +26,16 @@ loop-k-preserved c =
     let queues = c.args.queues.now in
     elim c.if-has_idle.branch [
       | then-has_idle+in_ok-push w ↦ record {
-          users = active-yes c.args.scene.now.moment (stock_in c.args.scene.now) (settings_of c.args.scene.now.priorities.now) jobs queues c.loop-k.k c.index-queues-k.result c.loop-k-test.true
-              c.loop-k.active c.loop-k.invariant.users c.index-queues-k.is c.has_idle.result c.has_idle.ensures w.if-has_idle.true c.if-has_idle.active (w.active-is ∙ w.in_ok-push.ensures.ok);
-          within = subst (All (λ (k : ℕ). k < length queues)) (sym (w.active-is ∙ w.in_ok-push.ensures.ok))
-              (All-push (λ (k : ℕ). k < length queues) c.loop-k.active c.loop-k.k c.loop-k.invariant.within c.loop-k-test.true);
-        }
+        users = active-yes c.args.scene.now.moment (stock_in c.args.scene.now) (settings_of c.args.scene.now.priorities.now) jobs queues c.loop-k.k c.index-queues-k.result c.loop-k-test.true
+            c.loop-k.active c.loop-k.invariant.users c.index-queues-k.is c.has_idle.result c.has_idle.ensures w.if-has_idle.true c.if-has_idle.active (w.active-is ∙ w.in_ok-push.ensures.ok);
+        within = subst (All (λ (k : ℕ). k < length queues)) (sym (w.active-is ∙ w.in_ok-push.ensures.ok))
+            (All-push (λ (k : ℕ). k < length queues) c.loop-k.active c.loop-k.k c.loop-k.invariant.within c.loop-k-test.true);
+      }
       | else-has_idle w ↦ record {
-          users = ap (users_at queues) w.active-is ∙ active-no c.args.scene.now.moment (stock_in c.args.scene.now) (settings_of c.args.scene.now.priorities.now) jobs queues c.loop-k.k c.index-queues-k.result c.loop-k-test.true
-              c.loop-k.active c.loop-k.invariant.users c.index-queues-k.is c.has_idle.result c.has_idle.ensures w.if-has_idle.false;
-          within = subst (All (λ (k : ℕ). k < length queues)) (sym w.active-is) c.loop-k.invariant.within;
-        }
+        users = ap (users_at queues) w.active-is ∙ active-no c.args.scene.now.moment (stock_in c.args.scene.now) (settings_of c.args.scene.now.priorities.now) jobs queues c.loop-k.k c.index-queues-k.result c.loop-k-test.true
+            c.loop-k.active c.loop-k.invariant.users c.index-queues-k.is c.has_idle.result c.has_idle.ensures w.if-has_idle.false;
+        within = subst (All (λ (k : ℕ). k < length queues)) (sym w.active-is) c.loop-k.invariant.within;
+      }
     ]
 
 pub returns-clause-users : goal.returns-clause-users

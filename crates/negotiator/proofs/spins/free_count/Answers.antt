@@ -16,13 +16,13 @@ loop-i-preserved c =
     let slots = (stock_of c.args.store.now).slots in
     elim c.if-is_free_slot.branch [
       | then-is_free_slot w ↦ record {
-          free = w.free-is ∙ ap (λ (n : ℕ). n + 1) c.loop-i.invariant.free ∙ sym (free-one jobs slots c.loop-i.i c.at.result c.at.ensures.place (sym c.is_free_slot.ensures ∙ w.if-is_free_slot.true));
-          few = omega (arith, w.free-is, c.loop-i.invariant.few);
-        }
+        free = w.free-is ∙ ap (λ (n : ℕ). n + 1) c.loop-i.invariant.free ∙ sym (free-one jobs slots c.loop-i.i c.at.result c.at.ensures.place (sym c.is_free_slot.ensures ∙ w.if-is_free_slot.true));
+        few = omega (arith, w.free-is, c.loop-i.invariant.few);
+      }
       | else-is_free_slot w ↦ record {
-          free = w.free-is ∙ c.loop-i.invariant.free ∙ sym (free-none jobs slots c.loop-i.i c.at.result c.at.ensures.place (sym c.is_free_slot.ensures ∙ w.if-is_free_slot.false));
-          few = omega (arith, w.free-is, c.loop-i.invariant.few);
-        }
+        free = w.free-is ∙ c.loop-i.invariant.free ∙ sym (free-none jobs slots c.loop-i.i c.at.result c.at.ensures.place (sym c.is_free_slot.ensures ∙ w.if-is_free_slot.false));
+        few = omega (arith, w.free-is, c.loop-i.invariant.few);
+      }
     ]
 
 pub returns-clause-free : goal.returns-clause-free

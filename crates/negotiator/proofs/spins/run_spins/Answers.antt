@@ -1,8 +1,8 @@
-use Rattle.std.proofs.Common.{◌≡◌, ◌<◌, List, arith, length, subst, sym, ◌∙◌}
+use Rattle.std.proofs.Common.{List, arith, subst, sym, ◌∙◌}
 use Rattle.claim_table.specs.Table.{jobs_of}
 use Rattle.negotiator.specs.declared.answers.Spin.{Spin}
 use Rattle.negotiator.specs.Budget.{counts}
-use Rattle.negotiator.specs.Scenes.{market_in, stock_in}
+use Rattle.negotiator.specs.Scenes.{stock_in}
 use Rattle.negotiator.proofs.BudgetLemmas.{paid-none, paid-on, paid-within, within-on}
 use Rattle.negotiator.proofs.SpinLoopLemmas.{SpinsLoop, on_err, queues-here, spins-fewer, spins-list, spins-more, spins-start, spins-stopped, spins-stopped-behind, spins-table}
 use Rattle.negotiator.proofs.spins.run_spins.Goals as goal

@@ -24,14 +24,14 @@ loop-k-preserved c = record {
   weights = weights-more (settings_of c.args.scene.now.priorities.now) c.args.queues.now c.args.active.now c.loop-k.k-index _ c.get-number.result c.weight.result c.index-queues-k.result c.loop-k.weights c.push.new.self
       c.loop-k-test.true refl (c.requires c.loop-k.k-index 0 c.loop-k-test.true) c.index-queues-k.is
       (c.get-number.ensures.number ∙ ap (λ (u : List ℕ). priority_of u (settings_of c.args.scene.now.priorities.now)) c.bytes.ensures
-        ∙ ap (λ (q : Queue). priority_of q.user (settings_of c.args.scene.now.priorities.now)) (sym c.index-queues-k.is))
+      ∙ ap (λ (q : Queue). priority_of q.user (settings_of c.args.scene.now.priorities.now)) (sym c.index-queues-k.is))
       c.weight.ensures c.loop-k.invariant.weights c.in_ok-push.ensures.ok;
   least = subst (All (λ (w : ℕ). 1 ≤ w)) (sym c.in_ok-push.ensures.ok)
       (All-push (λ (w : ℕ). 1 ≤ w) c.loop-k.weights c.weight.result c.loop-k.invariant.least
-        (subst (λ (w : ℕ). 1 ≤ w) (sym c.weight.ensures) (weight-least c.get-number.result c.get-number.ensures.least (omega (arith, c.get-number.ensures.most)))));
+      (subst (λ (w : ℕ). 1 ≤ w) (sym c.weight.ensures) (weight-least c.get-number.result c.get-number.ensures.least (omega (arith, c.get-number.ensures.most)))));
   most = subst (All (λ (w : ℕ). w ≤ 10 ^ 12)) (sym c.in_ok-push.ensures.ok)
       (All-push (λ (w : ℕ). w ≤ 10 ^ 12) c.loop-k.weights c.weight.result c.loop-k.invariant.most
-        (subst (λ (w : ℕ). w ≤ 10 ^ 12) (sym c.weight.ensures) (weight-most c.get-number.result c.get-number.ensures.least)));
+      (subst (λ (w : ℕ). w ≤ 10 ^ 12) (sym c.weight.ensures) (weight-most c.get-number.result c.get-number.ensures.least)));
 }
 
 pub returns-clause-weights : goal.returns-clause-weights

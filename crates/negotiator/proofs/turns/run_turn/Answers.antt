@@ -1,4 +1,4 @@
-use Rattle.std.proofs.Common.{◌≡◌, ◌<◌, List, ℕ, ap, arith, false, get_or, map, refl, subst, sym, ◌∙◌}
+use Rattle.std.proofs.Common.{List, ℕ, ap, arith, false, get_or, map, refl, subst, sym, ◌∙◌}
 use Rattle.claim_table.specs.Table.{jobs_of}
 use Rattle.negotiator.specs.declared.answers.Offered.{Offered}
 use Rattle.negotiator.specs.Budget.{counts}
@@ -67,7 +67,7 @@ pub returns-in_err-offer-clause-part : goal.returns-in_err-offer-clause-part
 returns-in_err-offer-clause-part g c =
     let began = jobs_of c.args.claims.now in
     on_err _ (subst (λ (os : List (Offer ℕ)). IsPart os (jobs_of c.args.claims.now) (jobs_of c.try_job.new.claims)) (own-turn c.args.scene.now (jobs_of c.args.claims.now) c.args.queue.now.user c.as_slice-place-items.result.now c.args.slice (c.as_slice-place-items.ensures ∙ c.requires.own))
-        (subst (IsPart _ began) (sym c.in_err-offer.ensures.err) (stopped c.args.scene.now (jobs_of c.args.claims.now) c.loop-place.invariant)))
+    (subst (IsPart _ began) (sym c.in_err-offer.ensures.err) (stopped c.args.scene.now (jobs_of c.args.claims.now) c.loop-place.invariant)))
 
 pub returns-in_err-offer-clause-within : goal.returns-in_err-offer-clause-within
 returns-in_err-offer-clause-within g c =
@@ -85,7 +85,7 @@ returns-in_err-push-clause-part g c =
     let own = own-place c.args.scene.now (jobs_of c.args.claims.now) c.args.queue.now.user items c.loop-place.place-index (c.as_slice-place-items.ensures ∙ c.requires.own) c.loop-place-test.true in
     let wants_is = wants-here c.args.scene.now (jobs_of c.args.claims.now) c.loop-place.invariant i c.wants-wants.result c.wants-wants.ensures in
     on_err _ (subst (λ (os : List (Offer ℕ)). IsPart os (jobs_of c.args.claims.now) (jobs_of c.try_job.new.claims)) (own-turn c.args.scene.now (jobs_of c.args.claims.now) c.args.queue.now.user c.as_slice-place-items.result.now c.args.slice (c.as_slice-place-items.ensures ∙ c.requires.own))
-        (tried-stopped c.args.scene.now (jobs_of c.args.claims.now) c.loop-place.invariant i c.loop-place-test.true refl own (sym c.is_idle.ensures ∙ c.if-is_idle.true) (in-slice-either c.loop-place.given c.loop-place.left c.wants-wants.result _ wants_is c.else-given.either) c.in_ok-offer.field-0 c.in_ok-offer.ensures.offered (jobs_of c.try_job.new.claims) c.in_ok-offer.ensures.table c.in-Some.offer c.in-Some.is))
+    (tried-stopped c.args.scene.now (jobs_of c.args.claims.now) c.loop-place.invariant i c.loop-place-test.true refl own (sym c.is_idle.ensures ∙ c.if-is_idle.true) (in-slice-either c.loop-place.given c.loop-place.left c.wants-wants.result _ wants_is c.else-given.either) c.in_ok-offer.field-0 c.in_ok-offer.ensures.offered (jobs_of c.try_job.new.claims) c.in_ok-offer.ensures.table c.in-Some.offer c.in-Some.is))
 
 pub returns-in_err-push-clause-within : goal.returns-in_err-push-clause-within
 returns-in_err-push-clause-within g c =
@@ -110,15 +110,15 @@ loop-place-preserved g c =
           let after = counts w.try_job.new.tops w.try_job.new.entry w.try_job.new.touch in
           loop-same scene began
           (tried-some scene began c.loop-place.invariant i c.loop-place-test.true refl own (sym c.is_idle.ensures ∙ w.if-is_idle.true) (in-slice-either c.loop-place.given c.loop-place.left w.wants-wants.result _ wants_is w.else-given.either)
-            w.in_ok-offer.field-0 w.in_ok-offer.ensures.offered (jobs_of w.try_job.new.claims) w.in_ok-offer.ensures.table w.in-Some.offer w.in-Some.is
-            w.wants-wants.result wants_is w.push.new.self w.in_ok-push.ensures.ok _ w.saturating_sub-left.ensures w.try_job.new.failed after w.in_ok-offer.ensures.ready w.in_ok-offer.ensures.paid)
+          w.in_ok-offer.field-0 w.in_ok-offer.ensures.offered (jobs_of w.try_job.new.claims) w.in_ok-offer.ensures.table w.in-Some.offer w.in-Some.is
+          w.wants-wants.result wants_is w.push.new.self w.in_ok-push.ensures.ok _ w.saturating_sub-left.ensures w.try_job.new.failed after w.in_ok-offer.ensures.ready w.in_ok-offer.ensures.paid)
           w.left-is w.given-is w.offers-is (ap jobs_of w.claims-is) w.failed-is w.tops-is w.entry-is w.touch-is
       | then-is_idle+else-given+in_ok-offer+in_default w ↦
           let wants_is = wants-here scene began c.loop-place.invariant i w.wants-wants.result w.wants-wants.ensures in
           let after = counts w.try_job.new.tops w.try_job.new.entry w.try_job.new.touch in
           loop-same scene began
           (tried-none scene began c.loop-place.invariant i c.loop-place-test.true refl own (sym c.is_idle.ensures ∙ w.if-is_idle.true) (in-slice-either c.loop-place.given c.loop-place.left w.wants-wants.result _ wants_is w.else-given.either)
-            w.in_ok-offer.field-0 w.in_ok-offer.ensures.offered (jobs_of w.try_job.new.claims) w.in_ok-offer.ensures.table w.in_default.is w.try_job.new.failed after w.in_ok-offer.ensures.ready w.in_ok-offer.ensures.paid)
+          w.in_ok-offer.field-0 w.in_ok-offer.ensures.offered (jobs_of w.try_job.new.claims) w.in_ok-offer.ensures.table w.in_default.is w.try_job.new.failed after w.in_ok-offer.ensures.ready w.in_ok-offer.ensures.paid)
           w.left-is w.given-is w.offers-is (ap jobs_of w.claims-is) w.failed-is w.tops-is w.entry-is w.touch-is
       | else-is_idle w ↦
           loop-same scene began (turn-passes scene began c.loop-place.invariant i c.loop-place-test.true refl own (sym c.is_idle.ensures ∙ w.if-is_idle.false))

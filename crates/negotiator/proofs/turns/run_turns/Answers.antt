@@ -1,4 +1,4 @@
-use Rattle.std.proofs.Common.{◌≡◌, ◌<◌, ◌≤◌, List, [], ℕ, false, arith, filter, get_or, length, refl, slice_get, subst, sym}
+use Rattle.std.proofs.Common.{◌≡◌, ◌<◌, List, [], arith, filter, get_or, length, refl, slice_get, subst, sym}
 use Rattle.std.specs.Option.{option_map_or}
 use Rattle.std.proofs.lemmas.List.{length-map}
 use Rattle.claim_table.specs.Table.{jobs_of}
@@ -35,7 +35,7 @@ run_turn-requires-clause-own g c =
     let market = market_in c.args.scene.now began in
     own-here c.args.scene.now began c.loop-k.invariant c.index-queues-active.result
     (subst (λ (q : Queue). q.places ≡ filter (is_of market q.user) (places market.jobs)) (sym c.index-queues-active.is)
-        (c.requires.own _ c.index-queues-active.result (c.requires.active c.loop-k.k 0 c.loop-k-test.true)))
+    (c.requires.own _ c.index-queues-active.result (c.requires.active c.loop-k.k 0 c.loop-k-test.true)))
 
 pub run_turn-requires-clause-ready : goal.run_turn-requires-clause-ready
 run_turn-requires-clause-ready g c = c.loop-k.invariant.ready

@@ -38,3 +38,6 @@ returns-in-Ok-read_piece-clause-ends g c =
 
 pub returns-in-Err-clause-ends : goal.returns-in-Err-clause-ends
 returns-in-Err-clause-ends g c = Reading-lost _ _ _ _ _ _ _ _ _ _ _ c.loop-left.invariant.reading c.in-Err.ensures.reads
+
+pub returns-in_default-clause-ends : goal.returns-in_default-clause-ends
+returns-in_default-clause-ends g c = Reading-lost _ _ _ _ _ _ _ _ _ _ _ c.loop-left.invariant.reading c.in_default.ensures.reads

@@ -1,4 +1,4 @@
-use Rattle.std.proofs.Common.{sym, ap, ◌∙◌, leb, arith}
+use Rattle.std.proofs.Common.{sym, ap, ◌∙◌, leb}
 use Rattle.std.proofs.lemmas.List.{length-map}
 use Rattle.negotiator.specs.Priorities.{setting_of}
 use Rattle.negotiator.proofs.PriorityLemmas.{room-for-held, room-for-new}

@@ -1,4 +1,4 @@
-use Rattle.std.proofs.Common.{ap, map, sym, ◌∙◌, subst, List, length, ◌≤◌, All}
+use Rattle.std.proofs.Common.{map, sym, ◌∙◌, subst, List, length, ◌≤◌, All}
 use Rattle.negotiator.specs.Priorities.{IsInRange, Setting, setting_of, settings_limit}
 use Rattle.negotiator.proofs.PriorityLemmas.{All-with_setting, few-with_setting, either-way}
 use Rattle.negotiator.proofs.priorities.Priorities.set.Goals as goal
@@ -15,6 +15,6 @@ invariant_of-self c =
       few =
           either-way c.enter.result c.enter.ensures.ok c.enter.ensures.err
           (λ is. subst (λ (ss : List Setting). length ss ≤ settings_limit) (sym is)
-              (few-with_setting setting (map setting_of old.numbers.entries) (sym c.is_full_for.ensures ∙ c.if-is_full_for.false) old.few))
+          (few-with_setting setting (map setting_of old.numbers.entries) (sym c.is_full_for.ensures ∙ c.if-is_full_for.false) old.few))
           (λ is. subst (λ es. length (map setting_of es) ≤ settings_limit) (sym is) old.few);
     }

@@ -29,7 +29,7 @@ returns-clause-jobs g c =
     (λ i. without_resources (has_expired now (c.in_ok-withdraw.ensures.ads i)) (c.in_ok-withdraw.ensures.jobs held i))
     ∙ left-twice (has_expired now (without used old.ads)) (bytes_eq used) queue
     ∙ left-same (λ n. bytes_eq used n || has_expired now (without used old.ads) n) (has_expired now old.ads) queue
-        (λ n. sym (expired-without now used old.ads beside.place beside.advert c.names_are_apart.ensures beside.at name (not_live (is_live now beside.advert) beside.passes) n))
+    (λ n. sym (expired-without now used old.ads beside.place beside.advert c.names_are_apart.ensures beside.at name (not_live (is_live now beside.advert) beside.passes) n))
 
 pub returns-clause-fewer : goal.returns-clause-fewer
 returns-clause-fewer g c =

@@ -1,0 +1,117 @@
+-- The resources of a port: those among the places that a test leaves.
+use Rattle.std.proofs.Common.{◌≡◌, ◌<◌, ◌+◌, ◌-◌, ℕ, suc, Bool, true, false, not, ◌&&◌, cond, if◌then◌else◌, refl, List, [], ◌∷◌, ◌++◌, length, map, filter, take, get_or, Option, None, Some, option_map, slice_get, unwrap_or, All, ap, sym, ◌∙◌, subst, arith, add-zero, add-one, IfSome}
+use Rattle.std.specs.List.{cons_option, range_with_len}
+use Rattle.std.specs.List.Sorted.{IsPermutation}
+use Rattle.std.specs.Option.{option_map_or}
+use Rattle.std.proofs.lemmas.List.{append-nil}
+use Rattle.std.proofs.lemmas.List.Elements.{All-push, filter_more}
+use Rattle.ad_tree.specs.Ad.{ad_frames}
+use Rattle.ad_tree.specs.Frames.{Frame}
+use Rattle.ad_tree.specs.declared.request.Port.{Port}
+use Rattle.ad_store.specs.Stock.{Advert}
+use Rattle.conjunct_plan.specs.Decided.{is_dock_decided}
+use Rattle.conjunct_plan.specs.Tests.{labels_of}
+use Rattle.eval_scope.specs.World.{port_frame}
+use Rattle.bilateral_match.specs.Candidates.{AreCandidatesAt, places_where}
+use Rattle.bilateral_match.specs.Pool.{Pool}
+use Rattle.gang_ports.specs.declared.searching.Side.{Side}
+use Rattle.gang_ports.specs.declared.weighing.Resource.{Resource}
+use Rattle.gang_ports.specs.Gangs.{ad_at, free_places, is_free, is_open, open_places}
+use Rattle.gang_ports.specs.Search.{AreResources, AreSides}
+use Rattle.gang_ports.proofs.ListLemmas.{IsPermutation-filter, filter-both, map-more}
+
+-- ---- places that a test leaves
+
+module _ (keeps : ℕ → Bool) (passes : Advert → Bool) where
+  -- all places of which some are kept, where none of the others is
+  kept-where : (k : ℕ) (ads : List Advert) → ((i : ℕ) (a : Advert) → slice_get ads i ≡ Some a → passes a ≡ false → keeps (k + i) ≡ false)
+      → filter keeps (range_with_len k (length ads)) ≡ filter keeps (places_where passes k ads)
+  kept-where k [] others = refl
+  kept-where k (a ∷ ads) others =
+      by (passes a) refl
+      (ap (λ (n : ℕ). filter keeps (range_with_len n (length ads))) (add-one k)
+      ∙ kept-where (suc k) ads (λ i b at e. let moved : suc k + i ≡ k + suc i = omega arith in ap keeps moved ∙ others (suc i) b at e))
+    where
+      here : passes a ≡ false → keeps k ≡ false
+      here e = ap keeps (sym (add-zero k)) ∙ others 0 a refl e
+
+      by : (b : Bool) → passes a ≡ b → filter keeps (range_with_len (k + 1) (length ads)) ≡ filter keeps (places_where passes (suc k) ads)
+          → cond (keeps k) (k ∷ filter keeps (range_with_len (k + 1) (length ads))) (filter keeps (range_with_len (k + 1) (length ads))) ≡ filter keeps (if b then k ∷ places_where passes (suc k) ads else places_where passes (suc k) ads)
+      by true e rest = ap (λ (ys : List ℕ). cond (keeps k) (k ∷ ys) ys) rest
+      by false e rest = ap (λ (c : Bool). cond c (k ∷ filter keeps (range_with_len (k + 1) (length ads))) (filter keeps (range_with_len (k + 1) (length ads)))) (here e) ∙ rest
+
+-- ---- the resources of a frame
+
+module _ (pool : Pool) (request : List Frame) (ports : List Port) (frame : ℕ) where
+  -- the place may be taken, and no test decides the dock
+  abbrev pub is_asked : ℕ → Bool
+  is_asked place = is_free pool place && is_open pool request ports frame place
+
+  open-asked : open_places pool request ports frame ≡ filter is_asked (range_with_len 0 (length pool.ads))
+  unfolding open_places free_places
+  open-asked = filter-both (is_free pool) (is_open pool request ports frame) (range_with_len 0 (length pool.ads))
+
+  closed : (a : Bool) (b : Bool) → b ≡ false → (a && b) ≡ false
+  closed true b e = e
+  closed false b e = refl
+
+  pub asked-places : (places : List ℕ) → AreCandidatesAt request frame (labels_of ports) pool.ads places → (rs : List Resource)
+      → map (λ (r : Resource). r.place) rs ≡ filter is_asked places → All (λ (r : Resource). ad_frames r.ad.now ≡ ad_at pool r.place) rs
+      → AreResources pool (open_places pool request ports frame) rs
+  asked-places places some rs are ads =
+      let whole : filter is_asked (range_with_len 0 (length pool.ads)) ≡ filter is_asked (places_where some.passes 0 pool.ads) =
+      kept-where is_asked some.passes 0 pool.ads (λ i a at e.
+      let ad_is : ad_at pool i ≡ a.ad = ap (λ (o : Option Advert). option_map_or (λ (b : Advert). b.ad) o []) at in
+      let start : 0 + i ≡ i = omega arith in
+      ap is_asked start ∙ closed (is_free pool i) (is_open pool request ports frame i) (ap (λ (ad : List Frame). not (is_dock_decided request frame (labels_of ports) ad)) ad_is ∙ some.others a e)) in
+      let moved : IsPermutation (filter is_asked (places_where some.passes 0 pool.ads)) (filter is_asked places) = IsPermutation-filter is_asked (places_where some.passes 0 pool.ads) places some.all in
+      record {
+        all = subst (λ (ys : List ℕ). IsPermutation (open_places pool request ports frame) ys) (sym are) (subst (λ (xs : List ℕ). IsPermutation xs (filter is_asked places)) (sym (open-asked ∙ whole)) moved);
+        ads = ads;
+      }
+
+  -- one place more
+  module _ (rs new : List Resource) (items : List ℕ) (i : ℕ) (within : i < length items) (o : Option Resource) (added : new ≡ rs ++ cons_option o []) where
+    pub asked-next : map (λ (r : Resource). r.place) rs ≡ filter is_asked (take i items) → option_map (λ (r : Resource). r.place) o ≡ (if is_asked (get_or items i 0) then Some (get_or items i 0) else None)
+        → map (λ (r : Resource). r.place) new ≡ filter is_asked (take (i + 1) items)
+    asked-next so_far found =
+        ap (map (λ (r : Resource). r.place)) added
+        ∙ by o (is_asked (get_or items i 0)) found
+        ∙ sym (filter_more is_asked items i 0 within)
+      where
+        by : (p : Option Resource) (b : Bool) → option_map (λ (r : Resource). r.place) p ≡ (if b then Some (get_or items i 0) else None)
+            → map (λ (r : Resource). r.place) (rs ++ cons_option p []) ≡ filter is_asked (take i items) ++ cond b (get_or items i 0 ∷ []) []
+        by None true e = absurd (cc)
+        by None false e = ap (map (λ (r : Resource). r.place)) (append-nil rs) ∙ so_far ∙ sym (append-nil (filter is_asked (take i items)))
+        by (Some r) true e =
+            let same : r.place ≡ get_or items i 0 = cc in
+            map-more (λ (r : Resource). r.place) rs r ∙ ap (λ (ps : List ℕ). ps ++ r.place ∷ []) so_far ∙ ap (λ (p : ℕ). filter is_asked (take i items) ++ p ∷ []) same
+        by (Some r) false e = absurd (cc)
+
+    pub ads-next : All (λ (r : Resource). ad_frames r.ad.now ≡ ad_at pool r.place) rs → IfSome o (λ r. ad_frames r.ad.now ≡ ad_at pool r.place) → All (λ (r : Resource). ad_frames r.ad.now ≡ ad_at pool r.place) new
+    ads-next so_far has = subst (All (λ (r : Resource). ad_frames r.ad.now ≡ ad_at pool r.place)) (sym added) (by o has)
+      where
+        by : (p : Option Resource) → IfSome p (λ r. ad_frames r.ad.now ≡ ad_at pool r.place) → All (λ (r : Resource). ad_frames r.ad.now ≡ ad_at pool r.place) (rs ++ cons_option p [])
+        by None h = subst (All (λ (r : Resource). ad_frames r.ad.now ≡ ad_at pool r.place)) (sym (append-nil rs)) so_far
+        by (Some r) h = All-push (λ (r : Resource). ad_frames r.ad.now ≡ ad_at pool r.place) rs r so_far h
+
+-- ---- the sides of all ports
+
+module _ (pool : Pool) (request : List Frame) (ports : List Port) where
+  sides-push : (i : ℕ) (sides : List Side) (side : Side) → AreSides pool request ports i sides
+      → AreResources pool (open_places pool request ports (port_frame ports (suc (i + length sides)))) side.resources.items → AreSides pool request ports i (sides ++ side ∷ [])
+  sides-push i [] side h one = let start : i + 0 ≡ i = omega arith in (subst (λ (n : ℕ). AreResources pool (open_places pool request ports (port_frame ports (suc n))) side.resources.items) start one, tt)
+  sides-push i (s ∷ sides) side h one =
+      let moved : i + suc (length sides) ≡ suc i + length sides = omega arith in
+      (h.0, sides-push (suc i) sides side h.1 (subst (λ (n : ℕ). AreResources pool (open_places pool request ports (port_frame ports (suc n))) side.resources.items) moved one))
+
+  frame-at : (i : ℕ) (port : Port) → slice_get ports i ≡ Some port → port_frame ports (suc i) ≡ port.frame
+  frame-at i port at =
+      let back : suc i - 1 ≡ i = omega arith in
+      ap (λ (k : ℕ). unwrap_or (option_map (λ (p : Port). p.frame) (slice_get ports k)) 0) back ∙ ap (λ (o : Option Port). unwrap_or (option_map (λ (p : Port). p.frame) o) 0) at
+
+  pub sides-next : (sides new : List Side) (side : Side) (i : ℕ) (port : Port) → new ≡ sides ++ side ∷ [] → AreSides pool request ports 0 sides → length sides ≡ i → slice_get ports i ≡ Some port
+      → AreResources pool (open_places pool request ports port.frame) side.resources.items → AreSides pool request ports 0 new
+  sides-next sides new side i port added so_far many at one =
+      let here : port_frame ports (suc (0 + length sides)) ≡ port.frame = ap (λ (n : ℕ). port_frame ports (suc n)) (let start : 0 + length sides ≡ i = omega (arith, many) in start) ∙ frame-at i port at in
+      subst (AreSides pool request ports 0) (sym added) (sides-push 0 sides side so_far (subst (λ (f : ℕ). AreResources pool (open_places pool request ports f) side.resources.items) (sym here) one))

@@ -1,0 +1,17 @@
+use Rattle.std.proofs.Common.{◌≡◌, ◌≤◌, ◌+◌, ◌&&◌, All, filter, map, take}
+use Rattle.ad_tree.specs.Ad.{ad_frames}
+use Rattle.ad_store.specs.Store.{stock_of}
+use Rattle.bilateral_match.specs.Pool.{Pool, pool_of}
+use Rattle.gang_ports.specs.declared.weighing.Resource.{Resource}
+use Rattle.gang_ports.specs.Gangs.{ad_at, is_free, is_open}
+use Rattle.gang_ports.proofs.reading.read_side.Given as goal
+
+-- the resources of the places so far
+abbrev pub invariant-loop-place : goal.invariant-loop-place
+invariant-loop-place g l =
+    let pool : Pool = pool_of l.moment (stock_of l.store) (g.H.Holdings.is_offered l.held) (g.H.Holdings.holding l.held) in
+    record {
+      places : map (λ (r : Resource). r.place) l.resources.items ≡ filter (λ place. is_free pool place && is_open pool (ad_frames l.request.ad) l.request.ports l.frame place) (take l.place-index l.place-items);
+      ads : All (λ (r : Resource). ad_frames r.ad.now ≡ ad_at pool r.place) l.resources.items;
+      looks : l.touch ≤ l.initial.touch + l.place-index;
+    }

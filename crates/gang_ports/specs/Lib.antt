@@ -1,0 +1,4 @@
+pub mod Choice
+pub mod Gangs
+pub mod Ports
+pub mod Search

@@ -1,0 +1,13 @@
+//! Gangs: the ports of a request, and the resources that they are given.
+#![tactic(auto)]
+
+mod gangs;
+mod laws;
+mod ports;
+mod reading;
+mod searching;
+mod weighing;
+
+pub use gangs::first_gang;
+pub use laws::{more_offers_leave_no_more_gangs, no_other_tuple_comes_before_the_gang};
+pub use ports::{PortsFault, read_ports};

@@ -1,0 +1,5 @@
+//! Tests of gangs.
+#![tactic(auto)]
+
+#[cfg(test)]
+mod gangs;

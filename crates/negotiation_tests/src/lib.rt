@@ -1,0 +1,5 @@
+//! Tests of cycles of negotiation.
+#![tactic(auto)]
+
+#[cfg(test)]
+mod negotiation;

@@ -33,3 +33,13 @@ pub returns-in-Priority-clause-step : goal.returns-in-Priority-clause-step
 unfolding step state_of
 returns-in-Priority-clause-step g c =
     if_ok c.set_priority.result _ _ (λ reply is. ap (step (state_of c.args.self.now)) c.in-Priority.is ∙ is c.args.self.now.moment c.args.self.now.books) c.set_priority.ensures.step
+
+pub returns-in-Claim-clause-step : goal.returns-in-Claim-clause-step
+unfolding step state_of
+returns-in-Claim-clause-step g c =
+    if_ok c.claim.result _ _ (λ reply is. ap (step (state_of c.args.self.now)) c.in-Claim.is ∙ is (settings_of c.args.self.now.priorities)) c.claim.ensures.step
+
+pub returns-in-Release-clause-step : goal.returns-in-Release-clause-step
+unfolding step state_of
+returns-in-Release-clause-step g c =
+    if_ok c.release.result _ _ (λ reply is. ap (step (state_of c.args.self.now)) c.in-Release.is ∙ is c.args.self.now.moment (settings_of c.args.self.now.priorities)) c.release.ensures.step

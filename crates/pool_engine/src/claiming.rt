@@ -1,14 +1,18 @@
 // The commands that claim what is offered to a job, and that give it back.
-ghost use Rattle.std.specs.Prelude.{◌≡◌, ◌≤◌, ◌+◌, ◌*◌, ℕ, List, map, IfOk, IsTrue};
+ghost use Rattle.std.specs.Prelude.{◌≡◌, ◌≤◌, ◌+◌, ◌*◌, ℕ, List, map, Contains, IfOk, IsTrue};
+ghost use Rattle.ad_store.specs.Store.{stock_of};
 ghost use Rattle.negotiator.specs.Priorities.{Setting};
 ghost use Rattle.pool_replies.specs.Replies.{is_printable};
+ghost use Rattle.pool_replies.specs.declared.refusal.Refusal.TheVariants as why;
+ghost use Rattle.pool_replies.specs.declared.reply.Reply.TheVariants as replies;
 ghost use Rattle.pool_engine.specs.Books.{queue_of};
 ghost use Rattle.pool_engine.specs.ClaimAnswers as answers;
 ghost use Rattle.pool_engine.specs.Claiming as steps;
-ghost use Rattle.pool_engine.specs.Pool.{state_with};
+ghost use Rattle.pool_engine.specs.Pool.{name_in, state_with};
 
 use crate::books::Books;
 use crate::negotiation::{name_of, names_of};
+use ad_store::Store;
 use claim_table::{ClaimFault, FreedList, JobFault};
 use pool_replies::{Refusal, Reply};
 use pool_steps::Steps;
@@ -40,19 +44,39 @@ pub(crate) fn claim<F: Ledger, E: Ledger, T: Ledger>(
     let names = names_given(alloc, books, job.bytes())?;
     match books.claim(job.bytes(), moment, tops, entry, touch) {
         Ok(freed) => {
-            let preempted = losers(alloc, &freed);
+            let reply = granted(alloc, named, names, &freed);
             drop(freed);
-            Ok(Reply::Claimed {
-                job: named,
-                names,
-                preempted: preempted?,
-            })
+            reply
         }
         Err(ClaimFault::NoJob) => Ok(Reply::Refused(Refusal::UnknownName)),
         Err(ClaimFault::WrongState(state)) => Ok(Reply::Refused(Refusal::WrongState(state))),
-        Err(ClaimFault::Stale(slot)) => Ok(Reply::Refused(Refusal::Stale(name_of(&books.ads.store, slot)?))),
+        Err(ClaimFault::Stale(slot)) => stale(&books.ads.store, slot),
         Err(ClaimFault::OutOfMemory) => Err(OutOfMemory),
     }
+}
+
+// The reply to a claim that is granted.
+#[tactic(auto, unfolding(pool_replies::specs::Replies::is_printable))]
+fn granted(alloc: Global, job: Text, names: Names, freed: &FreedList) -> Result<Reply, OutOfMemory>
+    ensures reply { IfOk result (λ reply. reply ≡ replies.Claimed job names (map (λ one. one.job) freed.now)) }
+    ensures printable { IfOk result (λ reply. IsTrue (is_printable reply)) }
+{
+    let preempted = losers(alloc, freed)?;
+    Ok(Reply::Claimed {
+        job,
+        names,
+        preempted,
+    })
+}
+
+// The reply to a claim that fails at the resource in a slot.
+#[tactic(auto, unfolding(pool_replies::specs::Replies::is_printable, pool_replies::specs::Refusals::is_printable_refusal))]
+fn stale(store: &Store, slot: usize) -> Result<Reply, OutOfMemory>
+    requires { Contains (stock_of store.now).slots slot }
+    ensures reply { IfOk result (λ reply. reply ≡ replies.Refused (why.Stale (name_in (stock_of store.now) slot))) }
+    ensures printable { IfOk result (λ reply. IsTrue (is_printable reply)) }
+{
+    Ok(Reply::Refused(Refusal::Stale(name_of(store, slot)?)))
 }
 
 // The names of the resources of the job of a name.

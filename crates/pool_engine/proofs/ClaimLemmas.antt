@@ -148,9 +148,10 @@ module _ (stock : Stock) (moment : ℕ) (settings : List Setting) where
       checked-fits : (failing : Option ℕ) → IfSome failing (λ slot. lists stock.slots slot ≡ true)
           → ◌≡◌ {A = State × Reply} (seen.claim (state_of jobs) name) (seen.checked (state_of jobs) (queued stock job) (map (name_in stock) slots) (option_map (name_in stock) failing))
           → Fits (option_map_or (λ slot. (Err (ClaimFault.Stale slot), with_standing jobs i Standing.Idle)) failing gained)
-      checked-fits (Some slot) held is =
-          (lists-contains stock.slots slot held,
-          is ∙ ap (λ (queue : List QueuedJob). pair queue) (sym (restood-seen stock job.name Standing.Idle jobs i job apart at (itself job.name))))
+      checked-fits (Some slot) held is = (
+        lists-contains stock.slots slot held,
+        is ∙ ap (λ (queue : List QueuedJob). pair queue) (sym (restood-seen stock job.name Standing.Idle jobs i job apart at (itself job.name))),
+      )
         where
           pair : List QueuedJob → State × Reply
           pair queue = (then_jobs queue, reply.Refused (why.Stale (name_in stock slot)))
@@ -293,3 +294,13 @@ module _ (stock : Stock) (moment : ℕ) (settings : List Setting) (name : List �
 pub either-released : {T E : Type 0} (slots : List ℕ) (o : Option ℕ) (jobs later : List Job) (r : Result T E) → OnOk r (later ≡ idle_at o jobs) → OnErr r (later ≡ jobs) → are_stored slots jobs ≡ true → All IsSingle jobs → (are_stored slots later ≡ true) × All IsSingle later
 either-released slots o jobs later (Ok x) ok err stored single = (ap (are_stored slots) ok ∙ released-stored slots o jobs stored, subst (All IsSingle) (sym ok) (single-released o jobs single))
 either-released slots o jobs later (Err e) ok err stored single = (ap (are_stored slots) err ∙ stored, subst (All IsSingle) (sym err) single)
+
+-- ---- replies
+
+-- two replies to granted claims are one where all that they tell is
+pub claimed-same : (t : State) (a b : List ℕ) (names others lost freed : List (List ℕ)) → a ≡ b → names ≡ others → lost ≡ freed
+    → ◌≡◌ {A = State × Reply} (t, reply.Claimed a names lost) (t, reply.Claimed b others freed)
+claimed-same t a b names others lost freed one two three =
+    ap (λ (n : List ℕ). let p : State × Reply = (t, reply.Claimed n names lost) in p) one
+    ∙ ap (λ (ns : List (List ℕ)). let p : State × Reply = (t, reply.Claimed b ns lost) in p) two
+    ∙ ap (λ (ns : List (List ℕ)). let p : State × Reply = (t, reply.Claimed b others ns) in p) three

@@ -114,8 +114,8 @@ module _ (stock : Stock) (beside : AreBeside stock.ads stock.slots) (moment : �
     each port within =
         let name = name-at (name_in stock) slots port within in (
           ap (λ n. not (seen.passes moment stock.ads (map (queued stock) jobs) n (seen.world_at moment stock.ads (queued stock job) names port))) name
-          ∙ ap (λ w. not (seen.passes moment stock.ads (map (queued stock) jobs) (name_in stock (slice_index slots port)) w)) (world-seen stock beside moment job alone slots listed port)
-          ∙ ap not (passes-seen stock beside moment jobs stored single (slice_index slots port) (slot-at (lists stock.slots) slots port listed within) (claims.world_at moment stock job.request slots port)),
+              ∙ ap (λ w. not (seen.passes moment stock.ads (map (queued stock) jobs) (name_in stock (slice_index slots port)) w)) (world-seen stock beside moment job alone slots listed port)
+              ∙ ap not (passes-seen stock beside moment jobs stored single (slice_index slots port) (slot-at (lists stock.slots) slots port listed within) (claims.world_at moment stock job.request slots port)),
           name,
         )
 

@@ -105,11 +105,7 @@ fn offer_row(alloc: Global, store: &Store, offered: &Offered) -> Result<OfferRow
 }
 
 // The names of the ads in some slots.
-pub(crate) fn names_of(
-    alloc: Global,
-    store: &Store,
-    slots: &[usize],
-) -> Result<Names, OutOfMemory>
+pub(crate) fn names_of(alloc: Global, store: &Store, slots: &[usize]) -> Result<Names, OutOfMemory>
     requires { All (Contains (stock_of store.now).slots) slots.now }
     ensures { IfOk result (λ names. names ≡ map (name_in (stock_of store.now)) slots.now) }
 {

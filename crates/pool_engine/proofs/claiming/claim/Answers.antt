@@ -1,4 +1,4 @@
-use Rattle.std.proofs.Common.{◌≡◌, ◌≤◌, ◌+◌, ◌*◌, ℕ, true, List, [], map, Contains, Err, sym, ◌∙◌, ap, subst}
+use Rattle.std.proofs.Common.{◌≡◌, ◌≤◌, ◌+◌, ◌*◌, ℕ, true, List, [], map, Contains, Err, refl, sym, ◌∙◌, ap, subst}
 use Rattle.ad_store.specs.Store.{stock_of}
 use Rattle.claim_table.specs.declared.answers.ClaimFault.{ClaimFault}
 use Rattle.claim_table.specs.declared.answers.JobState.{JobState}
@@ -8,10 +8,13 @@ use Rattle.pool_replies.specs.Replies.{is_printable}
 use Rattle.pool_replies.specs.declared.refusal.Refusal.TheVariants as why
 use Rattle.pool_replies.specs.declared.reply.Reply.{Reply}
 use Rattle.pool_replies.specs.declared.reply.Reply.TheVariants as reply
-use Rattle.pool_engine.specs.ClaimAnswers.{IsClaimAnswer}
+use Rattle.pool_engine.specs.declared.indexed.IndexedStore.{IndexedStore}
+use Rattle.pool_engine.specs.ClaimAnswers.{IsClaimAnswer, names_given}
 use Rattle.pool_engine.specs.Claiming.{claim, offered_for_claim, undecided_for_claim}
-use Rattle.pool_engine.specs.Pool.{state_with}
+use Rattle.pool_engine.specs.Pool.{name_in, state_with}
 use Rattle.pool_engine.specs.State.{State}
+use Rattle.pool_engine.proofs.ClaimLemmas.{claimed-same}
+use Rattle.pool_engine.proofs.HitLemmas.{if_ok}
 use Rattle.pool_engine.proofs.claiming.claim.Goals as goal
 
 pub returns-in-Ok-clause-cost : goal.returns-in-Ok-clause-cost
@@ -67,12 +70,35 @@ returns-in-Err-WrongState-clause-printable g c =
     let told = subst (λ (fault : ClaimFault). IsClaimAnswer (stock_of c.args.books.now.ads.store) s c.bytes-2.result.now t (Err fault)) c.in-Err-WrongState.field-0-is (c.in-Err-WrongState.ensures.claim []) in
     subst (λ (state : JobState). is_wrong_state state ≡ true) (sym c.in-Err-WrongState.state-is) told.0
 
--- not tried yet: these three come from the replies' own functions
 pub returns-in-Ok-clause-step : goal.returns-in-Ok-clause-step
-returns-in-Ok-clause-step g c = ?
+returns-in-Ok-clause-step g c =
+    if_ok c.granted-reply.result _ _
+    (λ answer is. λ priorities.
+    let s : State = state_with c.args.moment priorities c.args.books.now in
+    let t : State = state_with c.args.moment priorities c.claim.new.self in
+    ap (λ (n : List ℕ). claim s n) (sym c.bytes-2.ensures) ∙ c.in-Ok.ensures.claim priorities
+    ∙ claimed-same t _ _ _ _ _ _ (c.bytes-2.ensures ∙ sym c.in_ok-named.ensures)
+    (ap (λ (n : List ℕ). names_given n s.jobs) (c.bytes-2.ensures ∙ sym c.bytes.ensures) ∙ sym c.in_ok-names.ensures) refl
+    ∙ ap (λ (r : Reply). let p : State × Reply = (t, r) in p) (sym is))
+    c.granted-reply.ensures.reply
 
 pub stale-requires : goal.stale-requires
-stale-requires g c = ?
+stale-requires g c =
+    let s : State = state_with c.args.moment [] c.args.books.now in
+    let t : State = state_with c.args.moment [] c.claim.new.self in
+    let told = subst (λ (fault : ClaimFault). IsClaimAnswer (stock_of c.args.books.now.ads.store) s c.bytes-2.result.now t (Err fault)) c.in-Err-Stale.field-0-is (c.in-Err-Stale.ensures.claim []) in
+    subst (λ (slot : ℕ). Contains (stock_of c.claim.new.self.ads.store).slots slot) (sym c.in-Err-Stale.slot-is)
+    (subst (λ (ads : IndexedStore). Contains (stock_of ads.store).slots c.in-Err-Stale.slot) (sym c.claim.ensures.ads) told.0)
 
 pub returns-in-Err-Stale-clause-step : goal.returns-in-Err-Stale-clause-step
-returns-in-Err-Stale-clause-step g c = ?
+returns-in-Err-Stale-clause-step g c =
+    if_ok c.stale.result _ _
+    (λ answer is. λ priorities.
+    let s : State = state_with c.args.moment priorities c.args.books.now in
+    let t : State = state_with c.args.moment priorities c.claim.new.self in
+    let told = subst (λ (fault : ClaimFault). IsClaimAnswer (stock_of c.args.books.now.ads.store) s c.bytes-2.result.now t (Err fault)) c.in-Err-Stale.field-0-is (c.in-Err-Stale.ensures.claim priorities) in
+    ap (λ (n : List ℕ). claim s n) (sym c.bytes-2.ensures) ∙ told.1
+    ∙ ap (λ (ads : IndexedStore). let p : State × Reply = (t, reply.Refused (why.Stale (name_in (stock_of ads.store) c.in-Err-Stale.slot))) in p) (sym c.claim.ensures.ads)
+    ∙ ap (λ (slot : ℕ). let p : State × Reply = (t, reply.Refused (why.Stale (name_in (stock_of c.claim.new.self.ads.store) slot))) in p) (sym c.in-Err-Stale.slot-is)
+    ∙ ap (λ (r : Reply). let p : State × Reply = (t, r) in p) (sym is))
+    c.stale.ensures.reply

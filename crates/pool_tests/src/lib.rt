@@ -4,6 +4,8 @@
 #[cfg(test)]
 mod crowds;
 #[cfg(test)]
+mod jobs;
+#[cfg(test)]
 mod replies;
 #[cfg(test)]
 mod runs;

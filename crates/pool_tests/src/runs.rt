@@ -101,7 +101,7 @@ const SCRIPTS: [(&[u8], u64, &[u8]); 12] = [
     (b"\n \t \n# eval 1\n  #x\n\r\n", 0, b""),
     (b"eval 7\r\neval 8\r", 0, b"7\n8\n"),
     (
-        b"eval\neval \nfly\nEVAL 1\nnegotiate\n",
+        b"eval\neval \nfly\nEVAL 1\nunlisten m\n",
         5,
         b"refused 3 wrong words\nrefused 3 wrong words\nrefused 2 unknown command\nrefused 2 unknown command\nrefused 14 not built\n",
     ),

@@ -1,7 +1,7 @@
 -- No reply is empty, so a sink that took nothing took no reply.
 use Rattle.std.proofs.Common.{◌≡◌, ◌≢◌, ℕ, ◌<◌, ◌==◌, Bool, true, false, List, [], ◌∷◌, ◌++◌, codes, length, take, nat_lt, if◌then◌else◌, nat_le, ◌+◌, Option, None, Some, Result, Ok, Err, refl, ap, arith, length-append, length-take}
 use Rattle.std.specs.Io.KnownBytes.{Appends}
-use Rattle.ad_tree.specs.Inline.{Inline, phrase_of, phrase_tree}
+use Rattle.ad_tree.specs.Inline.{Inline, ad_of, phrase_of, phrase_tree}
 use Rattle.ad_tree.specs.Tree.{Tree}
 use Rattle.ad_tree.specs.Frames.{Frame}
 use Rattle.ad_parser.specs.declared.fault.ParseFault.{ParseFault}
@@ -24,7 +24,6 @@ use Rattle.pool_replies.specs.declared.rows.HitRow.{HitRow}
 use Rattle.pool_replies.specs.declared.rows.SpinRow.{SpinRow}
 use Rattle.pool_replies.specs.declared.reply.Reply.{Reply}
 use Rattle.pool_replies.specs.declared.reply.Reply.TheVariants as reply
-use Rattle.pool_replies.specs.Cycles.{spins_text}
 use Rattle.pool_replies.specs.Refusals.{fault_text, is_fault_of_text, line_refusal, refusal_text, room_text}
 use Rattle.pool_replies.specs.Replies.{reply_text}
 use Rattle.pool_engine.specs.Ends.{AnswersFirst, Effects, IsWriteFault, before_last}
@@ -150,7 +149,7 @@ hits_told s rows = front_some (codes "hits ") _ (omega arith)
 
 cycle_told : (s : State) (spins : List SpinRow) → IsTold (s, reply.Cycle spins)
 unfolding reply_text
-cycle_told s spins = back_some (spins_text 1 spins) _ (front_some (codes "offers ") _ (omega arith))
+cycle_told s spins = back_some _ (codes "\n") (omega arith)
 
 -- ---- the replies to commands
 
@@ -220,7 +219,7 @@ take_told s job (Some reason) told = told
 take_told s job None told = holds_if IsTold (is_gang job.ad) (refused s why.NotBuilt) _ (unbuilt_told s) (submitted_told s job.name)
 
 submit_told : (s : State) (name user text : List ℕ) (size : ℕ) (outcome : Result Inline ParseFault) → HasAdOutcome text outcome → IsTold (submit s name user size outcome)
-submit_told s name user text size (Ok x) has_outcome = take_told s _ (job_refusal name size s.jobs) (refusal_told s name size s.jobs)
+submit_told s name user text size (Ok x) has_outcome = take_told s (record { name = name; user = user; size = size; ad = ad_of x; standing = idle }) (job_refusal name size s.jobs) (refusal_told s name size s.jobs)
 submit_told s name user text size (Err fault) has_outcome = text_told s fault (told_fault fault has_outcome.1)
 
 remove_told : (s : State) (name : List ℕ) → IsTold (remove s name)

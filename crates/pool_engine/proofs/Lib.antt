@@ -11,6 +11,7 @@ mod JobLemmas
 mod MarketLemmas
 mod MatchedLemmas
 mod NameLemmas
+mod OneJobLemmas
 mod QueueLemmas
 mod ReadingLemmas
 mod RowLemmas

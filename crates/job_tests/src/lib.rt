@@ -4,6 +4,8 @@
 #[cfg(test)]
 mod choice;
 #[cfg(test)]
+mod claiming;
+#[cfg(test)]
 mod claims;
 #[cfg(test)]
 mod store;

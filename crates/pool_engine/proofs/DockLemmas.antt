@@ -98,7 +98,7 @@ module _ (stock : Stock) (beside : AreBeside stock.ads stock.slots) where
       by_slot : slice_get stock.ads (position_or_len (λ s. eqb s slot) stock.slots) ≡ Some there.advert
       by_slot = ap (slice_get stock.ads) (position-at stock.slots there.place slot there.slot_at (λ j at_j. beside.apart j there.place slot at_j there.slot_at)) ∙ there.at
 
-  frames-of-all : (slots : List ℕ) → list_all (lists stock.slots) slots ≡ true → map (λ s. seen.frames_named stock.ads (name_in stock s)) slots ≡ map (ad_in stock) slots
+  pub frames-of-all : (slots : List ℕ) → list_all (lists stock.slots) slots ≡ true → map (λ s. seen.frames_named stock.ads (name_in stock s)) slots ≡ map (ad_in stock) slots
   frames-of-all [] all = refl
   frames-of-all (s ∷ slots) all =
       let parts = both (lists stock.slots s) (list_all (lists stock.slots) slots) all in
@@ -197,7 +197,7 @@ module _ (stock : Stock) (beside : AreBeside stock.ads stock.slots) where
           ap is_some (found-seen offers_it (λ job. is_listed advert.name (offer_names job.standing)) jobs stored (λ job held. offer-test job.standing held))
           ∙ some-map (queued stock) (find offers_it jobs) ∙ found-any offers_it jobs ∙ sym (position-any offers_it jobs)
 
-      claimed-found : claimed_by advert.name (map (queued stock) jobs) ≡ option_map (queued stock) (find claims_it jobs)
+      pub claimed-found : claimed_by advert.name (map (queued stock) jobs) ≡ option_map (queued stock) (find claims_it jobs)
       claimed-found = found-seen claims_it (λ job. is_listed advert.name (claim_names job.standing)) jobs stored (λ job held. claim-test job.standing held)
 
       claimed-same : is_some (claimed_by advert.name (map (queued stock) jobs)) ≡ is_some (claimer slot jobs)

@@ -20,7 +20,7 @@ use Rattle.pool_engine.proofs.SlotLemmas.{all-lists}
 
 -- ---- offers, seen by names
 
-standing_next : (o : Option Job) (x : Job) (xs : List Job) (i : ℕ) (standing : Standing)
+pub standing_next : (o : Option Job) (x : Job) (xs : List Job) (i : ℕ) (standing : Standing)
     → option_map_or (λ (job : Job). slice_set (x ∷ xs) (suc i) (record job { standing = standing })) o (x ∷ xs) ≡ x ∷ option_map_or (λ (job : Job). slice_set xs i (record job { standing = standing })) o xs
 standing_next None x xs i standing = refl
 standing_next (Some job) x xs i standing = refl
@@ -76,7 +76,7 @@ stored-offers slots (o ∷ os) jobs offered stored =
 abbrev pub IsSingle : Job → Type 0
 IsSingle job = job.request.ports ≡ []
 
-single-standing : (i : ℕ) (standing : Standing) (jobs : List Job) → All IsSingle jobs → All IsSingle (with_standing jobs i standing)
+pub single-standing : (i : ℕ) (standing : Standing) (jobs : List Job) → All IsSingle jobs → All IsSingle (with_standing jobs i standing)
 single-standing i standing [] single = single
 single-standing zero standing (x ∷ xs) single = All-cons IsSingle (record x { standing = standing }) xs (All-head IsSingle x xs single) (All-tail IsSingle x xs single)
 single-standing (suc i) standing (x ∷ xs) single =

@@ -117,14 +117,14 @@ idle_at-next (Some i) x xs = by (slice_get xs i)
     by None = refl
     by (Some job) = refl
 
-none_idle : (test : Job → Bool) (f : Job → Job) (xs : List Job) → ((j : ℕ) (b : Job) → slice_get xs j ≡ Some b → test b ≡ false) → map f xs ≡ map (λ job. cond (test job) (idle_job (f job)) (f job)) xs
+pub none_idle : (test : Job → Bool) (f : Job → Job) (xs : List Job) → ((j : ℕ) (b : Job) → slice_get xs j ≡ Some b → test b ≡ false) → map f xs ≡ map (λ job. cond (test job) (idle_job (f job)) (f job)) xs
 none_idle test f [] none = refl
 none_idle test f (x ∷ xs) none =
     ap (λ b. cond b (idle_job (f x)) (f x) ∷ map f xs) (sym (none 0 x refl))
     ∙ ap (λ l. cond (test x) (idle_job (f x)) (f x) ∷ l) (none_idle test f xs (λ j b at. none (suc j) b at))
 
 -- so making the first that passes idle makes each that passes idle
-idle_where : (test : Job → Bool) (f : Job → Job) (jobs : List Job) → AtMostOne test jobs → idle_at (position test jobs) (map f jobs) ≡ map (λ job. cond (test job) (idle_job (f job)) (f job)) jobs
+pub idle_where : (test : Job → Bool) (f : Job → Job) (jobs : List Job) → AtMostOne test jobs → idle_at (position test jobs) (map f jobs) ≡ map (λ job. cond (test job) (idle_job (f job)) (f job)) jobs
 idle_where test f [] once = refl
 idle_where test f (x ∷ xs) once = ap (λ o. idle_at o (f x ∷ map f xs)) (position-cons test x xs) ∙ by (test x) refl (idle_where test f xs (once_behind test x xs once))
   where

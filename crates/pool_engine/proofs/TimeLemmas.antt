@@ -32,7 +32,9 @@ use Rattle.ad_printer.specs.Values.{printed_frame}
 use Rattle.negotiator.specs.Priorities.{lacks_place, with_setting}
 use Rattle.pool_engine.specs.Queue.{has_job, job_refusal, job_text, without_job}
 use Rattle.claim_table.specs.Jobs.{jobs_limit, text_limit}
-use Rattle.pool_engine.specs.State.{QueuedJob, State, idle, opening}
+use Rattle.claim_table.specs.declared.answers.JobState.{JobState}
+use Rattle.pool_engine.specs.State.{JobStanding, QueuedJob, State, claimed, idle, matched, opening}
+use Rattle.pool_engine.specs.Claiming.{checked, claim, claim_as, first_failing, job_named, losers, release, release_as, restood, without_holders}
 use Rattle.pool_engine.specs.Step.{ad_named, advertise, clock, eval, eval_beside, eval_in, is_gang, live_ads, put_ad, query, refused, remove, room_of, set_priority, show, step, submit, take_job, withdraw}
 
 -- ---- no reply is empty
@@ -147,6 +149,26 @@ hits_told : (s : State) (rows : List HitRow) → IsTold (s, reply.Hits rows)
 unfolding reply_text
 hits_told s rows = front_some (codes "hits ") _ (omega arith)
 
+claimed_told : (s : State) (job : List ℕ) (names losers : List (List ℕ)) → IsTold (s, reply.Claimed job names losers)
+unfolding reply_text
+claimed_told s job names losers = front_some (codes "claimed ") _ (omega arith)
+
+released_told : (s : State) (job : List ℕ) → IsTold (s, reply.Released job)
+unfolding reply_text
+released_told s job = front_some (codes "released ") _ (omega arith)
+
+stale_told : (s : State) (name : List ℕ) → IsTold (refused s (why.Stale name))
+unfolding reply_text refusal_text
+stale_told s name = front_some (codes "refused 12 stale ") _ (omega arith)
+
+idle_told : (s : State) → IsTold (refused s (why.WrongState JobState.Idle))
+unfolding reply_text refusal_text
+idle_told s = omega arith
+
+held_told : (s : State) → IsTold (refused s (why.WrongState JobState.Claimed))
+unfolding reply_text refusal_text
+held_told s = omega arith
+
 cycle_told : (s : State) (spins : List SpinRow) → IsTold (s, reply.Cycle spins)
 unfolding reply_text
 cycle_told s spins = back_some _ (codes "\n") (omega arith)
@@ -228,6 +250,34 @@ remove_told s name = holds_if IsTold (has_job name s.jobs) _ (refused s why.Unkn
 set_priority_told : (s : State) (user : List ℕ) (n : ℕ) → IsTold (set_priority s user n)
 set_priority_told s user n = holds_if IsTold (lacks_place user s.priorities) (refused s (why.Full room.Users)) _ (full_told s room.Users) (priority_told s user n)
 
+checked_told : (s : State) (job : QueuedJob) (names : List (List ℕ)) (failing : Option (List ℕ)) → IsTold (checked s job names failing)
+checked_told s job names (Some name) = stale_told (record s { jobs = restood job.name idle s.jobs }) name
+checked_told s job names None = claimed_told (record s { jobs = restood job.name (claimed names) (without_holders names s.jobs) }) job.name names (losers s.jobs names)
+
+claim_as_told : (s : State) (job : QueuedJob) (standing : JobStanding) → IsTold (claim_as s job standing)
+claim_as_told s job idle = idle_told s
+claim_as_told s job (claimed names) = held_told s
+claim_as_told s job (matched names) = checked_told s job names (first_failing s job names)
+
+claim_told : (s : State) (name : List ℕ) → IsTold (claim s name)
+claim_told s name = by (job_named name s.jobs)
+  where
+    by : (found : Option QueuedJob) → IsTold (option_map_or (λ job. claim_as s job job.standing) found (s, reply.Refused why.UnknownName))
+    by None = unknown_told s
+    by (Some job) = claim_as_told s job job.standing
+
+release_as_told : (s : State) (job : QueuedJob) (standing : JobStanding) → IsTold (release_as s job standing)
+release_as_told s job idle = idle_told s
+release_as_told s job (claimed names) = released_told (record s { jobs = restood job.name idle s.jobs }) job.name
+release_as_told s job (matched names) = released_told (record s { jobs = restood job.name idle s.jobs }) job.name
+
+release_told : (s : State) (name : List ℕ) → IsTold (release s name)
+release_told s name = by (job_named name s.jobs)
+  where
+    by : (found : Option QueuedJob) → IsTold (option_map_or (λ job. release_as s job job.standing) found (s, reply.Refused why.UnknownName))
+    by None = unknown_told s
+    by (Some job) = release_as_told s job job.standing
+
 pub step_told : (s : State) (c : Command) → IsTold (step s c)
 unfolding step
 step_told s (command.Clock n) = clock_told s n
@@ -243,8 +293,8 @@ step_told s (command.Remove job) = remove_told s job
 step_told s (command.Priority user n) = set_priority_told s user n
 step_told s (command.Gang block) = unbuilt_told s
 step_told s command.Negotiate = cycle_told s _
-step_told s (command.Claim job) = unbuilt_told s
-step_told s (command.Release job) = unbuilt_told s
+step_told s (command.Claim job) = claim_told s job
+step_told s (command.Release job) = release_told s job
 step_told s (command.Unlisten name) = unbuilt_told s
 step_told s (command.Bad number) = line_told s number
 

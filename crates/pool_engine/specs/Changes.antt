@@ -11,4 +11,6 @@ changes_nothing (command.Submit job user block) = false
 changes_nothing (command.Remove job) = false
 changes_nothing (command.Priority user n) = false
 changes_nothing command.Negotiate = false
+changes_nothing (command.Claim job) = false
+changes_nothing (command.Release job) = false
 changes_nothing other = true

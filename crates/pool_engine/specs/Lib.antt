@@ -1,5 +1,7 @@
 pub mod Books
 pub mod Changes
+pub mod ClaimAnswers
+pub mod Claiming
 pub mod Ends
 pub mod Events
 pub mod Indexed

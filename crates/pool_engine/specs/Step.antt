@@ -29,6 +29,7 @@ use Rattle.pool_replies.specs.declared.reply.Reply.{Reply}
 use Rattle.pool_replies.specs.declared.reply.Reply.TheVariants as reply
 use Rattle.pool_replies.specs.declared.rows.AdRow.{AdRow}
 use Rattle.pool_replies.specs.declared.rows.HitRow.{HitRow}
+use Rattle.pool_engine.specs.Claiming.{claim, offered_for_claim, release, undecided_for_claim}
 use Rattle.pool_engine.specs.Negotiation.{narrowest_for_jobs, negotiate, undecided_for_jobs}
 use Rattle.pool_engine.specs.Queue.{claimed_by, has_job, job_refusal, offered_to, without_job, without_resources}
 use Rattle.pool_engine.specs.State.{QueuedJob, State, idle}
@@ -190,6 +191,8 @@ step s (command.Submit job user block) = submit s job user (length block) (ad_ou
 step s (command.Remove job) = remove s job
 step s (command.Priority user n) = set_priority s user n
 step s command.Negotiate = negotiate s
+step s (command.Claim job) = claim s job
+step s (command.Release job) = release s job
 step s (command.Bad number) = refused s (why.Line number)
 step s other = refused s why.NotBuilt
 
@@ -197,6 +200,7 @@ step s other = refused s why.NotBuilt
 unfoldable pub undecided : State → Command → ℕ
 undecided s (command.Query block) = undecided_docks s.ads (ad_outcome block)
 undecided s command.Negotiate = undecided_for_jobs s
+undecided s (command.Claim job) = undecided_for_claim s job
 undecided s other = 0
 
 -- how many whole evaluations a command may make in a state
@@ -214,4 +218,5 @@ looks s (command.Show name) = 1
 looks s (command.EvalIn name expr) = 1
 looks s (command.Query block) = narrowest s.ads (ad_outcome block)
 looks s command.Negotiate = 9 * narrowest_for_jobs s
+looks s (command.Claim job) = 9 * offered_for_claim s job
 looks s other = 0

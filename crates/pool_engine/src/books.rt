@@ -1,10 +1,11 @@
 // The ads and the jobs of a pool, which change together.
-ghost use Rattle.std.specs.Prelude.{◌≡◌, ◌≢◌, ◌+◌, ◌-◌, ◌≤◌, ◌<◌, ◌++◌, ◌∷◌, [], All, true, false, not, length, bytes_eq, Contains, IfErr, IfOk, IsTrue, None, OnErr, OnOk, Some, ◌*◌, List, map};
+ghost use Rattle.std.specs.Prelude.{◌≡◌, ◌≢◌, ◌+◌, ◌-◌, ◌≤◌, ◌<◌, ◌++◌, ◌∷◌, [], All, true, false, not, length, bytes_eq, Contains, IfErr, IfOk, IsTrue, None, OnErr, OnOk, Some, ◌*◌, ℕ, List, map};
 ghost use Rattle.ad_store.specs.Answers.{is_added};
 ghost use Rattle.ad_store.specs.Stock.{first_expired, has, lack, placed, without};
 ghost use Rattle.ad_store.specs.Store.{stock_of};
 ghost use Rattle.ad_tree.specs.Ad.{ad_frames};
 ghost use Rattle.claim_table.specs.Table.{jobs_of};
+ghost use Rattle.negotiator.specs.Priorities.{Setting};
 ghost use Rattle.negotiator.specs.Settings.{settings_of};
 ghost use Rattle.pool_replies.specs.declared.rows.SpinRow.{SpinRow};
 ghost use Rattle.pool_engine.specs.Negotiation as steps;
@@ -16,11 +17,11 @@ ghost use Rattle.pool_engine.specs.Stored.{are_stored};
 use crate::indexed::IndexedStore;
 use ad_store::{Put, PutFault};
 use ad_tree::{Ad, Ports, Request};
-use claim_table::ClaimTable;
+use claim_table::{ClaimFault, ClaimTable, FreedList, JobFault};
 use negotiator::{Cycle, Priorities, cycle};
 use pool_replies::Reply;
 use pool_steps::Steps;
-use pool_text::OutOfMemory;
+use pool_text::{OutOfMemory, Slots};
 use std::alloc::Global;
 use std::sync::ledger::Ledger;
 
@@ -36,6 +37,8 @@ pub(crate) struct Books {
 impl Books {
     ghost use Rattle.ad_store.specs.Stock.{Advert};
     ghost use Rattle.pool_engine.specs.Books.{queue_of};
+    ghost use Rattle.pool_engine.specs.ClaimAnswers.{IsClaimAnswer, IsReleaseAnswer};
+    ghost use Rattle.pool_engine.specs.Claiming.{offered_for_claim, undecided_for_claim};
     ghost use Rattle.pool_engine.specs.Indexed.{ads_of};
     ghost use Rattle.pool_engine.specs.Pool.{state_with};
     ghost use Rattle.pool_engine.specs.Rows.{IsSpinHeld, spin_row};
@@ -220,5 +223,40 @@ impl Books {
             entry,
             touch,
         )
+    }
+
+    /// Claims for the job of a name what is offered to it, as the table of jobs does, and tells the jobs that lost their
+    /// resources. Where memory is wanting nothing changes.
+    pub(crate) fn claim<F: Ledger, E: Ledger, T: Ledger>(
+        &mut self,
+        name: &[u8],
+        moment: u64,
+        tops: &mut Steps<F>,
+        entry: &mut Steps<E>,
+        touch: &mut Steps<T>,
+    ) -> Result<FreedList, ClaimFault>
+        ensures ads { self.new.ads ≡ self.old.ads }
+        ensures claim { (priorities : List Setting)
+            → IsClaimAnswer (stock_of self.old.ads.store) (state_with moment priorities self.old) name.now (state_with moment priorities self.new) result }
+        ensures cost { (priorities : List Setting) → tops.new ≤ tops.old + 4 * undecided_for_claim (state_with moment priorities self.old) name.now }
+        ensures looks { (priorities : List Setting) → touch.new ≤ touch.old + 9 * offered_for_claim (state_with moment priorities self.old) name.now }
+    {
+        self.ads.store.names_are_apart();
+        self.ads.store.slots_are_apart();
+        self.claims.names_are_apart();
+        self.claims.resources_are_apart();
+        let ads = &self.ads;
+        self.claims
+            .claim(&ads.store, name, moment, tops, entry, touch)
+    }
+
+    /// Makes the job of a name idle, and hands back what was offered to it or claimed by it.
+    pub(crate) fn release(&mut self, name: &[u8]) -> Result<Slots, JobFault>
+        ensures ads { self.new.ads ≡ self.old.ads }
+        ensures release { (moment : ℕ) (priorities : List Setting)
+            → IsReleaseAnswer (state_with moment priorities self.old) name.now (state_with moment priorities self.new) result }
+    {
+        self.claims.names_are_apart();
+        self.claims.release(name)
     }
 }

@@ -3,6 +3,7 @@
 
 mod ads;
 mod books;
+mod claiming;
 mod eval;
 mod indexed;
 mod jobs;

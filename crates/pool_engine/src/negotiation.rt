@@ -12,8 +12,9 @@ use ad_store::Store;
 use negotiator::{Cycle, Offered, OfferedList, Priorities, Turn, Turns};
 use pool_replies::{OfferRow, OfferRows, Reply, SpinRow, SpinRows, TurnRow, TurnRows};
 use pool_steps::Steps;
-use pool_text::{Names, OutOfMemory, Slots, Text};
+use pool_text::{Names, OutOfMemory, Text};
 use std::alloc::Global;
+use std::convert::AsSlice;
 use std::sync::ledger::Ledger;
 
 /// `negotiate`: a cycle offers resources to idle jobs, and its spins are told. It counts in `tops` five at most for each dock
@@ -99,24 +100,24 @@ fn offer_row(alloc: Global, store: &Store, offered: &Offered) -> Result<OfferRow
 {
     Ok(OfferRow {
         job: offered.job.copy()?,
-        names: names_of(alloc, store, &offered.slots)?,
+        names: names_of(alloc, store, offered.slots.as_slice())?,
     })
 }
 
 // The names of the ads in some slots.
-fn names_of(alloc: Global, store: &Store, slots: &Slots) -> Result<Names, OutOfMemory>
+pub(crate) fn names_of(alloc: Global, store: &Store, slots: &[usize]) -> Result<Names, OutOfMemory>
     requires { All (Contains (stock_of store.now).slots) slots.now }
     ensures { IfOk result (λ names. names ≡ map (name_in (stock_of store.now)) slots.now) }
 {
     let mut names = Names::new(alloc);
-    for i in 0..slots.len() {
-        names.push(name_of(store, *slots.at(i))?)?;
+    for slot in slots {
+        names.push(name_of(store, *slot)?)?;
     }
     Ok(names)
 }
 
 // The name of the ad in a slot.
-fn name_of(store: &Store, slot: usize) -> Result<Text, OutOfMemory>
+pub(crate) fn name_of(store: &Store, slot: usize) -> Result<Text, OutOfMemory>
     requires { Contains (stock_of store.now).slots slot }
     ensures { IfOk result (λ name. name ≡ name_in (stock_of store.now) slot) }
 {

@@ -9,6 +9,7 @@ ghost use Rattle.pool_engine.specs.Step as steps;
 
 use crate::ads::{advertise, rows, show, withdraw};
 use crate::books::Books;
+use crate::claiming::{claim, release};
 use crate::eval::{eval, eval_in};
 use crate::jobs::{remove, set_priority, submit};
 use crate::negotiation::negotiate;
@@ -121,6 +122,16 @@ impl Pool {
                 entry,
                 touch,
             ),
+            Command::Claim(job) => claim(
+                self.alloc,
+                &mut self.books,
+                job,
+                self.moment,
+                tops,
+                entry,
+                touch,
+            ),
+            Command::Release(job) => release(&mut self.books, job),
             _ => self.tell(command, tops, entry, touch),
         }
     }

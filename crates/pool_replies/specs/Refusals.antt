@@ -4,6 +4,7 @@ use Rattle.ad_lexer.specs.declared.fault.LexKind.{LexKind}
 use Rattle.ad_lexer.specs.FaultNumbers.{kind_number}
 use Rattle.ad_parser.specs.declared.fault.ParseFault.{ParseFault}
 use Rattle.ad_parser.specs.declared.fault.ParseFault.TheVariants as fault
+use Rattle.claim_table.specs.declared.answers.JobState.{JobState}
 use Rattle.pool_replies.specs.declared.refusal.Refusal.{Refusal}
 use Rattle.pool_replies.specs.declared.refusal.Refusal.TheVariants as refusal
 use Rattle.pool_replies.specs.declared.refusal.Room.{Room}
@@ -40,6 +41,12 @@ room_text room.Jobs = codes "refused 10 too many jobs\n"
 room_text room.JobText = codes "refused 10 too much job text\n"
 room_text room.Users = codes "refused 10 too many users\n"
 
+-- the line of a job's state; that something is offered to it refuses no command
+abbrev pub state_text : JobState → List ℕ
+state_text JobState.Idle = codes "refused 11 job is idle\n"
+state_text JobState.Matched = []
+state_text JobState.Claimed = codes "refused 11 job is claimed\n"
+
 -- the line of a refusal
 unfoldable pub refusal_text : Refusal → List ℕ
 refusal_text (refusal.Line n) = line_refusal n
@@ -48,6 +55,7 @@ refusal_text refusal.ClockBack = codes "refused 7 clock goes back\n"
 refusal_text refusal.UnknownName = codes "refused 8 name not known\n"
 refusal_text refusal.NameInUse = codes "refused 9 name in use\n"
 refusal_text (refusal.Full room) = room_text room
+refusal_text (refusal.WrongState state) = state_text state
 refusal_text (refusal.Stale name) = codes "refused 12 stale " ++ name ++ codes "\n"
 refusal_text refusal.BadPorts = codes "refused 13 bad ports\n"
 refusal_text refusal.NotBuilt = codes "refused 14 not built\n"
@@ -57,8 +65,14 @@ abbrev pub is_fault_of_text : ParseFault → Bool
 is_fault_of_text fault.OutOfMemory = false
 is_fault_of_text fault = true
 
+-- a job is idle, or claimed
+abbrev pub is_wrong_state : JobState → Bool
+is_wrong_state JobState.Matched = false
+is_wrong_state state = true
+
 -- a refusal that has a line
 unfoldable pub is_printable_refusal : Refusal → Bool
 is_printable_refusal (refusal.Line n) = nat_le 1 n && nat_le n 5
 is_printable_refusal (refusal.AdText fault) = is_fault_of_text fault
+is_printable_refusal (refusal.WrongState state) = is_wrong_state state
 is_printable_refusal other = true

@@ -5,6 +5,7 @@ ghost use Rattle.pool_replies.specs.Refusals as texts;
 use crate::writing::{print_line, print_name};
 use ad_lexer::LexKind;
 use ad_parser::ParseFault;
+use claim_table::JobState;
 use pool_text::{OutOfMemory, Text, append_count};
 use std::alloc::Global;
 
@@ -33,6 +34,8 @@ pub enum Refusal {
     NameInUse,
     /// There is no room.
     Full(Room),
+    /// The job is in this state: idle, or claimed where a claim is asked for.
+    WrongState(JobState),
     /// The named resource of an offer is no longer what was offered.
     Stale(Text),
     /// The ports of a gang are no ports.
@@ -54,6 +57,7 @@ pub(crate) fn print_refusal(alloc: Global, refusal: &Refusal) -> Result<Text, Ou
         Refusal::UnknownName => print_line(alloc, b"refused 8 name not known"),
         Refusal::NameInUse => print_line(alloc, b"refused 9 name in use"),
         Refusal::Full(room) => print_room(alloc, *room),
+        Refusal::WrongState(state) => print_state(alloc, *state),
         Refusal::Stale(name) => print_name(alloc, b"refused 12 stale ", name.bytes()),
         Refusal::BadPorts => print_line(alloc, b"refused 13 bad ports"),
         Refusal::NotBuilt => print_line(alloc, b"refused 14 not built"),
@@ -82,6 +86,16 @@ fn print_room(alloc: Global, room: Room) -> Result<Text, OutOfMemory>
         Room::Jobs => print_line(alloc, b"refused 10 too many jobs"),
         Room::JobText => print_line(alloc, b"refused 10 too much job text"),
         Room::Users => print_line(alloc, b"refused 10 too many users"),
+    }
+}
+
+fn print_state(alloc: Global, state: JobState) -> Result<Text, OutOfMemory>
+    ensures { IfOk result (λ t. t ≡ texts.state_text state) }
+{
+    match state {
+        JobState::Idle => print_line(alloc, b"refused 11 job is idle"),
+        JobState::Matched => Ok(Text::new(alloc)),
+        JobState::Claimed => print_line(alloc, b"refused 11 job is claimed"),
     }
 }
 

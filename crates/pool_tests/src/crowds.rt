@@ -84,10 +84,10 @@ fn ads_have_32_mebibytes_of_text_together(rt: HostRuntime) -> Result<(), Fail> {
 
 /// A script with each command that reads or changes the pool, and its replies.
 const ALL: &[u8] =
-    b"advertise a 9\n[ X = 1; Requirements = true ]\n.\nshow a\nlist\neval 1 + 1\nevalin a X\nquery\n[ Requirements = TARGET.X == 1 ]\n.\nsubmit j ann\n[ Requirements = true ]\n.\npriority ann 7\nnegotiate\nlist\nremove j\nwithdraw a\nclock 5\nfly\n";
+    b"advertise a 9\n[ X = 1; Requirements = true ]\n.\nshow a\nlist\neval 1 + 1\nevalin a X\nquery\n[ Requirements = TARGET.X == 1 ]\n.\nsubmit j ann\n[ Requirements = true ]\n.\npriority ann 7\nnegotiate\nlist\nclaim j\nrelease j\nremove j\nwithdraw a\nclock 5\nfly\n";
 
 const ALL_REPLIES: &[u8] =
-    b"advertised a\n[ X = 1; Requirements = true ]\nads 1\na 0 9 free\n2\n1\nhits 1\na 0\nsubmitted j\npriority ann 7\nspin 1 free 1\nslice ann 1\noffer j ann a\nspin 2 free 0\noffers 1\nads 1\na 0 9 offered j\nremoved j\nwithdrawn a\nclock 5 expired 0\nrefused 2 unknown command\n";
+    b"advertised a\n[ X = 1; Requirements = true ]\nads 1\na 0 9 free\n2\n1\nhits 1\na 0\nsubmitted j\npriority ann 7\nspin 1 free 1\nslice ann 1\noffer j ann a\nspin 2 free 0\noffers 1\nads 1\na 0 9 offered j\nclaimed j a\nreleased j\nremoved j\nwithdrawn a\nclock 5 expired 0\nrefused 2 unknown command\n";
 
 #[test]
 fn each_read_and_each_write_may_fail_among_all_commands(rt: HostRuntime) -> Result<(), Fail> {

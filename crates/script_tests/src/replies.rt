@@ -3,6 +3,7 @@
 
 use ad_lexer::LexKind;
 use ad_parser::ParseFault;
+use claim_table::JobState;
 use pool_replies::*;
 use pool_text::{Items, Names, OutOfMemory, Text};
 use std::alloc::Global;
@@ -157,6 +158,11 @@ fn refusals_have_their_lines(rt: HostRuntime) -> Result<(), Fail> {
     assert_eq!(rt;
         print_reply(alloc, &full)?.bytes(),
         b"refused 10 too much job text\n".as_slice()
+    );
+    let claimed = Reply::Refused(Refusal::WrongState(JobState::Claimed));
+    assert_eq!(rt;
+        print_reply(alloc, &claimed)?.bytes(),
+        b"refused 11 job is claimed\n".as_slice()
     );
     let stale = Reply::Refused(Refusal::Stale(name(alloc, b"m1")?));
     assert_eq!(rt;

@@ -1,17 +1,12 @@
-use Rattle.std.proofs.Common.{ℕ, List, [], ◌∷◌, ◌++◌, Contains, ◌∙◌, ap, add-one, arith}
+use Rattle.std.proofs.Common.{ℕ, List, [], ◌∷◌, ◌++◌, map, take, sym, ◌∙◌, ap, arith}
+use Rattle.std.proofs.lemmas.List.{map_more}
 use Rattle.ad_store.specs.Store.{stock_of}
 use Rattle.pool_engine.specs.Pool.{name_in}
-use Rattle.pool_engine.proofs.HitLemmas.{all_at}
-use Rattle.pool_engine.proofs.RowLemmas.{rows-all, rows-more}
 use Rattle.pool_engine.proofs.negotiation.names_of.Goals as goal
 
-pub name_of-requires : goal.name_of-requires
-name_of-requires c = all_at (Contains (stock_of c.args.store.now).slots) c.args.slots.now c.loop-i.i c.at.result.now c.requires c.at.ensures
-
-pub loop-i-preserved : goal.loop-i-preserved
-loop-i-preserved c =
-    let name = c.in_ok-name_of.field-0 in
-    rw (add-one c.loop-i.i) (c.in_ok-push.ensures.ok ∙ ap (λ (names : List (List ℕ)). names ++ name ∷ []) c.loop-i.invariant ∙ rows-more (name_in (stock_of c.args.store.now)) c.args.slots.now c.loop-i.i c.at.result.now name c.at.ensures c.in_ok-name_of.ensures)
-
-pub returns : goal.returns
-returns c = c.loop-i.invariant ∙ rows-all (name_in (stock_of c.args.store.now)) c.args.slots.now c.loop-i.i (omega (arith, c.loop-i-test.false, c.len-i-end.ensures))
+pub loop-slot-preserved : goal.loop-slot-preserved
+loop-slot-preserved c =
+    let named = name_in (stock_of c.args.store.now) in
+    c.in_ok-push.ensures.ok ∙ ap (λ (names : List (List ℕ)). names ++ c.in_ok-name_of.field-0 ∷ []) c.loop-slot.invariant
+    ∙ ap (λ (name : List ℕ). map named (take c.loop-slot.slot-index c.args.slots.now) ++ name ∷ []) c.in_ok-name_of.ensures
+    ∙ sym (map_more named c.args.slots.now c.loop-slot.slot-index _ (omega (arith, c.loop-slot-test.true)))

@@ -3,5 +3,5 @@ use Rattle.ad_store.specs.Store.{stock_of}
 use Rattle.pool_engine.specs.Pool.{name_in}
 use Rattle.pool_engine.proofs.negotiation.names_of.Given as goal
 
-abbrev pub invariant-loop-i : goal.invariant-loop-i
-invariant-loop-i l = l.names ≡ map (name_in (stock_of l.store)) (take l.i l.slots)
+abbrev pub invariant-loop-slot : goal.invariant-loop-slot
+invariant-loop-slot l = l.names ≡ map (name_in (stock_of l.store)) (take l.slot-index l.slots)

@@ -1,7 +1,13 @@
--- Which commands change the state.
+-- Which commands change the ads of a state, and which change nothing.
 use Rattle.std.specs.Prelude.{Bool, true, false}
 use Rattle.pool_script.specs.declared.command.Command.{Command}
 use Rattle.pool_script.specs.declared.command.Command.TheVariants as command
+
+abbrev pub keeps_ads : Command → Bool
+keeps_ads (command.Clock n) = false
+keeps_ads (command.Advertise name lifetime block) = false
+keeps_ads (command.Withdraw name) = false
+keeps_ads other = true
 
 abbrev pub changes_nothing : Command → Bool
 changes_nothing (command.Clock n) = false

@@ -190,8 +190,7 @@ impl Books {
         self.claims.remove(name).is_ok()
     }
 
-    /// Goes through a cycle of negotiation, which offers resources to idle jobs. Where memory is wanting, the first offers of
-    /// the cycle stand.
+    /// Goes through a cycle of negotiation, which offers resources to idle jobs.
     pub(crate) fn negotiate<F: Ledger, E: Ledger, T: Ledger>(
         &mut self,
         alloc: Global,

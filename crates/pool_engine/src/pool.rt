@@ -3,7 +3,7 @@ ghost use Rattle.std.specs.Prelude.{◌≡◌, ◌+◌, ◌≤◌, true, false, 
 ghost use Rattle.pool_script.specs.Form.{is_within_form};
 ghost use Rattle.pool_replies.specs.Refusals.{is_fault_of_text};
 ghost use Rattle.pool_replies.specs.Replies.{is_printable};
-ghost use Rattle.pool_engine.specs.Changes.{changes_nothing};
+ghost use Rattle.pool_engine.specs.Changes.{changes_nothing, keeps_ads};
 ghost use Rattle.pool_engine.specs.State.{opening};
 ghost use Rattle.pool_engine.specs.Step as steps;
 
@@ -108,6 +108,27 @@ impl Pool {
                 touch,
             ),
             Command::Withdraw(name) => withdraw(&mut self.books, name, touch),
+            _ => self.answer_for_jobs(command, tops, entry, touch),
+        }
+    }
+
+    // Runs a command that leaves the ads as they are.
+    #[tactic(auto, unfolding(crate::specs::Pool::state_of, crate::specs::Step::step, crate::specs::Step::allowance, crate::specs::Step::undecided, crate::specs::Step::looks, pool_script::specs::Form::is_within_form, pool_replies::specs::Replies::is_printable, pool_replies::specs::Refusals::is_printable_refusal))]
+    fn answer_for_jobs<F: Ledger, E: Ledger, T: Ledger>(
+        &mut self,
+        command: &Command,
+        tops: &mut Steps<F>,
+        entry: &mut Steps<E>,
+        touch: &mut Steps<T>,
+    ) -> Result<Reply, OutOfMemory>
+        requires form { IsTrue (is_within_form command.now) }
+        requires kept { IsTrue (keeps_ads command.now) }
+        ensures step { IfOk result (λ reply. steps.step (state_of self.old) command.now ≡ (state_of self.new, reply)) }
+        ensures printable { IfOk result (λ reply. IsTrue (is_printable reply)) }
+        ensures cost { tops.new ≤ tops.old + steps.allowance (state_of self.old) command.now }
+        ensures looks { touch.new ≤ touch.old + steps.looks (state_of self.old) command.now }
+    {
+        match command {
             Command::Submit { job, user, block } => {
                 submit(self.alloc, &mut self.books, job, user, block.bytes())
             }

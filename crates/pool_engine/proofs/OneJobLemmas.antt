@@ -1,5 +1,5 @@
 -- No two jobs list one resource.
-use Rattle.std.proofs.Common.{◌≡◌, ℕ, suc, All, Bool, true, false, ◌||◌, List, [], ◌∷◌, map, slice_get, Option, None, Some, option_map, bytes_eq, refl, sym, ◌∙◌, ap}
+use Rattle.std.proofs.Common.{◌≡◌, ℕ, zero, suc, All, Bool, true, false, ◌||◌, List, [], ◌∷◌, map, slice_get, Option, None, Some, option_map, bytes_eq, refl, sym, ◌∙◌, ap}
 use Rattle.std.specs.List.{list_all}
 use Rattle.std.specs.Cmp.Lexicographic.{bytes_decides}
 use Rattle.std.proofs.lemmas.List.Elements.{All-cons, All-nil}
@@ -35,7 +35,7 @@ record Behind (stock : Stock) (jobs : List Job) (i : ℕ) (seen : QueuedJob) : T
 
 stored-at : (slots : List ℕ) (jobs : List Job) (i : ℕ) (job : Job) → are_stored slots jobs ≡ true → slice_get jobs i ≡ Some job → is_stored slots job ≡ true
 stored-at slots [] i job stored at = absurd (cc)
-stored-at slots (x ∷ jobs) 0 job stored at =
+stored-at slots (x ∷ jobs) zero job stored at =
     let same : x ≡ job = cc in
     ap (is_stored slots) (sym same) ∙ (both (is_stored slots x) (are_stored slots jobs) stored).0
 stored-at slots (x ∷ jobs) (suc i) job stored at = stored-at slots jobs i job (both (is_stored slots x) (are_stored slots jobs) stored).1 at

@@ -60,65 +60,7 @@ idle-state jobs i = by (slice_get jobs i)
     by None = refl
     by (Some job) = standing job.standing
 
--- ---- one job
-
-module _ (jobs : List Job) (i : ℕ) (request : Request) (at : option_map (λ (job : Job). job.request) (slice_get jobs i) ≡ Some request) where
-  pub read-request : {A : Type 0} (f : Request → A) (none : A) → option_map_or (λ (job : Job). f job.request) (slice_get jobs i) none ≡ f request
-  read-request f none = by (slice_get jobs i) at
-    where
-      by : (o : Option Job) → option_map (λ (job : Job). job.request) o ≡ Some request → option_map_or (λ (job : Job). f job.request) o none ≡ f request
-      by None e = absurd (cc)
-      by (Some job) e = let same : job.request ≡ request = cc in ap f same
-
-  pub found-is : (moment : ℕ) (stock : Stock) → found moment stock jobs i ≡ found_for moment stock jobs request
-  found-is moment stock = by (slice_get jobs i) at
-    where
-      by : (o : Option Job) → option_map (λ (job : Job). job.request) o ≡ Some request → option_and_then (λ (job : Job). found_for moment stock jobs job.request) o ≡ found_for moment stock jobs request
-      by None e = absurd (cc)
-      by (Some job) e = let same : job.request ≡ request = cc in ap (found_for moment stock jobs) same
-
-  pub wanted-is : option_map (λ (job : Job). wanted job.request) (slice_get jobs i) ≡ Some (wanted request)
-  wanted-is = by (slice_get jobs i) at
-    where
-      by : (o : Option Job) → option_map (λ (job : Job). job.request) o ≡ Some request → option_map (λ (job : Job). wanted job.request) o ≡ Some (wanted request)
-      by None e = absurd (cc)
-      by (Some job) e = let same : job.request ≡ request = cc in ap (λ r. Some (wanted r)) same
-
-  pub own-ports : All (λ (job : Job). AreOwn (ad_frames job.request.ad) job.request.ports) jobs → AreOwn (ad_frames request.ad) request.ports
-  own-ports own = by (slice_get jobs i) refl at
-    where
-      by : (o : Option Job) → slice_get jobs i ≡ o → option_map (λ (job : Job). job.request) o ≡ Some request → AreOwn (ad_frames request.ad) request.ports
-      by None here e = absurd (cc)
-      by (Some job) here e =
-          let same : job.request ≡ request = cc in
-          subst (λ (r : Request). AreOwn (ad_frames r.ad) r.ports) same (All-found (λ (job : Job). AreOwn (ad_frames job.request.ad) job.request.ports) jobs i job own here)
-
-  -- what the search for the request gives and counts
-  pub found-at : (moment : ℕ) (stock : Stock) (r : Result (Option (List ℕ)) OutOfMemory) → IfOk r (λ slots. slots ≡ found_for moment stock jobs request) → IfOk r (λ slots. slots ≡ found moment stock jobs i)
-  found-at moment stock r h = IfOk-weaker r (λ slots. slots ≡ found_for moment stock jobs request) (λ slots. slots ≡ found moment stock jobs i) (λ slots e. e ∙ sym (found-is moment stock)) h
-
-  pub enough-at : (r : Result (Option (List ℕ)) OutOfMemory) → IfOk r (λ slots. IfSome slots (λ list. wanted request ≡ length list))
-      → IfOk r (λ slots. IfSome slots (λ list. option_map (λ (job : Job). wanted job.request) (slice_get jobs i) ≡ Some (length list)))
-  enough-at r h =
-      IfOk-weaker r (λ slots. IfSome slots (λ list. wanted request ≡ length list)) (λ slots. IfSome slots (λ list. option_map (λ (job : Job). wanted job.request) (slice_get jobs i) ≡ Some (length list)))
-      (λ slots some. IfSome_then slots some (λ list e. wanted-is ∙ ap Some e)) h
-
-  pub searched : (moment : ℕ) (stock : Stock) (before after : Counts)
-      → after.tops ≤ before.tops + evaluations_for moment stock jobs request
-      → after.entry ≤ before.entry + entries_for moment stock jobs request
-      → after.touch ≤ before.touch + looks_for stock jobs request
-      → IsSearched moment stock jobs i before after
-  searched moment stock before after evaluations entries looks = record {
-    tops = subst (λ (n : ℕ). after.tops ≤ before.tops + n) (sym (read-request (evaluations_for moment stock jobs) 0)) evaluations;
-    entry = subst (λ (n : ℕ). after.entry ≤ before.entry + n) (sym (read-request (entries_for moment stock jobs) 0)) entries;
-    touch = subst (λ (n : ℕ). after.touch ≤ before.touch + n) (sym (read-request (looks_for stock jobs) 0)) looks;
-  }
-
 -- ---- without ports
-
-pub none-listed : (ports : List Port) → length ports ≡ 0 → ports ≡ []
-none-listed [] e = refl
-none-listed (port ∷ ports) e = absurd (omega (arith, e))
 
 module _ (moment : ℕ) (stock : Stock) (jobs : List Job) (request : Request) (none : request.ports ≡ []) where
   pub evaluations-one : (start now : ℕ) → now ≤ start + 5 * open_count (pool_for moment stock jobs) (ad_frames request.ad) → now ≤ start + evaluations_for moment stock jobs request
@@ -155,10 +97,6 @@ pub one-wanted : (request : Request) → request.ports ≡ [] → wanted request
 one-wanted request none = ap (λ ports. max 1 (length ports)) none
 
 -- ---- with ports
-
-pub own-listed : (frames : List Frame) (ports : List Port) → AreOwn frames ports → 0 < length ports → ports_of frames ≡ Some ports
-own-listed frames [] own some = absurd (omega (arith, some))
-own-listed frames (port ∷ ports) own some = own
 
 -- what holds of each list with a first port holds where there are ports
 with-some : (P : List Port → Type 0) → ((port : Port) (ports : List Port) → P (port ∷ ports)) → (ports : List Port) → 0 < length ports → P ports

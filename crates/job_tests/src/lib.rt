@@ -2,6 +2,8 @@
 #![tactic(auto)]
 
 #[cfg(test)]
+mod claiming;
+#[cfg(test)]
 mod claims;
 #[cfg(test)]
 mod store;

@@ -1,4 +1,4 @@
-use Rattle.gang_tests.proofs.gangs.offered.Given as goal
+use Rattle.gang_tests.proofs.gangs.gang_among.Given as goal
 
 abbrev pub ghosts-slots_of-F-Ledger : goal.ghosts-slots_of-F-Ledger
 ghosts-slots_of-F-Ledger a = record { name = a.tops.name; parts = a.tops.parts }

@@ -24,7 +24,10 @@ fn lines_are_the_same_however_they_are_cut(rt: HostRuntime) -> Result<(), Fail> 
     for (input, lines) in INPUTS {
         for most in [65_536, 1, 2, 3, 7] {
             let read = read_lines(rt.alloc(), input, most)?;
-            assert!(rt; read.bytes() == lines, "{input:?} in pieces of {most}: {read:?}");
+            assert!(rt;
+                read.bytes() == lines,
+                "{input:?} in pieces of {most}: {read:?}"
+            );
         }
     }
     Ok(())

@@ -1,6 +1,7 @@
 // A wire that answers the lines of a schedule.
 ghost use Rattle.std.specs.Prelude.{◌≡◌, length, IfOk};
-ghost use Rattle.claim_wire.specs.Wires.{IsNamed, IsNumber, WireState, fault_of, new_wire};
+ghost use Rattle.claim_wire.specs.Lines.{event_of};
+ghost use Rattle.claim_wire.specs.Wires.{IsNamed, IsNumber, fault_of, new_wire};
 ghost use Rattle.pool_engine.specs.WireReplies as replies;
 ghost use Rattle.pool_engine.specs.WireReplies.{Answer};
 
@@ -52,15 +53,24 @@ impl LineWire {
     }
 
     /// Lets happen what a line says.
-    #[tactic(auto, unfolding(crate::specs::WireReplies::answer))]
+    #[tactic(auto, unfolding(crate::specs::WireReplies::answer, pool_replies::specs::Refusals::line_refusal))]
     pub(crate) fn answer(&mut self, line: &Line) -> Result<LineReply, OutOfMemory>
         ensures { IfOk result (λ reply.
             ◌≡◌ {A = Answer} (replies.answer self.old line.now) (record { wire = self.new; text = reply.text; refusals = reply.refusals })) }
     {
-        let Line::Words(words) = line else {
-            return refused(self.alloc, b"refused 1 line too long\n");
-        };
-        match read_event(words.bytes(), self.resources, self.customers) {
+        match line {
+            Line::TooLong => refused(self.alloc, b"refused 1 line too long\n"),
+            Line::Words(words) => self.answer_words(words.bytes()),
+        }
+    }
+
+    /// Lets happen what the words of a line say.
+    fn answer_words(&mut self, words: &[u8]) -> Result<LineReply, OutOfMemory>
+        ensures { IfOk result (λ reply.
+            ◌≡◌ {A = Answer} (replies.answer_read (event_of (length self.old.resources) (length self.old.customers) words.now) self.old)
+                (record { wire = self.new; text = reply.text; refusals = reply.refusals })) }
+    {
+        match read_event(words, self.resources, self.customers) {
             Ok(None) => Ok(LineReply {
                 text: Text::new(self.alloc),
                 refusals: 0,

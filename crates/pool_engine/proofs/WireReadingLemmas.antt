@@ -5,7 +5,7 @@ use Rattle.std.proofs.lemmas.List.{append-nil}
 use Rattle.claim_wire.specs.Wires.{WireState}
 use Rattle.pool_io.specs.Flow.{Supply, Intake, Reads}
 use Rattle.pool_io.proofs.KnownLemmas.{Consumes-nil}
-use Rattle.pool_script.specs.GivenLines.{ended_lines, given_lines, whole_lines}
+use Rattle.pool_script.specs.GivenLines.{ended_lines, whole_lines}
 use Rattle.pool_script.specs.Standing.{Held, LinesStand}
 use Rattle.pool_script.specs.declared.lines.Line.{Line}
 use Rattle.pool_script.proofs.CountLemmas.{given_lines-length}
@@ -14,11 +14,10 @@ use Rattle.pool_engine.specs.declared.run.RunEnd.TheVariants.{Done, BadWords, Re
 use Rattle.pool_engine.specs.Ends.{Gave, before_last, end_of}
 use Rattle.pool_engine.specs.Limits.{input_limit}
 use Rattle.pool_engine.specs.WireEnds.{IsWireDone, IsWireReadFault, IsWireTooLong, LinesAreDue, WireEnds}
-use Rattle.pool_engine.specs.WireReplies.{wire_text}
 use Rattle.pool_engine.specs.WireSession.{Answered, WireStopped}
 use Rattle.pool_engine.proofs.ReadingLemmas.{Gave-read, Lost-read, before_end, before_piece, gave_end}
 use Rattle.pool_engine.proofs.WireAnswerLemmas.{wire_refusals-le}
-use Rattle.pool_engine.proofs.WireTookLemmas.{Answered-append, Answered-nil, break_behind, text_behind}
+use Rattle.pool_engine.proofs.WireTookLemmas.{Answered-append, break_behind, text_behind}
 use Rattle.pool_engine.proofs.WroteLemmas.{Wrote-nil}
 
 -- the bytes that were read, for which the lines stand, and the lines that have ended in them, which were answered

@@ -39,7 +39,11 @@ pub(crate) struct LineReply {
 }
 
 impl LineWire {
-    pub(crate) fn new(alloc: Global, resources: u32, customers: u32) -> Result<LineWire, OutOfMemory>
+    pub(crate) fn new(
+        alloc: Global,
+        resources: u32,
+        customers: u32,
+    ) -> Result<LineWire, OutOfMemory>
         requires resources { IsNumber 100 resources }
         requires customers { IsNumber 100 customers }
         ensures { IfOk result (λ wire. wire ≡ new_wire resources customers) }
@@ -68,7 +72,7 @@ impl LineWire {
     fn answer_words(&mut self, words: &[u8]) -> Result<LineReply, OutOfMemory>
         ensures { IfOk result (λ reply.
             ◌≡◌ {A = Answer} (replies.answer_read (event_of (length self.old.resources) (length self.old.customers) words.now) self.old)
-                (record { wire = self.new; text = reply.text; refusals = reply.refusals })) }
+            (record { wire = self.new; text = reply.text; refusals = reply.refusals })) }
     {
         match read_event(words, self.resources, self.customers) {
             Ok(None) => Ok(LineReply {
@@ -85,7 +89,7 @@ impl LineWire {
         requires { IsNamed (length self.old.resources) (length self.old.customers) event.now }
         ensures { IfOk result (λ reply.
             ◌≡◌ {A = Answer} (replies.answer_event (fault_of event.now self.old) event.now self.old)
-                (record { wire = self.new; text = reply.text; refusals = reply.refusals })) }
+            (record { wire = self.new; text = reply.text; refusals = reply.refusals })) }
     {
         match self.wire.step(event) {
             Ok(text) => Ok(LineReply { text, refusals: 0 }),

@@ -138,7 +138,11 @@ fn run_input<S: Source, K: Sink, F: Ledger, E: Ledger, T: Ledger>(
 }
 
 // Reads into the front of a buffer, at most so many bytes.
-pub(crate) fn read_piece<S: Source>(source: &mut S, buffer: &mut [u8], most: usize) -> Result<usize, Failed>
+pub(crate) fn read_piece<S: Source>(
+    source: &mut S,
+    buffer: &mut [u8],
+    most: usize,
+) -> Result<usize, Failed>
     requires some { 0 < most }
     requires room { 0 < length buffer.old }
     ensures reads { Reads (S.shows source.old) (S.shows source.new) result buffer.new }

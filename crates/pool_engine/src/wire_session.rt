@@ -23,7 +23,11 @@ pub(crate) struct WireSession {
 }
 
 impl WireSession {
-    pub(crate) fn new(alloc: Global, resources: u32, customers: u32) -> Result<WireSession, OutOfMemory>
+    pub(crate) fn new(
+        alloc: Global,
+        resources: u32,
+        customers: u32,
+    ) -> Result<WireSession, OutOfMemory>
         requires resources { IsNumber 100 resources }
         requires customers { IsNumber 100 customers }
         ensures stands { IfOk result (λ session. LinesStand session.lines [] 0) }

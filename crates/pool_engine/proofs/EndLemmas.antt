@@ -42,11 +42,11 @@ unsure_left (Some all) (Some more) s t k m from to fault consumed = λ sure.
     let long = ap (λ (l : List Command). length (replies_text (events_of opening l))) commands in
     omega (arith, sure, fault.broke.unsure, long, replies-length opening fault.front (fault.others ++ due.0) fault.cut)
 
-if_some : (o : Option (List ℕ)) (P Q : List ℕ → Type 0) → ((x : List ℕ) → P x → Q x) → IfSome o P → IfSome o Q
+pub if_some : (o : Option (List ℕ)) (P Q : List ℕ → Type 0) → ((x : List ℕ) → P x → Q x) → IfSome o P → IfSome o Q
 if_some None P Q weaker p = tt
 if_some (Some x) P Q weaker p = weaker x p
 
-always : (o : Option (List ℕ)) (Q : List ℕ → Type 0) → ((x : List ℕ) → Q x) → IfSome o Q
+pub always : (o : Option (List ℕ)) (Q : List ℕ → Type 0) → ((x : List ℕ) → Q x) → IfSome o Q
 always None Q q = tt
 always (Some x) Q q = q x
 

@@ -27,4 +27,9 @@ mod StepLemmas
 mod SubmitLemmas
 mod TimeLemmas
 mod TookLemmas
+mod WireAnswerLemmas
+mod WireEndLemmas
+mod WireReadingLemmas
+mod WireRunningLemmas
+mod WireTookLemmas
 mod WroteLemmas

@@ -99,10 +99,10 @@ Reading-piece s t u k m n script next pool behind buf refused more left count r 
 -- ---- the ends of a run
 
 -- the bytes before a piece that was read last
-before_piece : (u : Supply) (bytes piece : List ℕ) → u.latest ≡ length piece → before_last u (bytes ++ piece) ≡ bytes
+pub before_piece : (u : Supply) (bytes piece : List ℕ) → u.latest ≡ length piece → before_last u (bytes ++ piece) ≡ bytes
 before_piece u bytes piece is = take_at bytes piece (length (bytes ++ piece) - u.latest) (omega (arith, is, length-append bytes piece))
 
-before_end : (u : Supply) (bytes : List ℕ) → u.latest ≡ 0 → before_last u bytes ≡ bytes
+pub before_end : (u : Supply) (bytes : List ℕ) → u.latest ≡ 0 → before_last u bytes ≡ bytes
 before_end u bytes is = take_all (length bytes - u.latest) bytes (omega (arith, is))
 
 -- running stopped at commands that were due: those before the last read ran
@@ -151,7 +151,7 @@ Reading-stopped s t u k m n script pool buf refused left count end r read all fi
     (omega (arith, before)) r.took stopped
 
 -- the end of the input was read, and nothing was given with it
-gave_end : {E : Type 0} (s t u : Supply) (bytes buf : List ℕ) → Gave s t bytes → Reads {E = E} t u (Ok 0) buf → Gave s u bytes
+pub gave_end : {E : Type 0} (s t u : Supply) (bytes buf : List ℕ) → Gave s t bytes → Reads {E = E} t u (Ok 0) buf → Gave s u bytes
 gave_end s t u bytes buf gave read = subst (λ (l : List ℕ). Gave s u l) (append-nil bytes) (Gave-read s t u bytes buf 0 gave read)
 
 -- running stopped at a command that the end of the input gave

@@ -16,3 +16,6 @@ pub mod State
 pub mod Step
 pub mod Stocks
 pub mod Stored
+pub mod WireEnds
+pub mod WireReplies
+pub mod WireSession

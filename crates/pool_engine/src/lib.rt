@@ -8,12 +8,16 @@ mod eval;
 mod indexed;
 mod jobs;
 mod laws;
+mod line_wire;
 mod negotiation;
 mod pool;
 mod query;
 mod run;
 mod session;
+mod wire;
+mod wire_session;
 
 pub use laws::the_first_reply_is_offered_at_once;
 pub use pool::Pool;
 pub use run::{RunEnd, run_pool};
+pub use wire::run_wire;

@@ -15,10 +15,10 @@ use std::alloc::Global;
 use std::sync::ledger::Ledger;
 
 // An input may have so many bytes.
-const INPUT_LIMIT: usize = 1 << 30;
+pub(crate) const INPUT_LIMIT: usize = 1 << 30;
 
 // A read offers room for so many bytes.
-const READ_SIZE: usize = 4096;
+pub(crate) const READ_SIZE: usize = 4096;
 
 /// How a run ended.
 #[derive(Clone, Copy, Debug, PartialEq, Eq)]
@@ -138,7 +138,11 @@ fn run_input<S: Source, K: Sink, F: Ledger, E: Ledger, T: Ledger>(
 }
 
 // Reads into the front of a buffer, at most so many bytes.
-fn read_piece<S: Source>(source: &mut S, buffer: &mut [u8], most: usize) -> Result<usize, Failed>
+pub(crate) fn read_piece<S: Source>(
+    source: &mut S,
+    buffer: &mut [u8],
+    most: usize,
+) -> Result<usize, Failed>
     requires some { 0 < most }
     requires room { 0 < length buffer.old }
     ensures reads { Reads (S.shows source.old) (S.shows source.new) result buffer.new }

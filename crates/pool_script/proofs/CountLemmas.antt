@@ -1,13 +1,16 @@
 -- How many commands there are, and which come first.
-use Rattle.std.proofs.Common.{◌≡◌, ℕ, ◌+◌, ◌≤◌, Bool, true, false, ◌||◌, List, [], ◌∷◌, ◌++◌, length, Option, None, Some, refl, sym, ◌∙◌, ap, inl, inr, arith, append_assoc, length-append, length-drop}
+use Rattle.std.proofs.Common.{◌≡◌, ℕ, ◌+◌, ◌≤◌, Bool, true, false, ◌||◌, List, [], ◌∷◌, ◌++◌, length, map, Option, None, Some, refl, sym, ◌∙◌, ap, inl, inr, arith, append_assoc, length-append, length-drop}
 use Rattle.std.proofs.lemmas.Bool.{cases_Bool}
+use Rattle.std.proofs.lemmas.List.{length-map, map-append}
 use Rattle.std.specs.Bool.{if◌then◌else◌}
 use Rattle.pool_text.specs.Lines.{ended, last_line, rest_of, with_feeds}
 use Rattle.pool_text.proofs.LineLemmas.{ended-append, with_feeds-ended}
 use Rattle.pool_text.specs.Words.{is_long, is_silent}
 use Rattle.pool_script.specs.Commands.{commands, commands_of, cut_off, ended_commands, given, is_dot, line_command, lines_of, next, takes_block, whole_commands}
+use Rattle.pool_script.specs.GivenLines.{ended_lines, given_line, given_lines, whole_lines}
 use Rattle.pool_script.specs.Standing.{Kept, Stands}
 use Rattle.pool_script.specs.declared.command.Command.{Command}
+use Rattle.pool_script.specs.declared.lines.Line.{Line}
 use Rattle.pool_script.specs.declared.reader.Block.{Block}
 use Rattle.pool_script.proofs.LongLemmas.{takes_block-long}
 
@@ -79,7 +82,7 @@ last-length : (rest : List ℕ) → length (last_line rest) ≤ length rest
 last-length [] = omega arith
 last-length (x ∷ rest) = omega arith
 
-lines-length : (over : Bool) (bytes : List ℕ) → length (lines_of over bytes) ≤ length bytes
+pub lines-length : (over : Bool) (bytes : List ℕ) → length (lines_of over bytes) ≤ length bytes
 lines-length false bytes =
     let all = ap length (with_feeds-ended bytes) in
     omega (arith, simp length-append at all, feeds-length (ended bytes))
@@ -93,6 +96,25 @@ commands_of-length over bytes = omega (arith, commands-length over None (lines_o
 pub stands-length : (script : Kept) (bytes : List ℕ) (n : ℕ) → Stands script bytes n → n + length script.waiting ≤ length bytes
 stands-length script bytes n stands =
     let all = commands_of-length script.over bytes in
-    let waits = ap length stands.commands.waits in
-    let taken = stands.commands.taken in
+    let waits = ap length stands.follows.waits in
+    let taken = stands.follows.taken in
     omega (arith, simp length-drop at waits)
+
+-- ---- lines
+
+pub given_lines-length : (over : Bool) (bytes : List ℕ) → length (given_lines over bytes) ≤ length bytes
+given_lines-length over bytes = omega (arith, lines-length over bytes, length-map (lines_of over bytes) given_line)
+
+-- the lines that have ended within some bytes are the first of those of more
+pub lines_before_more : (bytes more : List ℕ) → (others : List Line) × (ended_lines (bytes ++ more) ≡ ended_lines bytes ++ others)
+lines_before_more bytes more =
+    let behind : List (List ℕ) = ended (rest_of bytes ++ more) in
+    (map given_line behind, ap (λ (lines : List (List ℕ)). map given_line lines) (ended-append bytes more) ∙ map-append given_line (ended bytes) behind)
+
+pub lines_before_whole : (bytes more : List ℕ) → (others : List Line) × (whole_lines (bytes ++ more) ≡ ended_lines bytes ++ others)
+lines_before_whole bytes more =
+    let last = last_line (rest_of (bytes ++ more)) in
+    let behind : List (List ℕ) = ended (rest_of bytes ++ more) ++ last in (
+      map given_line behind,
+      ap (λ (lines : List (List ℕ)). map given_line (lines ++ last)) (ended-append bytes more) ∙ ap (λ (lines : List (List ℕ)). map given_line lines) (append_assoc (ended bytes) (ended (rest_of bytes ++ more)) last) ∙ map-append given_line (ended bytes) behind,
+    )

@@ -4,7 +4,7 @@ use Rattle.std.proofs.Math.Seq.{take-length}
 use Rattle.std.proofs.lemmas.Bool.{cases_Bool, eqb-true}
 use Rattle.std.proofs.lemmas.List.{length-drop, take-append-drop, take_all}
 use Rattle.memchr.specs.Find.{IsFirstByte, is_byte}
-use Rattle.pool_text.specs.Lines.{ended, last_line, onto, rest_behind, rest_of, with_feeds}
+use Rattle.pool_text.specs.Lines.{ended, last_line, onto, rest_behind, rest_of, whole, with_feeds}
 use Rattle.pool_text.proofs.LineLemmas.{ended-append, ended_onto, rest_onto, with_feeds-ended}
 use Rattle.pool_script.specs.Commands.{lines_of}
 use Rattle.pool_script.specs.Cuts.{CutsAtFeed}
@@ -40,6 +40,10 @@ ended_none-take n a none = ended_none-front (take n a) (drop n a) (ap (λ (l : L
 
 pub rest_of-none : (a : List ℕ) → ended a ≡ [] → rest_of a ≡ a
 rest_of-none a none = ap (λ (lines : List (List ℕ)). with_feeds lines ++ rest_of a) (sym none) ∙ with_feeds-ended a
+
+pub whole_none : (line : List ℕ) → ended line ≡ [] → 0 < length line → whole line ≡ line ∷ []
+whole_none [] none some = absurd (omega arith)
+whole_none (x ∷ line) none some = rw (none, rest_of-none (x ∷ line) none) refl
 
 pub ended_feed : (line more : List ℕ) → ended line ≡ [] → ended (line ++ 10 ∷ more) ≡ line ∷ ended more
 ended_feed [] more none = refl

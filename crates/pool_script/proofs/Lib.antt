@@ -1,6 +1,7 @@
 pub mod CountLemmas
 pub mod CutLemmas
 pub mod FormLemmas
+pub mod LinesLemmas
 pub mod LongLemmas
 pub mod ReaderLemmas
 pub mod RestLemmas

@@ -1,8 +1,9 @@
 -- Of a line or a block that is too long, the bytes past the limit make no difference.
-use Rattle.std.proofs.Common.{◌≡◌, ℕ, ◌+◌, ◌≤◌, ◌<◌, Bool, true, false, eqb, ltb, List, [], ◌∷◌, ◌++◌, length, Option, None, Some, Err, refl, sym, ◌∙◌, ap, inl, inr, arith, append_assoc, length-append, codes}
+use Rattle.std.proofs.Common.{◌≡◌, ℕ, ◌-◌, ◌+◌, ◌≤◌, ◌<◌, Bool, true, false, eqb, ltb, List, [], ◌∷◌, ◌++◌, length, min, take, Option, None, Some, Err, refl, sym, ◌∙◌, ap, inl, inr, arith, append_assoc, length-append, codes}
+use Rattle.std.proofs.Math.Seq.{take-append-add}
 use Rattle.std.proofs.lemmas.Bool.{cases_Bool}
 use Rattle.std.proofs.lemmas.Bool.Decides.{nat_tests}
-use Rattle.std.proofs.lemmas.List.{append-nil, length-take, length-take-le, take_all}
+use Rattle.std.proofs.lemmas.List.{append-nil, length-take, length-take-le, take_all, take_min}
 use Rattle.std.proofs.lemmas.Slice.Eq.{bytes_eq-Decides}
 use Rattle.std.specs.Option.{option_map_or}
 use Rattle.pool_text.specs.Lines.{ended, last_line, whole, without_return}
@@ -122,45 +123,50 @@ last_long (x ∷ line) long = refl
 whole_long : (line : List ℕ) → is_long line ≡ true → ended line ≡ [] → whole line ≡ line ∷ []
 whole_long line long none = rw (none, rest_of-none line none) (last_long line long)
 
-long_end : (over : Bool) (block : Option Block) (line line2 : List ℕ) → is_long line ≡ true → is_long line2 ≡ true → ended line ≡ [] → ended line2 ≡ [] → commands over block (lines_of over line) ≡ commands over block (lines_of over line2)
-long_end false block line line2 long long2 none none2 = ap (λ (lines : List (List ℕ)). commands false block lines) (none ∙ sym none2)
-long_end true block line line2 long long2 none none2 =
-    ap (λ (lines : List (List ℕ)). commands true block lines) (whole_long line long none) ∙ long_line true block line line2 [] long long2 ∙ sym (ap (λ (lines : List (List ℕ)). commands true block lines) (whole_long line2 long2 none2))
-
 one_byte : (byte : ℕ) → eqb byte 10 ≡ false → ended (byte ∷ []) ≡ []
 one_byte byte is = rw is refl
 
--- whatever follows two beginnings of a line that are too long, the commands are the same
-pub long_lines : (over : Bool) (block : Option Block) (more line line2 : List ℕ) → is_long line ≡ true → is_long line2 ≡ true → ended line ≡ [] → ended line2 ≡ [] → commands over block (lines_of over (line ++ more)) ≡ commands over block (lines_of over (line2 ++ more))
-long_lines over block [] line line2 long long2 none none2 = rw (append-nil line, append-nil line2) (long_end over block line line2 long long2 none none2)
-long_lines over block (byte ∷ more) line line2 long long2 none none2 =
-    elim (cases_Bool (eqb byte 10)) [
-      | inl is ↦
-          let feed : byte ≡ 10 = grind (arith, nat_tests) in
-          rw (feed, lines_feed over line more none, lines_feed over line2 more none2) (long_line over block line line2 (lines_of over more) long long2)
-      | inr is ↦
-          let next_is = long_lines over block more (line ++ byte ∷ []) (line2 ++ byte ∷ []) (is_long-append line (byte ∷ []) long) (is_long-append line2 (byte ∷ []) long2) (ended_none-append line (byte ∷ []) none (one_byte byte is)) (ended_none-append line2 (byte ∷ []) none2 (one_byte byte is)) in
-          ap (λ (bytes : List ℕ). commands over block (lines_of over bytes)) (sym (append_assoc line (byte ∷ []) more)) ∙ next_is ∙ ap (λ (bytes : List ℕ). commands over block (lines_of over bytes)) (append_assoc line2 (byte ∷ []) more)
-    ]
-
-kept_short : (line : List ℕ) → is_long line ≡ false → kept line ≡ line
+pub kept_short : (line : List ℕ) → is_long line ≡ false → kept line ≡ line
 unfolding kept
 kept_short line short = let fits : length line ≤ 65537 = grind (arith, nat_tests) in take_all 65537 line fits
 
-kept_long : (line : List ℕ) → is_long line ≡ true → is_long (kept line) ≡ true
+pub kept_long : (line : List ℕ) → is_long line ≡ true → is_long (kept line) ≡ true
 unfolding kept
 kept_long line long =
     let many : 65537 ≤ length line = grind (arith, nat_tests) in
     let length_is = length-take-le 65537 line many in
     grind (arith, nat_tests)
 
+-- whatever is made of lines, so that two lines that are too long give the same
+module _ {A : Type 0} (made : List (List ℕ) → A) (alike : (line line2 : List ℕ) (lines : List (List ℕ)) → is_long line ≡ true → is_long line2 ≡ true → made (line ∷ lines) ≡ made (line2 ∷ lines)) where
+  long_end : (over : Bool) (line line2 : List ℕ) → is_long line ≡ true → is_long line2 ≡ true → ended line ≡ [] → ended line2 ≡ [] → made (lines_of over line) ≡ made (lines_of over line2)
+  long_end false line line2 long long2 none none2 = ap made (none ∙ sym none2)
+  long_end true line line2 long long2 none none2 = ap made (whole_long line long none) ∙ alike line line2 [] long long2 ∙ sym (ap made (whole_long line2 long2 none2))
+
+  -- then whatever follows two beginnings of such lines gives the same
+  long_lines : (over : Bool) (more line line2 : List ℕ) → is_long line ≡ true → is_long line2 ≡ true → ended line ≡ [] → ended line2 ≡ [] → made (lines_of over (line ++ more)) ≡ made (lines_of over (line2 ++ more))
+  long_lines over [] line line2 long long2 none none2 = rw (append-nil line, append-nil line2) (long_end over line line2 long long2 none none2)
+  long_lines over (byte ∷ more) line line2 long long2 none none2 =
+      elim (cases_Bool (eqb byte 10)) [
+        | inl is ↦
+            let feed : byte ≡ 10 = grind (arith, nat_tests) in
+            rw (feed, lines_feed over line more none, lines_feed over line2 more none2) (alike line line2 (lines_of over more) long long2)
+        | inr is ↦
+            let next_is = long_lines over more (line ++ byte ∷ []) (line2 ++ byte ∷ []) (is_long-append line (byte ∷ []) long) (is_long-append line2 (byte ∷ []) long2) (ended_none-append line (byte ∷ []) none (one_byte byte is)) (ended_none-append line2 (byte ∷ []) none2 (one_byte byte is)) in
+            ap (λ (bytes : List ℕ). made (lines_of over bytes)) (sym (append_assoc line (byte ∷ []) more)) ∙ next_is ∙ ap (λ (bytes : List ℕ). made (lines_of over bytes)) (append_assoc line2 (byte ∷ []) more)
+      ]
+
+  -- and what is kept of a line gives what the line gives
+  pub kept_line : (over : Bool) (line more : List ℕ) → ended line ≡ [] → made (lines_of over (kept line ++ more)) ≡ made (lines_of over (line ++ more))
+  kept_line over line more none =
+      elim (cases_Bool (is_long line)) [
+        | inl is ↦ long_lines over more (kept line) line (kept_long line is) is (ended_kept line none) none
+        | inr is ↦ ap (λ (l : List ℕ). made (lines_of over (l ++ more))) (kept_short line is)
+      ]
+
 -- what is kept of a line gives the commands of the line
-pub kept_line : (over : Bool) (block : Option Block) (line more : List ℕ) → ended line ≡ [] → commands over block (lines_of over (kept line ++ more)) ≡ commands over block (lines_of over (line ++ more))
-kept_line over block line more none =
-    elim (cases_Bool (is_long line)) [
-      | inl is ↦ long_lines over block more (kept line) line (kept_long line is) is (ended_kept line none) none
-      | inr is ↦ ap (λ (l : List ℕ). commands over block (lines_of over (l ++ more))) (kept_short line is)
-    ]
+pub kept_commands : (over : Bool) (block : Option Block) (line more : List ℕ) → ended line ≡ [] → commands over block (lines_of over (kept line ++ more)) ≡ commands over block (lines_of over (line ++ more))
+kept_commands over block line more none = kept_line (λ (lines : List (List ℕ)). commands over block lines) (long_line over block) over line more none
 
 long_next : (over : Bool) (block : Block) (line : List ℕ) (lines : List (List ℕ)) → is_dot line ≡ false → is_long block.text ≡ true → commands over (Some block) lines ≡ commands over (next (Some block) line) lines
 unfolding next
@@ -187,3 +193,10 @@ kept_block over (Some block) line lines =
 pub kept-length : (line : List ℕ) → length (kept line) ≤ 65537
 unfolding kept
 kept-length line = let length_is = length-take 65537 line in omega arith
+
+-- what fits behind a line is what is kept of the two
+pub kept-append : (line bytes : List ℕ) → length line ≤ 65537 → line ++ take (min (65537 - length line) (length bytes)) bytes ≡ kept (line ++ bytes)
+unfolding kept
+kept-append line bytes short =
+    let room : length line + (65537 - length line) ≡ 65537 = omega arith in
+    ap (λ (l : List ℕ). line ++ l) (take_min (65537 - length line) bytes) ∙ sym (take-append-add line bytes (65537 - length line)) ∙ ap (λ (n : ℕ). take n (line ++ bytes)) room

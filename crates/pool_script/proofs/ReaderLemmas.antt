@@ -1,9 +1,8 @@
 -- A reader stays sound, and gives the commands of what it has read.
 use Rattle.std.proofs.Common.{◌≡◌, ℕ, ◌-◌, ◌+◌, ◌≤◌, ◌<◌, Bool, true, false, not, ◌&&◌, min, List, [], ◌∷◌, ◌++◌, length, take, Option, None, Some, refl, sym, ◌∙◌, ap, subst, inl, inr, arith, append_assoc, length-append, codes}
-use Rattle.std.proofs.Math.Seq.{take-append-add}
 use Rattle.std.proofs.lemmas.Bool.{cases_Bool, eqb-true}
 use Rattle.std.proofs.lemmas.Bool.Decides.{nat_tests}
-use Rattle.std.proofs.lemmas.List.{append-nil, take_min}
+use Rattle.std.proofs.lemmas.List.{append-nil}
 use Rattle.std.proofs.lemmas.List.Folds.{list_all-append}
 use Rattle.std.specs.List.{list_all}
 use Rattle.std.specs.Str.{bytes_eq}
@@ -17,16 +16,9 @@ use Rattle.pool_script.specs.Reading.{HasRead, IsOpen, IsSound, commands_from, k
 use Rattle.pool_script.specs.declared.command.Command.{Command}
 use Rattle.pool_script.specs.declared.reader.Block.{Block}
 use Rattle.pool_script.specs.declared.reader.Reader.{Reader}
-use Rattle.pool_script.proofs.CutLemmas.{ended_feed, ended_none-append, lines_feed, rest_feed, rest_of-none}
+use Rattle.pool_script.proofs.CutLemmas.{ended_feed, ended_none-append, lines_feed, rest_feed, whole_none}
 use Rattle.pool_script.proofs.FormLemmas.{all_form, given_form_inside, given_form_outside, line_form, none_without_return, takes_block-short, without_return-le}
-use Rattle.pool_script.proofs.LongLemmas.{ended_kept, kept_block, kept_line, kept-length}
-
--- what fits behind a line is what is kept of the two
-pub kept-append : (line bytes : List ℕ) → length line ≤ 65537 → line ++ take (min (65537 - length line) (length bytes)) bytes ≡ kept (line ++ bytes)
-unfolding kept
-kept-append line bytes short =
-    let room : length line + (65537 - length line) ≡ 65537 = omega arith in
-    ap (λ (l : List ℕ). line ++ l) (take_min (65537 - length line) bytes) ∙ sym (take-append-add line bytes (65537 - length line)) ∙ ap (λ (n : ℕ). take n (line ++ bytes)) room
+use Rattle.pool_script.proofs.LongLemmas.{ended_kept, kept_block, kept_commands, kept-length}
 
 pub bytes_sound : (old new : Reader) (bytes : List ℕ) → IsSound old → ended bytes ≡ [] → new.waiting ≡ old.waiting → new.block ≡ old.block → new.line.items ≡ kept (old.line.items ++ bytes) → IsSound new
 bytes_sound old new bytes sound none waiting block line = record {
@@ -38,7 +30,7 @@ bytes_sound old new bytes sound none waiting block line = record {
 
 pub bytes_read : (old new : Reader) (bytes : List ℕ) → IsSound old → ended bytes ≡ [] → new.waiting ≡ old.waiting → new.block ≡ old.block → new.line.items ≡ kept (old.line.items ++ bytes) → HasRead old bytes new
 bytes_read old new bytes sound none waiting block line = record {
-  commands = λ over more. rw (waiting, block, line) (ap (λ (made : List Command). old.waiting.items ++ made) (kept_line over old.block (old.line.items ++ bytes) more (ended_none-append old.line.items bytes sound.one_line none) ∙ ap (λ (l : List ℕ). commands over old.block (lines_of over l)) (append_assoc old.line.items bytes more)));
+  commands = λ over more. rw (waiting, block, line) (ap (λ (made : List Command). old.waiting.items ++ made) (kept_commands over old.block (old.line.items ++ bytes) more (ended_none-append old.line.items bytes sound.one_line none) ∙ ap (λ (l : List ℕ). commands over old.block (lines_of over l)) (append_assoc old.line.items bytes more)));
 }
 
 pub and_left : (a b : Bool) → (a && b) ≡ true → a ≡ true
@@ -154,10 +146,6 @@ read_line start old between new piece left line behind cut promise one feed = λ
 -- the last line of a piece, which hasn't ended
 pub read_rest : (start old new : Reader) (piece left : List ℕ) → ((over : Bool) (more : List ℕ) → commands_from over old (left ++ more) ≡ commands_from over start (piece ++ more)) → HasRead old left new → HasRead start piece new
 read_rest start old new piece left promise rest = record { commands = λ over more. rest.commands over more ∙ promise over more }
-
-whole_none : (line : List ℕ) → ended line ≡ [] → 0 < length line → whole line ≡ line ∷ []
-whole_none [] none some = absurd (omega arith)
-whole_none (x ∷ line) none some = rw (none, rest_of-none (x ∷ line) none) refl
 
 -- an input that ends with a line feed, and one that lacks it
 pub end_with_line : (old new : Reader) → IsSound old → 0 < length old.line.items → HasRead old (10 ∷ []) new → new.line.items ≡ [] → new.waiting.items ++ cut_off new.block ≡ commands_from true old []

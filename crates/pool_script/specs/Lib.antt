@@ -1,6 +1,7 @@
 pub mod Commands
 pub mod Cuts
 pub mod Form
+pub mod GivenLines
 pub mod Keywords
 pub mod Reading
 pub mod Rows

@@ -25,6 +25,11 @@ pub record IsOpen (block : Block) : Type 0 where
   pub lines : are_block_lines block.text ≡ true
   pub short : length block.text ≤ 131074
 
+-- a line that has begun, as it is kept
+pub record IsBegun (line : List ℕ) : Type 0 where
+  pub one_line : ended line ≡ []
+  pub short : length line ≤ 65537
+
 -- what a reader keeps between two lines or within one
 pub record IsSound (reader : Reader) : Type 0 where
   pub form : list_all is_within_form reader.waiting.items ≡ true

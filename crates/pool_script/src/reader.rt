@@ -1,14 +1,13 @@
 // The commands of lines, read one line at a time.
-ghost use Rattle.std.specs.Prelude.{◌≡◌, ◌++◌, ◌∷◌, [], true, None, Some, MatchOption, OnOk, OnErr};
+ghost use Rattle.std.specs.Prelude.{◌≡◌, ◌++◌, ◌∷◌, [], true, None, Some, OnOk, OnErr};
 ghost use Rattle.pool_text.specs.Lines.{ended};
-ghost use Rattle.pool_script.specs.Cuts.{CutsAtFeed};
 ghost use Rattle.pool_script.specs.Commands.{cut_off, given};
 
 use crate::Command;
 use crate::command::LINE_TOO_LONG;
+use crate::cuts::{extend_line, split_line};
 use crate::line::{LONGEST_BLOCK, is_dot, is_silent, takes_block};
 use crate::parse::line_command;
-use memchr::memchr;
 use pool_text::{LONGEST_LINE, OutOfMemory, Text, without_return};
 use std::alloc::Global;
 use std::collections::VecDeque;
@@ -27,17 +26,6 @@ pub(crate) struct Reader {
     pub(crate) waiting: VecDeque<Command>,
     pub(crate) block: Option<Block>,
     pub(crate) line: Vec<u8>,
-}
-
-/// The bytes before the first line feed, and those behind it; none where there is no line feed.
-fn split_line(bytes: &[u8]) -> Option<(&[u8], &[u8])>
-    ensures { MatchOption result (ended bytes.now ≡ [])
-        (λ parts. CutsAtFeed bytes.now parts.0.now parts.1.now) }
-{
-    match memchr(b'\n', bytes) {
-        Some(place) => Some((&bytes[..place], &bytes[place + 1..])),
-        None => None,
-    }
 }
 
 impl Reader {
@@ -65,11 +53,11 @@ impl Reader {
     {
         let mut left = piece;
         while let Some((line, behind)) = split_line(left) {
-            self.extend_line(line)?;
+            self.read_bytes(line)?;
             self.end_line()?;
             left = behind;
         }
-        self.extend_line(left)
+        self.read_bytes(left)
     }
 
     /// Reads the end of the input: the last line where it has no line feed, and a block that isn't closed.
@@ -118,16 +106,14 @@ impl Reader {
         Ok(())
     }
 
-    /// Adds bytes to the line; of a line that is too long only the first bytes matter.
-    fn extend_line(&mut self, bytes: &[u8]) -> Result<(), OutOfMemory>
+    /// Reads bytes of the line.
+    fn read_bytes(&mut self, bytes: &[u8]) -> Result<(), OutOfMemory>
         requires sound { IsSound self.old }
         requires one_line { ended bytes.now ≡ [] }
         ensures sound { IsSound self.new }
         ensures ok { OnOk result (HasRead self.old bytes.now self.new) }
     {
-        let room = LONGEST_LINE + 1 - self.line.len();
-        let fits = room.min(bytes.len());
-        self.line.extend_from_slice(&bytes[..fits])?;
+        extend_line(&mut self.line, bytes)?;
         Ok(())
     }
 

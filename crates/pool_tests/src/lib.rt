@@ -7,3 +7,5 @@ mod crowds;
 mod jobs;
 #[cfg(test)]
 mod runs;
+#[cfg(test)]
+mod wire;

@@ -15,7 +15,7 @@ use std::sync::ledger::{Blank, Ledger};
 use std::test::Fail;
 
 // The number of the one call that fails, or of none where it is 0.
-fn calls(alloc: Global, number: usize) -> Result<Slots, OutOfMemory> {
+pub(crate) fn calls(alloc: Global, number: usize) -> Result<Slots, OutOfMemory> {
     let mut list = Slots::new(alloc);
     if number > 0 {
         list.push(number)?;

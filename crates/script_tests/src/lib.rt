@@ -1,6 +1,8 @@
-//! Tests of scripts, replies and the claiming protocol.
+//! Tests of scripts, lines, replies and the claiming protocol.
 #![tactic(auto)]
 
+#[cfg(test)]
+mod lines;
 #[cfg(test)]
 mod replies;
 #[cfg(test)]

@@ -1,5 +1,5 @@
 use Rattle.pool_script.proofs.CutLemmas.{cuts_at_place, ended_none-nowhere}
-use Rattle.pool_script.proofs.reader.split_line.Goals as goal
+use Rattle.pool_script.proofs.cuts.split_line.Goals as goal
 
 pub returns-in-Some : goal.returns-in-Some
 returns-in-Some c = cuts_at_place c.args.bytes.now c.in-Some.place c.in-Some.ensures

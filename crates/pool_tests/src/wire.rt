@@ -1,0 +1,115 @@
+// Schedules of the claiming protocol with their replies, over sources and sinks in memory that are cut and fail.
+use crate::runs::calls;
+use pool_engine::{RunEnd, run_wire};
+use pool_io::{MemorySink, MemorySource};
+use pool_text::{OutOfMemory, Text};
+use std::alloc::Global;
+use std::test::Fail;
+
+// How a run of one resource and two customers ends over a source and a sink that take so many bytes a call and fail at one
+// call each, and what was written.
+fn run(
+    alloc: Global,
+    schedule: &[u8],
+    most: (usize, usize),
+    source_fails: usize,
+    sink_fails: usize,
+) -> Result<(RunEnd, Text), OutOfMemory> {
+    let text = Text::from_bytes(alloc, schedule)?;
+    let mut source = MemorySource::new(text, most.0.max(1), calls(alloc, source_fails)?);
+    let mut sink = MemorySink::new(alloc, most.1.max(1), 1 << 20, calls(alloc, sink_fails)?)?;
+    let end = run_wire(alloc, 1, 2, &mut source, &mut sink);
+    let written = Text::from_bytes(alloc, sink.taken())?;
+    Ok((end, written))
+}
+
+/// Schedules with how many lines are refused, and the replies.
+const SCHEDULES: [(&[u8], u64, &[u8]); 6] = [
+    (b"", 0, b""),
+    (b"\n \t\n# ask 1 1\n\r\n  #", 0, b""),
+    (
+        b"show\r\n\tshow ",
+        0,
+        b"resource 1 free\ncustomer 1 idle\ncustomer 2 idle\nresource 1 free\ncustomer 1 idle\ncustomer 2 idle\n",
+    ),
+    (
+        b"fly\nASK 1 1\nask\nask 1 2\nask 3 1\nagain 01\nshow 1\nrestart customer\ndeliver 0\n",
+        9,
+        b"refused 2 unknown command\nrefused 2 unknown command\nrefused 3 wrong words\nrefused 3 wrong words\nrefused 3 wrong words\nrefused 3 wrong words\nrefused 3 wrong words\nrefused 3 wrong words\nrefused 19 no such message\n",
+    ),
+    (
+        b"ask 1 1\ndeliver 1\nask 2 1\ndeliver 3\ndeliver 2\nleave 1\ndeliver 4\ndeliver 1\ndeliver 2\ndeliver 6\nshow\n",
+        0,
+        b"sent 1 ask 1 1 1\nsent 2 grant 1 1 1\nsent 3 ask 2 1 1\nquiet\nquiet\nsent 4 leave 1 1 1\nsent 5 gone 1 1 1\nsent 6 grant 2 1 1\nsent 7 gone 1 1 1\nquiet\nquiet\nresource 1 held 2 1\ncustomer 1 leaving 1 1\ncustomer 2 holding 1 1\n",
+    ),
+    (
+        b"ask 1 1\ndeliver 1\ndeliver 2\nrestart customer 1\nshow\nagain 1\nask 1 1\nleave 1\nagain 2\ndeliver 9\ndeliver 3\ndeliver 4\nask 1 1",
+        4,
+        b"sent 1 ask 1 1 1\nsent 2 grant 1 1 1\nquiet\nquiet\nresource 1 held 1 1\ncustomer 1 leaving 1 1\ncustomer 2 idle\nsent 3 leave 1 1 1\nrefused 16 customer not idle\nrefused 17 nothing to leave\nrefused 18 nothing to send\nrefused 19 no such message\nsent 4 gone 1 1 1\nquiet\nsent 5 ask 1 1 2\n",
+    ),
+];
+
+#[test]
+fn lines_are_answered(rt: HostRuntime) -> Result<(), Fail> {
+    let alloc = rt.alloc();
+    for (schedule, refused, replies) in SCHEDULES {
+        let whole = run(alloc, schedule, (4096, 4096), 0, 0)?;
+        assert!(rt; whole.0 == RunEnd::Done { refused });
+        assert_eq!(rt; whole.1.bytes(), replies);
+        let cut = run(alloc, schedule, (1, 1), 0, 0)?;
+        assert!(rt; cut.0 == whole.0);
+        assert_eq!(rt; cut.1.bytes(), replies);
+    }
+    Ok(())
+}
+
+/// Three lines of eight bytes, and their replies.
+const THREE: &[u8] = b"again 1\nagain 2\nleave 1\n";
+
+const REPLIES: &[u8] =
+    b"refused 18 nothing to send\nrefused 18 nothing to send\nrefused 17 nothing to leave\n";
+
+/// How many bytes of the replies answer so many lines.
+const ANSWERED: [usize; 4] = [0, 27, 54, 82];
+
+#[test]
+fn each_read_may_fail(rt: HostRuntime) -> Result<(), Fail> {
+    for (lines, bytes) in ANSWERED.iter().enumerate() {
+        let ended = run(rt.alloc(), THREE, (8, 4096), lines + 1, 0)?;
+        assert!(rt; ended.0 == RunEnd::ReadFault);
+        assert_eq!(rt; ended.1.bytes(), &REPLIES[..*bytes]);
+    }
+    Ok(())
+}
+
+#[test]
+fn each_write_may_fail(rt: HostRuntime) -> Result<(), Fail> {
+    for bytes in 0..REPLIES.len() {
+        let ended = run(rt.alloc(), THREE, (4096, 1), 0, bytes + 1)?;
+        assert!(rt; ended.0 == RunEnd::WriteFault);
+        assert_eq!(rt; ended.1.bytes(), &REPLIES[..bytes]);
+    }
+    // The first reply was offered before the second read.
+    let ended = run(rt.alloc(), THREE, (8, 4096), 2, 1)?;
+    assert!(rt; ended.0 == RunEnd::WriteFault);
+    Ok(())
+}
+
+#[test]
+fn a_line_has_65536_bytes_at_most(rt: HostRuntime) -> Result<(), Fail> {
+    let alloc = rt.alloc();
+    for (count, refused, reply) in [
+        (65_536, 0, b"quiet\n".as_slice()),
+        (65_537, 1, b"refused 1 line too long\nquiet\n"),
+    ] {
+        let mut schedule = Text::new(alloc);
+        for _ in 0..count {
+            schedule.append(b"#")?;
+        }
+        schedule.append(b"\nrestart resource 1")?;
+        let ended = run(alloc, schedule.bytes(), (4096, 9), 0, 0)?;
+        assert!(rt; ended.0 == RunEnd::Done { refused });
+        assert_eq!(rt; ended.1.bytes(), reply);
+    }
+    Ok(())
+}

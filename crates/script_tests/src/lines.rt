@@ -1,0 +1,104 @@
+// The lines of inputs that come whole and in pieces; a line is written with a bar behind.
+ghost use Rattle.std.specs.Prelude.{◌≡◌, ◌<◌, false};
+
+use pool_script::{Line, Lines, ended_lines_come_first, lines_are_no_more_than_bytes};
+use pool_text::{OutOfMemory, Text};
+use std::alloc::Global;
+use std::test::Fail;
+
+const INPUTS: [(&[u8], &[u8]); 10] = [
+    (b"", b""),
+    (b"\n", b"|"),
+    (b"\n \t\n# a\n\r\n", b"| \t|# a||"),
+    (b"ask 1 1\nshow", b"ask 1 1|show|"),
+    (b"ask 1 1\nshow\n", b"ask 1 1|show|"),
+    (b"show\r\nshow\r", b"show|show|"),
+    (b"show\r\r\n\r\r", b"show\r|\r|"),
+    (b"a\rb\n \r \n", b"a\rb| \r |"),
+    (b".\n..\n\x00\xff", b".|..|\x00\xff|"),
+    (b"\n\n\n", b"|||"),
+];
+
+#[test]
+fn lines_are_the_same_however_they_are_cut(rt: HostRuntime) -> Result<(), Fail> {
+    for (input, lines) in INPUTS {
+        for most in [65_536, 1, 2, 3, 7] {
+            let read = read_lines(rt.alloc(), input, most)?;
+            assert!(rt;
+                read.bytes() == lines,
+                "{input:?} in pieces of {most}: {read:?}"
+            );
+        }
+    }
+    Ok(())
+}
+
+/// Runs of one byte, with what follows them and the lines that they give: whether the first is too long, and the others.
+const LIMITS: [(usize, &[u8], bool, &[u8]); 8] = [
+    (65_536, b"", false, b""),
+    (65_536, b"\nb", false, b"b|"),
+    (65_535, b"\r\nb", false, b"b|"),
+    (65_535, b"\r", false, b""),
+    (65_537, b"", true, b""),
+    (65_537, b"\nb", true, b"b|"),
+    (65_536, b"\r\nb", true, b"b|"),
+    (200_000, b"\r\n\nb", true, b"|b|"),
+];
+
+#[test]
+fn a_long_line_is_one_line(rt: HostRuntime) -> Result<(), Fail> {
+    for (count, behind, long, others) in LIMITS {
+        let mut input = Text::new(rt.alloc());
+        for _ in 0..count {
+            input.append(b"a")?;
+        }
+        input.append(behind)?;
+        for most in [1_000_000, 1, 1000] {
+            let read = read_lines(rt.alloc(), input.bytes(), most)?;
+            let first: &[u8] = if long { b"too long|" } else { b"a" };
+            assert!(rt;
+                read.bytes().starts_with(first) && read.bytes().ends_with(others),
+                "{count} and {behind:?} in pieces of {most}"
+            );
+        }
+    }
+    Ok(())
+}
+
+#[test]
+fn laws_are_called(_rt: HostRuntime) -> Result<(), Fail> {
+    ended_lines_come_first();
+    lines_are_no_more_than_bytes();
+    Ok(())
+}
+
+/// The lines of the input in pieces of at most `most` bytes, each taken as soon as it has ended.
+fn read_lines(alloc: Global, input: &[u8], most: usize) -> Result<Text, OutOfMemory>
+    requires { 0 < most }
+{
+    let mut lines = Lines::new(alloc);
+    let mut written = Text::new(alloc);
+    let mut left = input;
+    while !left.is_empty() {
+        let (piece, behind) = left.split_at(most.min(left.len()));
+        lines.feed(piece)?;
+        take_all(&mut lines, &mut written)?;
+        left = behind;
+    }
+    lines.end()?;
+    take_all(&mut lines, &mut written)?;
+    Ok(written)
+}
+
+fn take_all(lines: &mut Lines, written: &mut Text) -> Result<(), OutOfMemory>
+    ensures { lines.new.over ≡ lines.old.over }
+{
+    while let Some(line) = lines.take() {
+        match line {
+            Line::Words(text) => written.append(text.bytes())?,
+            Line::TooLong => written.append(b"too long")?,
+        }
+        written.append(b"|")?;
+    }
+    Ok(())
+}

@@ -3,6 +3,7 @@ pub mod Books
 pub mod Changes
 pub mod ClaimAnswers
 pub mod Claiming
+pub mod CommandLine
 pub mod Ends
 pub mod Events
 pub mod Indexed

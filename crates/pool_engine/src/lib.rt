@@ -4,6 +4,7 @@
 mod ads;
 mod books;
 mod claiming;
+mod command_line;
 mod eval;
 mod indexed;
 mod jobs;
@@ -17,6 +18,7 @@ mod session;
 mod wire;
 mod wire_session;
 
+pub use command_line::Asked;
 pub use laws::the_first_reply_is_offered_at_once;
 pub use pool::Pool;
 pub use run::{RunEnd, run_pool};

@@ -2,12 +2,15 @@
 ghost use Rattle.std.specs.Prelude.{◌≡◌, ◌≢◌, ◌↔◌, ◌≤◌, ◌<◌, [], length, IsTrue, IfOk, IfSome};
 ghost use Rattle.pool_io.specs.Flow.{Reads, Rose};
 ghost use Rattle.pool_script.specs.Commands.{whole_commands};
+ghost use Rattle.pool_engine.specs.CommandLine.{AskedEnds, asked_by, asked_text};
 ghost use Rattle.pool_engine.specs.Ends.{Ends, IsDoneOrOutOfMemory, LeavesAtMost, effects, end_of, status_of};
 ghost use Rattle.pool_engine.specs.Events.{events_of, replies_text};
 ghost use Rattle.pool_engine.specs.Limits.{input_limit};
 ghost use Rattle.pool_engine.specs.State.{opening};
 
+use crate::command_line::{Asked, asked};
 use crate::session::Session;
+use crate::wire::run_wire;
 use pool_io::{Failed, Sink, Source};
 use pool_steps::Steps;
 use pool_text::{OutOfMemory, Text};
@@ -64,10 +67,12 @@ impl RunEnd {
     }
 }
 
-/// Runs the script that a source gives: reads it to its end, runs each command as soon as it has ended, and offers each
-/// reply to the sink as one piece before the next read. No byte is read after the first one past the limit. It counts in
-/// `tops` the whole evaluations of the commands, and in `entry` and `touch` the attributes that they enter and the ads of the
-/// store that are looked into.
+/// Runs what the words ask for. No word: the script that a source gives. It reads it to its end, runs each command as soon as
+/// it has ended, and offers each reply to the sink as one piece before the next read. No byte is read after the first one
+/// past the limit. It counts in `tops` the whole evaluations of the commands, and in `entry` and `touch` the attributes that
+/// they enter and the ads of the store that are looked into. `--wire R C`, with numbers from 1 to 100: the schedule that the
+/// source gives, on a wire of so many resources and customers, as `run_wire` does, and nothing is counted. Other words are
+/// wrong.
 pub fn run_pool<S: Source, K: Sink, F: Ledger, E: Ledger, T: Ledger>(
     alloc: Global,
     words: &[Text],
@@ -77,16 +82,47 @@ pub fn run_pool<S: Source, K: Sink, F: Ledger, E: Ledger, T: Ledger>(
     entry: &mut Steps<E>,
     touch: &mut Steps<T>,
 ) -> RunEnd
-    ensures ends { Ends (S.shows source.old) (S.shows source.new)
+    ensures ends { AskedEnds (asked_by words.now) (S.shows source.old) (S.shows source.new)
         (effects (K.shows sink.old) tops.old touch.old) (effects (K.shows sink.new) tops.new touch.new) result }
 
-    // No word is built, so any word is a wrong one, and then nothing was read or written.
-    ensures words { (result ≡ RunEnd.BadWords) ↔ (0 < length words.now) }
+    // Where the words are wrong nothing was read or written.
+    ensures words { (result ≡ RunEnd.BadWords) ↔ (asked_by words.now ≡ Asked.Bad) }
     ensures untouched { result ≡ RunEnd.BadWords → source.new ≡ source.old }
     ensures unwritten { result ≡ RunEnd.BadWords → sink.new ≡ sink.old }
 
-    // With no word, an input within the limit and no fault, all is read and answered, or memory is wanting.
-    ensures complete { words.now ≡ [] → LeavesAtMost input_limit (S.shows source.old).left
+    // With good words, an input within the limit and no fault, all is read and answered, or memory is wanting.
+    ensures complete { asked_by words.now ≢ Asked.Bad → LeavesAtMost input_limit (S.shows source.old).left
+        → ¬ Rose (S.shows source.old).faults (S.shows source.new).faults
+        → ¬ Rose (K.shows sink.old).faults (K.shows sink.new).faults
+        → IsDoneOrOutOfMemory result }
+    ensures sure_source { IsTrue (S.shows source.old).sure → result ≢ RunEnd.ReadFault }
+    ensures sure_sink { IfSome (S.shows source.old).left (λ bytes.
+        length (asked_text (asked_by words.now) bytes) ≤ (K.shows sink.old).sure
+        → result ≢ RunEnd.WriteFault) }
+{
+    match asked(words) {
+        Asked::Bad => RunEnd::BadWords,
+        Asked::Pool => run_script(alloc, source, sink, tops, entry, touch),
+        Asked::Wire {
+            resources,
+            customers,
+        } => run_wire(alloc, resources, customers, source, sink),
+    }
+}
+
+// Runs the script that a source gives.
+fn run_script<S: Source, K: Sink, F: Ledger, E: Ledger, T: Ledger>(
+    alloc: Global,
+    source: &mut S,
+    sink: &mut K,
+    tops: &mut Steps<F>,
+    entry: &mut Steps<E>,
+    touch: &mut Steps<T>,
+) -> RunEnd
+    ensures ends { Ends (S.shows source.old) (S.shows source.new)
+        (effects (K.shows sink.old) tops.old touch.old) (effects (K.shows sink.new) tops.new touch.new) result }
+    ensures words { result ≢ RunEnd.BadWords }
+    ensures complete { LeavesAtMost input_limit (S.shows source.old).left
         → ¬ Rose (S.shows source.old).faults (S.shows source.new).faults
         → ¬ Rose (K.shows sink.old).faults (K.shows sink.new).faults
         → IsDoneOrOutOfMemory result }
@@ -95,9 +131,6 @@ pub fn run_pool<S: Source, K: Sink, F: Ledger, E: Ledger, T: Ledger>(
         length (replies_text (events_of opening (whole_commands bytes))) ≤ (K.shows sink.old).sure
         → result ≢ RunEnd.WriteFault) }
 {
-    if words.len() > 0 {
-        return RunEnd::BadWords;
-    }
     match run_input(alloc, source, sink, tops, entry, touch) {
         Ok(refused) => RunEnd::Done { refused },
         Err(end) => end,

@@ -18,14 +18,14 @@ pub enum Asked {
 }
 
 /// Reads the words: none asks for a pool, and `--wire R C` with numbers from 1 to 100 for a wire.
-pub(crate) fn asked(words: &[Text]) -> Asked
+pub(crate) fn read_words(words: &[Text]) -> Asked
     ensures asked { result ≡ asked_by words.now }
     ensures within { IsWithin result }
 {
     match words {
         [] => Asked::Pool,
         [word, resources, customers] => {
-            if word.bytes() == b"--wire" {
+            if word.bytes() == b"--wire".as_slice() {
                 wire(resources.bytes(), customers.bytes())
             } else {
                 Asked::Bad

@@ -8,7 +8,7 @@ ghost use Rattle.pool_engine.specs.Events.{events_of, replies_text};
 ghost use Rattle.pool_engine.specs.Limits.{input_limit};
 ghost use Rattle.pool_engine.specs.State.{opening};
 
-use crate::command_line::{Asked, asked};
+use crate::command_line::{Asked, read_words};
 use crate::session::Session;
 use crate::wire::run_wire;
 use pool_io::{Failed, Sink, Source};
@@ -100,7 +100,7 @@ pub fn run_pool<S: Source, K: Sink, F: Ledger, E: Ledger, T: Ledger>(
         length (asked_text (asked_by words.now) bytes) ≤ (K.shows sink.old).sure
         → result ≢ RunEnd.WriteFault) }
 {
-    match asked(words) {
+    match read_words(words) {
         Asked::Bad => RunEnd::BadWords,
         Asked::Pool => run_script(alloc, source, sink, tops, entry, touch),
         Asked::Wire {

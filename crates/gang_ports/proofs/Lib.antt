@@ -1,3 +1,4 @@
+pub mod AlikeLemmas
 mod CandidateLemmas
 mod CountLemmas
 mod DockLemmas

@@ -25,7 +25,7 @@ use Rattle.pool_engine.specs.Queue.{claimed_by, offered_to}
 use Rattle.pool_engine.specs.State.{QueuedJob}
 use Rattle.pool_engine.specs.Stored.{are_stored}
 use Rattle.pool_engine.proofs.DockLemmas.{free-same, holder-same, offered-same}
-use Rattle.pool_engine.proofs.MatchedLemmas.{IsSingle}
+use Rattle.pool_engine.proofs.MatchedLemmas.{IsOwned}
 use Rattle.pool_engine.proofs.NameLemmas.{AreBeside}
 use Rattle.pool_engine.proofs.SlotLemmas.{position-at}
 
@@ -89,7 +89,7 @@ module _ (stock : Stock) (beside : AreBeside stock.ads stock.slots) where
       let at_slot : position_or_len (λ t. eqb t s.it) stock.slots ≡ place = position-at stock.slots place s.it s.at (λ j at_j. beside.apart j place s.it at_j s.at) in
       sym (ap (name_in stock) slot ∙ ap (λ k. option_map_or (λ (x : Advert). x.name) (slice_get stock.ads k) []) at_slot)
 
-  module _ (moment : ℕ) (jobs : List Job) (stored : are_stored stock.slots jobs ≡ true) (single : All IsSingle jobs) where
+  module _ (moment : ℕ) (jobs : List Job) (stored : are_stored stock.slots jobs ≡ true) (owned : All IsOwned jobs) where
     abbrev off_named : ℕ → Bool
     off_named place = is_some (offered_to (names_at place) (map (queued stock) jobs))
 
@@ -109,7 +109,7 @@ module _ (stock : Stock) (beside : AreBeside stock.ads stock.slots) where
         let name : names_at i ≡ a.it.name = ap (λ o. option_map_or (λ (x : Advert). x.name) o []) a.at in
         let slot : slot_at stock i ≡ s.it = get_or_from_slice_get stock.slots i s.it 0 s.at in (
           ap (λ n. is_some (offered_to n (map (queued stock) jobs))) name ∙ offered-same stock beside i a.it s.it a.at s.at jobs stored ∙ sym (ap (λ k. is_some (offeree k jobs)) slot),
-          ap (λ n. option_map (seen.held_world moment stock.ads n) (claimed_by n (map (queued stock) jobs))) name ∙ holder-same stock beside i a.it s.it a.at s.at jobs stored moment single ∙ sym (ap (λ k. option_map (holder_world moment stock) (holder_of jobs k)) slot),
+          ap (λ n. option_map (seen.held_world moment stock.ads n) (claimed_by n (map (queued stock) jobs))) name ∙ holder-same stock beside i a.it s.it a.at s.at jobs stored moment owned ∙ sym (ap (λ k. option_map (holder_world moment stock) (holder_of jobs k)) slot),
         )
 
     best-seen : (request : List Frame) → best (seen.pool_in moment stock.ads (map (queued stock) jobs)) request ≡ best (market.pool_for moment stock jobs) request

@@ -28,7 +28,7 @@ use Rattle.pool_engine.specs.Rows as rows
 use Rattle.pool_engine.specs.State.{QueuedJob, State}
 use Rattle.pool_engine.specs.Stored.{are_stored}
 use Rattle.pool_engine.proofs.FoundLemmas.{find-seen, free-seen, open-seen}
-use Rattle.pool_engine.proofs.MatchedLemmas.{AreOffered, IsOffered, IsSingle, offers-seen, single-offers, stored-offers}
+use Rattle.pool_engine.proofs.MatchedLemmas.{AreOffered, IsOffered, IsOwned, offers-seen, owned-offers, stored-offers}
 use Rattle.pool_engine.proofs.NameLemmas.{AreBeside}
 use Rattle.pool_engine.proofs.SpinRowLemmas.{spin-rows}
 
@@ -38,16 +38,16 @@ module _ (stock : Stock) where
   idle-seen (Standing.Matched own) = refl
   idle-seen (Standing.Claimed own) = refl
 
-  one-waiting : (job : Job) → IsSingle job → seen.waiting (queued stock job) ≡ market.waiting_of job
-  one-waiting job single =
+  one-waiting : (job : Job) → IsOwned job → seen.waiting (queued stock job) ≡ market.waiting_of job
+  one-waiting job owned =
       ap (λ b. let w : Waiting = record { user = job.user; wants = 1; is_idle = b } in w) (idle-seen job.standing)
-      ∙ ap (λ n. let w : Waiting = record { user = job.user; wants = n; is_idle = market.is_idle job.standing } in w) (sym (ap (λ (ports : List Port). max 1 (length ports)) single))
+      ∙ ap (λ n. let w : Waiting = record { user = job.user; wants = n; is_idle = market.is_idle job.standing } in w) (sym (ap (λ (ports : List Port). max 1 (length ports)) owned))
 
-  waiting-seen : (jobs : List Job) → All IsSingle jobs → map seen.waiting (map (queued stock) jobs) ≡ map market.waiting_of jobs
-  waiting-seen [] single = refl
-  waiting-seen (job ∷ jobs) single =
-      ap (λ w. w ∷ map seen.waiting (map (queued stock) jobs)) (one-waiting job (All-head IsSingle job jobs single))
-      ∙ ap (λ l. market.waiting_of job ∷ l) (waiting-seen jobs (All-tail IsSingle job jobs single))
+  waiting-seen : (jobs : List Job) → All IsOwned jobs → map seen.waiting (map (queued stock) jobs) ≡ map market.waiting_of jobs
+  waiting-seen [] owned = refl
+  waiting-seen (job ∷ jobs) owned =
+      ap (λ w. w ∷ map seen.waiting (map (queued stock) jobs)) (one-waiting job (All-head IsOwned job jobs owned))
+      ∙ ap (λ l. market.waiting_of job ∷ l) (waiting-seen jobs (All-tail IsOwned job jobs owned))
 
   -- the offers of turns and spins with names
   abbrev named : Offer ℕ → Offer (List ℕ)
@@ -66,7 +66,7 @@ module _ (stock : Stock) where
 
 -- ---- the cycle
 
-module _ (stock : Stock) (beside : AreBeside stock.ads stock.slots) (moment : ℕ) (settings : List Setting) (jobs : List Job) (stored : are_stored stock.slots jobs ≡ true) (single : All IsSingle jobs) where
+module _ (stock : Stock) (beside : AreBeside stock.ads stock.slots) (moment : ℕ) (settings : List Setting) (jobs : List Job) (stored : are_stored stock.slots jobs ≡ true) (owned : All IsOwned jobs) where
   abbrev state_of : List QueuedJob → State
   state_of js = record { moment = moment; ads = stock.ads; jobs = js; priorities = settings }
 
@@ -79,16 +79,16 @@ module _ (stock : Stock) (beside : AreBeside stock.ads stock.slots) (moment : �
   then_stored : (made : List (Offer ℕ)) → AreOffered stock.slots made → are_stored stock.slots (market.with_offers made jobs) ≡ true
   then_stored made offered = stored-offers stock.slots made jobs offered stored
 
-  then_single : (made : List (Offer ℕ)) → All IsSingle (market.with_offers made jobs)
-  then_single made = single-offers made jobs single
+  then_owned : (made : List (Offer ℕ)) → All IsOwned (market.with_offers made jobs)
+  then_owned made = owned-offers made jobs owned
 
   renames : IsRenamed (name_in stock) here (seen.market_in state) (AreOffered stock.slots)
   renames = record {
-    jobs = waiting-seen stock jobs single;
+    jobs = waiting-seen stock jobs owned;
     priority = λ user. refl;
     start = All-nil (IsOffered stock.slots);
-    free = λ made offered. ap (λ js. count_by (seen.is_free js) stock.ads) (offers-seen stock made jobs) ∙ free-seen stock beside moment (market.with_offers made jobs) (then_stored made offered) (then_single made);
-    find = λ made i offered. ap (λ js. seen.found moment stock.ads js i) (offers-seen stock made jobs) ∙ find-seen stock beside moment (market.with_offers made jobs) (then_stored made offered) (then_single made) i;
+    free = λ made offered. ap (λ js. count_by (seen.is_free js) stock.ads) (offers-seen stock made jobs) ∙ free-seen stock beside moment (market.with_offers made jobs) (then_stored made offered) (then_owned made);
+    find = λ made i offered. ap (λ js. seen.found moment stock.ads js i) (offers-seen stock made jobs) ∙ find-seen stock beside moment (market.with_offers made jobs) (then_stored made offered) (then_owned made) i;
     step = λ user made i own offered waiting found.
         All-push (IsOffered stock.slots) made (offer i own) offered (found-stored moment stock (let long = beside.long in omega (arith, long)) (market.with_offers made jobs) i own found);
   }
@@ -134,7 +134,7 @@ module _ (stock : Stock) (beside : AreBeside stock.ads stock.slots) (moment : �
   pub undecided-seen : seen.undecided_for_jobs state ≡ budget.over_idle (budget.open_for moment stock) jobs
   undecided-seen =
       sum-idle (λ job. open_count (seen.pool_in moment stock.ads (map (queued stock) jobs)) job.ad) (λ job. budget.open_for moment stock jobs job.request)
-      (λ job. open-seen stock beside moment jobs stored single (ad_frames job.request.ad)) jobs
+      (λ job. open-seen stock beside moment jobs stored owned (ad_frames job.request.ad)) jobs
 
   pub narrowest-seen : seen.narrowest_for_jobs state ≡ budget.over_idle (budget.left_for stock) jobs
   narrowest-seen = sum-idle (λ job. least_left stock.ads (tests_of job.ad 0 [])) (λ job. budget.left_for stock jobs job.request) (λ job. refl) jobs

@@ -4,10 +4,12 @@ pub mod ClaimAnswers
 pub mod Claiming
 pub mod Ends
 pub mod Events
+pub mod Gangs
 pub mod Indexed
 pub mod Limits
 pub mod Negotiation
 pub mod Pool
+pub mod Ports
 pub mod Queue
 pub mod Rows
 pub mod Session

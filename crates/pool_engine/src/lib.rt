@@ -5,6 +5,7 @@ mod ads;
 mod books;
 mod claiming;
 mod eval;
+mod gangs;
 mod indexed;
 mod jobs;
 mod laws;

@@ -4,12 +4,11 @@ use Rattle.std.proofs.lemmas.List.{map-append}
 use Rattle.std.proofs.lemmas.List.Elements.{All-head, All-nil, All-push, All-tail}
 use Rattle.std.proofs.lemmas.List.Sums.{sum_by-cons}
 use Rattle.ad_tree.specs.Ad.{ad_frames}
+use Rattle.ad_tree.specs.Frames.{Frame}
 use Rattle.ad_tree.specs.declared.request.Port.{Port}
 use Rattle.ad_store.specs.Stock.{Stock}
-use Rattle.bilateral_match.specs.Counts.{least_left, open_count}
 use Rattle.claim_table.specs.declared.job.Job.{Job}
 use Rattle.claim_table.specs.declared.job.Standing.{Standing}
-use Rattle.conjunct_plan.specs.Tests.{tests_of}
 use Rattle.negotiator.specs.Budget as budget
 use Rattle.negotiator.specs.Cycle.{Market, Offer, PlainSpin, PlainTurn, Waiting, cycle_of, offers_in, offers_of}
 use Rattle.negotiator.specs.Mapped.{offer_mapped, spin_mapped, turn_mapped}
@@ -24,12 +23,14 @@ use Rattle.pool_replies.specs.declared.reply.Reply.TheVariants as reply
 use Rattle.pool_replies.specs.declared.rows.SpinRow.{SpinRow}
 use Rattle.pool_engine.specs.Negotiation as seen
 use Rattle.pool_engine.specs.Pool.{name_in, named_standing, queued}
+use Rattle.pool_engine.specs.Ports.{ports_in}
 use Rattle.pool_engine.specs.Rows as rows
 use Rattle.pool_engine.specs.State.{QueuedJob, State}
 use Rattle.pool_engine.specs.Stored.{are_stored}
-use Rattle.pool_engine.proofs.FoundLemmas.{find-seen, free-seen, open-seen}
+use Rattle.pool_engine.proofs.FoundLemmas.{find-seen}
 use Rattle.pool_engine.proofs.MatchedLemmas.{AreOffered, IsOffered, IsOwned, offers-seen, owned-offers, stored-offers}
 use Rattle.pool_engine.proofs.NameLemmas.{AreBeside}
+use Rattle.pool_engine.proofs.PoolLemmas.{docks-seen, free-seen, open-seen}
 use Rattle.pool_engine.proofs.SpinRowLemmas.{spin-rows}
 
 module _ (stock : Stock) where
@@ -40,7 +41,7 @@ module _ (stock : Stock) where
 
   one-waiting : (job : Job) → IsOwned job → seen.waiting (queued stock job) ≡ market.waiting_of job
   one-waiting job owned =
-      ap (λ b. let w : Waiting = record { user = job.user; wants = 1; is_idle = b } in w) (idle-seen job.standing)
+      ap (λ b. let w : Waiting = record { user = job.user; wants = max 1 (length (ports_in (ad_frames job.request.ad))); is_idle = b } in w) (idle-seen job.standing)
       ∙ ap (λ n. let w : Waiting = record { user = job.user; wants = n; is_idle = market.is_idle job.standing } in w) (sym (ap (λ (ports : List Port). max 1 (length ports)) owned))
 
   waiting-seen : (jobs : List Job) → All IsOwned jobs → map seen.waiting (map (queued stock) jobs) ≡ map market.waiting_of jobs
@@ -115,11 +116,12 @@ module _ (stock : Stock) (beside : AreBeside stock.ads stock.slots) (moment : �
 
   -- ---- what it costs
 
-  sum-idle : (f : QueuedJob → ℕ) (g : Job → ℕ) → ((job : Job) → f (queued stock job) ≡ g job) → (js : List Job)
+  sum-idle : (f : QueuedJob → ℕ) (g : Job → ℕ) → ((job : Job) → IsOwned job → f (queued stock job) ≡ g job) → (js : List Job) → All IsOwned js
       → sum_by f (filter (λ (job : QueuedJob). seen.is_idle job.standing) (map (queued stock) js)) ≡ sum_by g (filter (λ (job : Job). market.is_idle job.standing) js)
-  sum-idle f g each [] = refl
-  sum-idle f g each (job ∷ js) =
-      ap (λ b. sum_by f (cond b (queued stock job ∷ behind) behind)) (idle-seen stock job.standing) ∙ by (market.is_idle job.standing) (sum-idle f g each js)
+  sum-idle f g each [] own = refl
+  sum-idle f g each (job ∷ js) own =
+      ap (λ b. sum_by f (cond b (queued stock job ∷ behind) behind)) (idle-seen stock job.standing)
+      ∙ by (market.is_idle job.standing) (sum-idle f g each js (All-tail IsOwned job js own))
     where
       behind : List QueuedJob
       behind = filter (λ (j : QueuedJob). seen.is_idle j.standing) (map (queued stock) js)
@@ -128,13 +130,21 @@ module _ (stock : Stock) (beside : AreBeside stock.ads stock.slots) (moment : �
       others = filter (λ (j : Job). market.is_idle j.standing) js
 
       by : (b : Bool) → sum_by f behind ≡ sum_by g others → sum_by f (cond b (queued stock job ∷ behind) behind) ≡ sum_by g (cond b (job ∷ others) others)
-      by true rest = let one = each job in omega (arith, one, rest, sum_by-cons f (queued stock job) behind, sum_by-cons g job others)
+      by true rest = let one = each job (All-head IsOwned job js own) in omega (arith, one, rest, sum_by-cons f (queued stock job) behind, sum_by-cons g job others)
       by false rest = rest
+
+  open-with : (request : List Frame) (ports : List Port) → budget.open_by (seen.pool_in moment stock.ads (map (queued stock) jobs)) request ports ≡ budget.open_by (market.pool_for moment stock jobs) request ports
+  open-with request [] = open-seen stock beside moment jobs stored owned request
+  open-with request (port ∷ ports) = docks-seen stock beside moment jobs stored owned request (port ∷ ports)
 
   pub undecided-seen : seen.undecided_for_jobs state ≡ budget.over_idle (budget.open_for moment stock) jobs
   undecided-seen =
-      sum-idle (λ job. open_count (seen.pool_in moment stock.ads (map (queued stock) jobs)) job.ad) (λ job. budget.open_for moment stock jobs job.request)
-      (λ job. open-seen stock beside moment jobs stored owned (ad_frames job.request.ad)) jobs
+      sum-idle (λ job. budget.open_by (seen.pool_in moment stock.ads (map (queued stock) jobs)) job.ad (ports_in job.ad)) (λ job. budget.open_for moment stock jobs job.request)
+      (λ job own.
+      ap (budget.open_by (seen.pool_in moment stock.ads (map (queued stock) jobs)) (ad_frames job.request.ad)) (sym own)
+      ∙ open-with (ad_frames job.request.ad) job.request.ports) jobs owned
 
   pub narrowest-seen : seen.narrowest_for_jobs state ≡ budget.over_idle (budget.left_for stock) jobs
-  narrowest-seen = sum-idle (λ job. least_left stock.ads (tests_of job.ad 0 [])) (λ job. budget.left_for stock jobs job.request) (λ job. refl) jobs
+  narrowest-seen =
+      sum-idle (λ job. budget.narrowed_by stock.ads job.ad (ports_in job.ad)) (λ job. budget.left_for stock jobs job.request)
+      (λ job own. ap (budget.narrowed_by stock.ads (ad_frames job.request.ad)) (sym own)) jobs owned

@@ -85,8 +85,11 @@ submit-faulty s name user size (Ok x) fault fits told = absurd (no_fault fault t
 submit-faulty s name user size (Err wrong) fault (inl same) told = ap (λ (f : ParseFault). refused s (why.AdText f)) (sym same)
 submit-faulty s name user size (Err wrong) fault (inr none) told = absurd (no_fault fault told none)
 
+abbrev pub queued_job : List ℕ → List ℕ → ℕ → List Frame → QueuedJob
+queued_job name user size frames = record { name = name; user = user; size = size; ad = frames; standing = idle }
+
 abbrev pub new_job : List ℕ → List ℕ → ℕ → Ad → QueuedJob
-new_job name user size ad = record { name = name; user = user; size = size; ad = ad_frames ad; standing = idle }
+new_job name user size ad = queued_job name user size (ad_frames ad)
 
 module _ (s : State) (name user used owner : List ℕ) (size : ℕ) (outcome : Result Inline ParseFault) (ad : Ad) (fits : IsAdAnswer outcome (Ok ad)) (is : used ≡ name) (owned : owner ≡ user) where
   used_as : ◌≡◌ {A = State × Reply} (submit s name user size outcome) (take_job s (new_job used owner size ad) (job_refusal used size s.jobs))
@@ -100,10 +103,12 @@ module _ (s : State) (name user used owner : List ℕ) (size : ℕ) (outcome : R
       let gone : ◌≡◌ {A = State × Reply} (take_job s (new_job used owner size ad) None) (refused s why.BadPorts) = rw bad refl in
       used_as ∙ ap (take_job s (new_job used owner size ad)) free ∙ gone
 
-  pub submit-taken : (told : List ℕ) (after : List Advert) (queue : List QueuedJob) → told ≡ name → job_refusal used size s.jobs ≡ None → has_bad_ports (ad_frames ad) ≡ false → after ≡ s.ads → queue ≡ s.jobs ++ new_job used owner size ad ∷ [] → ◌≡◌ {A = State × Reply} (submit s name user size outcome) (with_books s after queue, reply.Submitted told)
-  submit-taken told after queue same free good ads jobs =
+  -- the frames of the request that is kept are those of the ad
+  pub submit-taken : (told : List ℕ) (kept : List Frame) (after : List Advert) (queue : List QueuedJob) → told ≡ name → job_refusal used size s.jobs ≡ None → has_bad_ports (ad_frames ad) ≡ false → kept ≡ ad_frames ad → after ≡ s.ads → queue ≡ s.jobs ++ queued_job used owner size kept ∷ [] → ◌≡◌ {A = State × Reply} (submit s name user size outcome) (with_books s after queue, reply.Submitted told)
+  submit-taken told kept after queue same free good frames ads jobs =
       let taken : ◌≡◌ {A = State × Reply} (take_job s (new_job used owner size ad) None) (with_books s s.ads (s.jobs ++ new_job used owner size ad ∷ []), reply.Submitted used) = rw good refl in
-      used_as ∙ ap (take_job s (new_job used owner size ad)) free ∙ taken ∙ (λ i. (with_books s (sym ads i) (sym jobs i), reply.Submitted ((is ∙ sym same) i)))
+      let all : queue ≡ s.jobs ++ new_job used owner size ad ∷ [] = jobs ∙ ap (λ (fs : List Frame). s.jobs ++ queued_job used owner size fs ∷ []) frames in
+      used_as ∙ ap (take_job s (new_job used owner size ad)) free ∙ taken ∙ (λ i. (with_books s (sym ads i) (sym all i), reply.Submitted ((is ∙ sym same) i)))
 
 -- ---- remove
 

@@ -24,8 +24,8 @@ use std::alloc::Global;
 use std::convert::AsSlice;
 use std::sync::ledger::Ledger;
 
-/// `gang`: the resources that the ports of the request of the block are given among those that are free; nothing is offered. It
-/// counts in `tops` three at most for each dock that literal attributes leave undecided, and in `touch` no more than the ads
+/// `gang`: the resources that the ports of the request of the block are given among those that are free. Nothing is offered. It
+/// counts in `tops` five at most for each dock that literal attributes leave undecided, and in `touch` no more than the ads
 /// that the narrowest test of each port leaves.
 #[tactic(auto, unfolding(pool_replies::specs::Replies::is_printable, pool_replies::specs::Refusals::is_printable_refusal))]
 pub(crate) fn gang<F: Ledger, E: Ledger, T: Ledger>(
@@ -40,7 +40,7 @@ pub(crate) fn gang<F: Ledger, E: Ledger, T: Ledger>(
     requires { IsTrue (is_block_text block.now) }
     ensures reply { IfOk result (λ reply. steps.gang moment (ads_of books.now.ads) (queue_of books.now) (ad_outcome block.now) ≡ reply) }
     ensures printable { IfOk result (λ reply. IsTrue (is_printable reply)) }
-    ensures cost { tops.new ≤ tops.old + 3 * steps.undecided_for_gang moment (ads_of books.now.ads) (queue_of books.now) (ad_outcome block.now) }
+    ensures cost { tops.new ≤ tops.old + 5 * steps.undecided_for_gang moment (ads_of books.now.ads) (queue_of books.now) (ad_outcome block.now) }
     ensures looks { touch.new ≤ touch.old + steps.narrowest_for_gang (ads_of books.now.ads) (ad_outcome block.now) }
 {
     let ad = match parse_ad(alloc, block) {

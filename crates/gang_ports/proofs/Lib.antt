@@ -2,10 +2,10 @@ pub mod AlikeLemmas
 mod CandidateLemmas
 mod CountLemmas
 mod DockLemmas
-mod LawLemmas
-mod ListLemmas
+pub mod LawLemmas
+pub mod ListLemmas
 mod OrderLemmas
-mod PoolLemmas
+pub mod PoolLemmas
 mod PortLemmas
 mod ReadingLemmas
 mod SearchLemmas

@@ -3,11 +3,13 @@ use Rattle.std.proofs.Common.{◌≡◌, ℕ, Bool, true, false, ◌||◌, All, 
 use Rattle.std.specs.Prelude.{option_and_then, option_map}
 use Rattle.std.specs.List.{list_any}
 use Rattle.std.proofs.lemmas.List.Elements.{All-head, All-tail, All-weaker}
+use Rattle.ad_tree.specs.Ad.{ad_frames}
 use Rattle.ad_store.specs.Stock.{Stock}
 use Rattle.bilateral_match.specs.Pool.{AreStored}
 use Rattle.claim_table.specs.declared.job.Job.{Job}
 use Rattle.claim_table.specs.Holders.{holder_of, holding_in}
 use Rattle.claim_table.specs.Jobs.{claim_of, claimed_by, lists}
+use Rattle.negotiator.specs.Markets.{AreOwn}
 use Rattle.negotiator.proofs.JobLemmas.{position-some}
 use Rattle.negotiation_tests.specs.Fresh.{AreFresh, IsFresh}
 
@@ -29,5 +31,5 @@ fresh-stored stock jobs h slot holding is =
     let none = ap (λ o. option_map (holding_in slot) (option_and_then (λ i. slice_get jobs i) o)) (unclaimed slot jobs h) in
     absurd (cc)
 
-pub fresh-single : (jobs : List Job) → AreFresh jobs → All (λ (job : Job). job.request.ports ≡ []) jobs
-fresh-single jobs h = All-weaker IsFresh (λ (job : Job). job.request.ports ≡ []) (λ job f. f.single) jobs h
+pub fresh-ports : (jobs : List Job) → AreFresh jobs → All (λ (job : Job). AreOwn (ad_frames job.request.ad) job.request.ports) jobs
+fresh-ports jobs h = All-weaker IsFresh (λ (job : Job). AreOwn (ad_frames job.request.ad) job.request.ports) (λ job f. f.ports) jobs h

@@ -1,14 +1,18 @@
 // Priorities and cycles, worked by hand from the rules.
-ghost use Rattle.std.specs.Prelude.{◌≡◌, [], IfOk, OnOk};
+ghost use Rattle.std.specs.Prelude.{◌≡◌, ◌<◌, ◌^◌, IfOk, OnOk, length};
+ghost use Rattle.ad_tree.specs.Ad.{ad_frames};
 ghost use Rattle.ad_store.specs.Store.{stock_of};
 ghost use Rattle.bilateral_match.specs.Rows.{rows_of};
 ghost use Rattle.claim_table.specs.Table.{jobs_of};
 ghost use Rattle.literal_index.specs.Shown.{IsIndex};
 ghost use Rattle.negotiation_tests.specs.Fresh.{AreFresh};
+ghost use Rattle.negotiator.specs.Markets.{AreOwn};
 
+use ad_parser::parse_ad;
 use ad_store::Store;
 use ad_tree::{Ad, Draft, Expr, Ports, Request, Scope};
 use claim_table::ClaimTable;
+use gang_ports::read_ports;
 use literal_index::Index;
 use negotiator::*;
 use pool_steps::Steps;
@@ -44,7 +48,7 @@ fn machine(alloc: Global, memory: i64) -> Result<Ad, OutOfMemory> {
 
 // `[ Requirements = TARGET.Memory >= .. ]`
 fn request(alloc: Global, least: i64) -> Result<Request, OutOfMemory>
-    ensures { IfOk result (λ request. request.ports ≡ []) }
+    ensures { IfOk result (λ request. AreOwn (ad_frames request.ad) request.ports) }
 {
     let memory = Expr::Name(Scope::Target, Text::from_bytes(alloc, b"Memory")?);
     let least = Expr::Binary(
@@ -58,6 +62,19 @@ fn request(alloc: Global, least: i64) -> Result<Request, OutOfMemory>
         ad: draft.finish()?,
         ports: Ports::new(alloc),
     })
+}
+
+// A gang of two resources of any kind.
+const TWO: &[u8] =
+    b"[ Ports = { [ Label = a; Requirements = true ], [ Label = b; Requirements = true ] } ]";
+
+fn gang(alloc: Global, text: &[u8]) -> Result<Request, Fail>
+    requires { length text.now < 2 ^ 16 }
+    ensures { IfOk result (λ request. AreOwn (ad_frames request.ad) request.ports) }
+{
+    let ad = parse_ad(alloc, text)?;
+    let ports = read_ports(alloc, &ad)?;
+    Ok(Request { ad, ports })
 }
 
 // Machines of 64 with these names.
@@ -99,6 +116,20 @@ fn submit(
     ensures { OnOk result (AreFresh (jobs_of jobs.new)) }
 {
     jobs.submit(name, user, request(alloc, least)?, 1)?;
+    Ok(())
+}
+
+// Adds a job that wants two machines.
+fn submit_gang(
+    alloc: Global,
+    jobs: &mut ClaimTable,
+    name: &[u8],
+    user: &[u8],
+) -> Result<(), Fail>
+    requires { AreFresh (jobs_of jobs.old) }
+    ensures { OnOk result (AreFresh (jobs_of jobs.new)) }
+{
+    jobs.submit(name, user, gang(alloc, TWO)?, 1)?;
     Ok(())
 }
 
@@ -211,6 +242,40 @@ fn jobs_that_fail_cost_nothing(rt: HostRuntime) -> Result<(), Fail> {
     assert_eq!(rt;
         negotiated(alloc, &store, &mut jobs, &priorities)?.as_str(),
         "2: 1>0; 1: 1>1; 0:; "
+    );
+    Ok(())
+}
+
+#[test]
+fn a_gang_takes_a_resource_for_each_port_off_the_slice(rt: HostRuntime) -> Result<(), Fail> {
+    let alloc = rt.alloc();
+    let store = machines(alloc, &[b"m1", b"m2", b"m3"])?;
+    let priorities = Priorities::new(alloc);
+    let mut jobs = ClaimTable::new(alloc);
+    submit_gang(alloc, &mut jobs, b"ga", b"ann")?;
+    submit(alloc, &mut jobs, b"s", b"ann", 64)?;
+    submit(alloc, &mut jobs, b"t", b"bob", 64)?;
+    // Nothing was given in ann's turn before the gang, so it is given more than her slice, and the turn ends.
+    assert_eq!(rt;
+        negotiated(alloc, &store, &mut jobs, &priorities)?.as_str(),
+        "3: 1>0>1 1>2; 0:; "
+    );
+    Ok(())
+}
+
+#[test]
+fn a_gang_that_wants_more_than_is_left_ends_the_turn(rt: HostRuntime) -> Result<(), Fail> {
+    let alloc = rt.alloc();
+    let store = machines(alloc, &[b"m1", b"m2"])?;
+    let priorities = Priorities::new(alloc);
+    let mut jobs = ClaimTable::new(alloc);
+    submit(alloc, &mut jobs, b"s", b"ann", 64)?;
+    submit_gang(alloc, &mut jobs, b"ga", b"ann")?;
+    submit(alloc, &mut jobs, b"t", b"ann", 64)?;
+    // In the second spin the gang finds one machine alone, which the job behind it is given.
+    assert_eq!(rt;
+        negotiated(alloc, &store, &mut jobs, &priorities)?.as_str(),
+        "2: 2>0; 1: 1>1; 0:; "
     );
     Ok(())
 }

@@ -3,14 +3,19 @@ use Rattle.std.proofs.Common.{◌≡◌, ◌≤◌, ◌<◌, ◌+◌, ◌*◌, �
 use Rattle.std.specs.List.{range_with_len}
 use Rattle.std.specs.Option.{option_map_or}
 use Rattle.std.proofs.lemmas.Bool.{cases_eq}
-use Rattle.std.proofs.lemmas.List.Sums.{sum_by-cons}
+use Rattle.std.proofs.lemmas.List.Sums.{sum_by-cons, sum_by-le-sum_by}
+use Rattle.ad_tree.specs.Ad.{ad_frames}
+use Rattle.ad_tree.specs.Frames.{Frame}
+use Rattle.ad_tree.specs.declared.request.Port.{Port}
 use Rattle.ad_tree.specs.declared.request.Request.{Request}
-use Rattle.ad_store.specs.Stock.{Stock}
+use Rattle.ad_store.specs.Stock.{Advert, Stock}
+use Rattle.bilateral_match.specs.Pool.{Pool}
 use Rattle.claim_table.specs.declared.job.Job.{Job}
 use Rattle.claim_table.specs.declared.job.Standing.{Standing}
 use Rattle.claim_table.specs.Jobs.{with_standing}
-use Rattle.negotiator.specs.Budget.{ArePaid, AreWithin, Counts, IsSearched, budget, due, entries_for, evaluations_for, is_idle_at, is_marked, left_for, looks_for, open_for, over_idle, price_at}
-use Rattle.negotiator.specs.Markets.{is_idle}
+use Rattle.gang_ports.specs.Gangs.{docks_open, looks_most}
+use Rattle.negotiator.specs.Budget.{ArePaid, AreWithin, Counts, IsSearched, budget, due, entries_for, evaluations_by, evaluations_for, is_idle_at, is_marked, left_for, looks_by, looks_for, narrowed_by, open_by, open_for, over_idle, price_at}
+use Rattle.negotiator.specs.Markets.{is_idle, pool_for}
 use Rattle.negotiator.proofs.JobLemmas.{entries-later, evaluations-later, idle-later, later, length-later, requests-later}
 use Rattle.negotiator.proofs.SumLemmas.{sum-falls}
 
@@ -208,13 +213,31 @@ sum-times k f (x ∷ xs) =
     ∙ sym (mul-add k (f x) (sum_by f xs))
     ∙ ap (λ n. k * n) (sym (sum_by-cons f x xs))
 
+-- five evaluations are enough for each undecided dock, and nine looks for each ad that a narrowest test leaves
+evaluations-five : (pool : Pool) (request : List Frame) (ports : List Port) → evaluations_by pool request ports ≤ 5 * open_by pool request ports
+evaluations-five pool request [] = omega arith
+evaluations-five pool request (port ∷ ports) = by (docks_open pool request (port ∷ ports))
+  where
+    by : (n : ℕ) → 3 * n ≤ 5 * n
+    by n = omega arith
+
+looks-nine : (ads : List Advert) (request : List Frame) (ports : List Port) → looks_by ads request ports ≤ 9 * narrowed_by ads request ports
+looks-nine ads request [] = omega arith
+looks-nine ads request (port ∷ ports) = by (looks_most ads request (port ∷ ports))
+  where
+    by : (n : ℕ) → n ≤ 9 * n
+    by n = omega arith
+
 module _ (moment : ℕ) (stock : Stock) (jobs : List Job) (failed : List Bool) (none : (k : ℕ) → is_marked failed k ≡ false) (before after : Counts) (within : AreWithin moment stock jobs failed before after) where
   pub evaluations-start : after.tops ≤ before.tops + 5 * over_idle (open_for moment stock) jobs
   evaluations-start =
       let rise = within.tops in
       let start = budget-start (evaluations_for moment stock) jobs failed none in
-      let five = sum-times 5 (λ (job : Job). open_for moment stock jobs job.request) (filter (λ (job : Job). is_idle job.standing) jobs) in
-      omega (arith, rise, start, five)
+      let idle = filter (λ (job : Job). is_idle job.standing) jobs in
+      let most = sum_by-le-sum_by (λ (job : Job). evaluations_for moment stock jobs job.request) (λ (job : Job). 5 * open_for moment stock jobs job.request) idle
+      (λ job. evaluations-five (pool_for moment stock jobs) (ad_frames job.request.ad) job.request.ports) in
+      let five = sum-times 5 (λ (job : Job). open_for moment stock jobs job.request) idle in
+      omega (arith, rise, start, most, five)
 
   pub entries-start : after.entry ≤ before.entry + over_idle (entries_for moment stock) jobs
   entries-start = let rise = within.entry in let start = budget-start (entries_for moment stock) jobs failed none in omega (arith, rise, start)
@@ -223,5 +246,8 @@ module _ (moment : ℕ) (stock : Stock) (jobs : List Job) (failed : List Bool) (
   looks-start =
       let rise = within.touch in
       let start = budget-start (looks_for stock) jobs failed none in
-      let nine = sum-times 9 (λ (job : Job). left_for stock jobs job.request) (filter (λ (job : Job). is_idle job.standing) jobs) in
-      omega (arith, rise, start, nine)
+      let idle = filter (λ (job : Job). is_idle job.standing) jobs in
+      let most = sum_by-le-sum_by (λ (job : Job). looks_for stock jobs job.request) (λ (job : Job). 9 * left_for stock jobs job.request) idle
+      (λ job. looks-nine stock.ads (ad_frames job.request.ad) job.request.ports) in
+      let nine = sum-times 9 (λ (job : Job). left_for stock jobs job.request) idle in
+      omega (arith, rise, start, most, nine)

@@ -7,11 +7,12 @@ use Rattle.std.proofs.lemmas.Bool.Decides.{nat_tests}
 use Rattle.std.proofs.lemmas.List.Elements.{All-cons, All-head, All-nil, All-tail}
 use Rattle.std.proofs.Math.ListN.{length-set}
 use Rattle.ad_tree.specs.Ad.{ad_frames}
+use Rattle.ad_tree.specs.Frames.{Frame}
+use Rattle.ad_tree.specs.declared.request.Port.{Port}
 use Rattle.ad_tree.specs.declared.request.Request.{Request}
 use Rattle.ad_store.specs.Holdings.{Holding}
 use Rattle.ad_store.specs.Stock.{Stock}
-use Rattle.bilateral_match.specs.Counts.{entered_for, open_count}
-use Rattle.bilateral_match.specs.Members.{best, best_slot}
+use Rattle.bilateral_match.specs.Members.{best}
 use Rattle.bilateral_match.specs.Pool.{AreStored, Pool, pool_of, slot_at}
 use Rattle.bilateral_match.specs.declared.member.Member.{Member}
 use Rattle.bilateral_match.proofs.OfferLemmas.{fewer-entered, fewer-open, none-later}
@@ -20,8 +21,10 @@ use Rattle.claim_table.specs.declared.job.Standing.{Standing}
 use Rattle.claim_table.specs.Holders.{holder_of, holding_in}
 use Rattle.claim_table.specs.Jobs.{claim_of, claimed_by, lists, offer_of, offered_to, with_standing}
 use Rattle.claim_table.proofs.ListLemmas.{map-set_same, position-map}
-use Rattle.negotiator.specs.Budget.{entries_for, evaluations_for, is_idle_at}
-use Rattle.negotiator.specs.Markets.{found, found_for, is_idle, pool_for}
+use Rattle.gang_ports.specs.Gangs.{gang}
+use Rattle.gang_ports.proofs.PoolLemmas.{attributes-later, docks-later, gang-later}
+use Rattle.negotiator.specs.Budget.{entries_by, entries_for, evaluations_by, evaluations_for, is_idle_at}
+use Rattle.negotiator.specs.Markets.{found, found_by, found_for, is_idle, pool_for}
 
 -- ---- a job that is idle
 
@@ -159,18 +162,17 @@ module _ (jobs : List Job) (i : ℕ) (slots : List ℕ) (idle : is_idle_at jobs 
   pub stored-later : (stock : Stock) → AreStored stock (holder_of jobs) → AreStored stock (holder_of later)
   stored-later stock stored slot h is = stored slot h (sym (holder-later slot) ∙ is)
 
-  pub single-later : All (λ (job : Job). job.request.ports ≡ []) jobs → All (λ (job : Job). job.request.ports ≡ []) later
-  single-later single =
-      let P : List Request → Type 0 = All (λ (r : Request). r.ports ≡ []) in
-      All-unmap later (subst P (sym requests-later) (All-mapped jobs single))
+  -- what holds of all requests holds of them still
+  pub all-later : (P : Request → Type 0) → All (λ (job : Job). P job.request) jobs → All (λ (job : Job). P job.request) later
+  all-later P all = All-unmap later (subst (All P) (sym requests-later) (All-mapped jobs all))
     where
-      All-mapped : (js : List Job) → All (λ (job : Job). job.request.ports ≡ []) js → All (λ (r : Request). r.ports ≡ []) (map (λ (job : Job). job.request) js)
-      All-mapped [] h = All-nil (λ (r : Request). r.ports ≡ [])
-      All-mapped (j ∷ js) h = All-cons (λ (r : Request). r.ports ≡ []) j.request (map (λ (job : Job). job.request) js) (All-head (λ (job : Job). job.request.ports ≡ []) j js h) (All-mapped js (All-tail (λ (job : Job). job.request.ports ≡ []) j js h))
+      All-mapped : (js : List Job) → All (λ (job : Job). P job.request) js → All P (map (λ (job : Job). job.request) js)
+      All-mapped [] h = All-nil P
+      All-mapped (j ∷ js) h = All-cons P j.request (map (λ (job : Job). job.request) js) (All-head (λ (job : Job). P job.request) j js h) (All-mapped js (All-tail (λ (job : Job). P job.request) j js h))
 
-      All-unmap : (js : List Job) → All (λ (r : Request). r.ports ≡ []) (map (λ (job : Job). job.request) js) → All (λ (job : Job). job.request.ports ≡ []) js
-      All-unmap [] h = All-nil (λ (job : Job). job.request.ports ≡ [])
-      All-unmap (j ∷ js) h = All-cons (λ (job : Job). job.request.ports ≡ []) j js (All-head (λ (r : Request). r.ports ≡ []) j.request (map (λ (job : Job). job.request) js) h) (All-unmap js (All-tail (λ (r : Request). r.ports ≡ []) j.request (map (λ (job : Job). job.request) js) h))
+      All-unmap : (js : List Job) → All P (map (λ (job : Job). job.request) js) → All (λ (job : Job). P job.request) js
+      All-unmap [] h = All-nil (λ (job : Job). P job.request)
+      All-unmap (j ∷ js) h = All-cons (λ (job : Job). P job.request) j js (All-head P j.request (map (λ (job : Job). job.request) js) h) (All-unmap js (All-tail P j.request (map (λ (job : Job). job.request) js) h))
 
   -- ---- what is offered stays offered
 
@@ -202,27 +204,38 @@ module _ (jobs : List Job) (i : ℕ) (slots : List ℕ) (idle : is_idle_at jobs 
     more : (place : ℕ) → before.is_offered place ≡ true → offered place ≡ true
     more place some = offered-later (slot_at stock place) some
 
-    pub fails-later : (request : Request) → found_for moment stock jobs request ≡ None → found_for moment stock later request ≡ None
-    fails-later request none =
-        ap (λ pool. option_map (λ slot. slot ∷ []) (best_slot stock pool (ad_frames request.ad))) pool-later
-        ∙ ap (λ o. option_map (λ slot. slot ∷ []) (option_map (λ (m : Member). slot_at stock m.place) o))
-        (none-later before (ad_frames request.ad) offered more (no-member (best before (ad_frames request.ad)) none))
+    fails-by : (request : List Frame) (ports : List Port) → found_by stock before request ports ≡ None → found_by stock (record before { is_offered = offered }) request ports ≡ None
+    fails-by request [] none =
+        ap (λ o. option_map (λ slot. slot ∷ []) (option_map (λ (m : Member). slot_at stock m.place) o)) (none-later before request offered more (no-member (best before request) none))
       where
         no-member : (o : Option Member) → option_map (λ slot. slot ∷ []) (option_map (λ (m : Member). slot_at stock m.place) o) ≡ None → o ≡ None
         no-member None e = refl
         no-member (Some m) e = absurd (cc)
+    fails-by request (port ∷ ports) none =
+        ap (option_map (map (slot_at stock))) (gang-later before request (port ∷ ports) offered more (no-gang (gang before request (port ∷ ports)) none))
+      where
+        no-gang : (o : Option (List ℕ)) → option_map (map (slot_at stock)) o ≡ None → o ≡ None
+        no-gang None e = refl
+        no-gang (Some places) e = absurd (cc)
+
+    pub fails-later : (request : Request) → found_for moment stock jobs request ≡ None → found_for moment stock later request ≡ None
+    fails-later request none = ap (λ pool. found_by stock pool (ad_frames request.ad) request.ports) pool-later ∙ fails-by (ad_frames request.ad) request.ports none
+
+    evaluations-fewer : (request : List Frame) (ports : List Port) → evaluations_by (record before { is_offered = offered }) request ports ≤ evaluations_by before request ports
+    evaluations-fewer request [] = let fewer = fewer-open before request offered more in omega (arith, fewer)
+    evaluations-fewer request (port ∷ ports) = let fewer = docks-later before request (port ∷ ports) offered more in omega (arith, fewer)
 
     pub evaluations-later : (request : Request) → evaluations_for moment stock later request ≤ evaluations_for moment stock jobs request
     evaluations-later request =
-        let same = ap (λ pool. open_count pool (ad_frames request.ad)) pool-later in
-        let fewer = fewer-open before (ad_frames request.ad) offered more in
-        omega (arith, same, fewer)
+        subst (λ pool. evaluations_by pool (ad_frames request.ad) request.ports ≤ evaluations_for moment stock jobs request) (sym pool-later) (evaluations-fewer (ad_frames request.ad) request.ports)
+
+    entries-fewer : (request : List Frame) (ports : List Port) → entries_by (record before { is_offered = offered }) request ports ≤ entries_by before request ports
+    entries-fewer request [] = fewer-entered before request offered more
+    entries-fewer request (port ∷ ports) = attributes-later before request (port ∷ ports) offered more
 
     pub entries-later : (request : Request) → entries_for moment stock later request ≤ entries_for moment stock jobs request
     entries-later request =
-        let same = ap (λ pool. entered_for pool (ad_frames request.ad)) pool-later in
-        let fewer = fewer-entered before (ad_frames request.ad) offered more in
-        omega (arith, same, fewer)
+        subst (λ pool. entries_by pool (ad_frames request.ad) request.ports ≤ entries_for moment stock jobs request) (sym pool-later) (entries-fewer (ad_frames request.ad) request.ports)
 
     found-at : (js : List Job) (k : ℕ) → found moment stock js k ≡ option_and_then (found_for moment stock js) (slice_get (map (λ (job : Job). job.request) js) k)
     found-at js k = by js k (λ r. found_for moment stock js r)

@@ -2,6 +2,8 @@
 use Rattle.std.proofs.Common.{◌≡◌, ◌≤◌, ℕ, Bool, true, false, List, [], All, length, replicate, set, None, ap, sym, ◌∙◌, subst, ◌⊎◌, inl, inr, get_or-set_other}
 use Rattle.std.proofs.lemmas.Bool.{cases_eq}
 use Rattle.std.proofs.lemmas.List.{length-replicate, length-set}
+use Rattle.ad_tree.specs.Ad.{ad_frames}
+use Rattle.ad_tree.specs.declared.request.Request.{Request}
 use Rattle.bilateral_match.specs.Pool.{AreStored}
 use Rattle.bilateral_match.specs.Rows.{rows_of}
 use Rattle.claim_table.specs.declared.job.Job.{Job}
@@ -11,17 +13,17 @@ use Rattle.claim_table.specs.Jobs.{jobs_limit, with_standing}
 use Rattle.literal_index.specs.Shown.{IsIndex}
 use Rattle.negotiator.specs.declared.scene.Scene.{Scene}
 use Rattle.negotiator.specs.Budget.{is_idle_at, is_marked}
-use Rattle.negotiator.specs.Markets.{found}
+use Rattle.negotiator.specs.Markets.{AreOwn, found}
 use Rattle.negotiator.specs.Scenes.{IsReady, stock_in}
 use Rattle.negotiator.proofs.BudgetLemmas.{none-marked}
-use Rattle.negotiator.proofs.JobLemmas.{found-later, length-later, single-later, stored-later}
+use Rattle.negotiator.proofs.JobLemmas.{all-later, found-later, length-later, stored-later}
 
 pub ready-start : (scene : Scene) (jobs : List Job) (failed : List Bool) → IsIndex scene.index.now (rows_of (stock_in scene)) → AreStored (stock_in scene) (holder_of jobs)
-    → All (λ (job : Job). job.request.ports ≡ []) jobs → length jobs ≤ jobs_limit → failed ≡ replicate (length jobs) false → IsReady scene jobs failed
-ready-start scene jobs failed index stored single few none = record {
+    → All (λ (job : Job). AreOwn (ad_frames job.request.ad) job.request.ports) jobs → length jobs ≤ jobs_limit → failed ≡ replicate (length jobs) false → IsReady scene jobs failed
+ready-start scene jobs failed index stored own few none = record {
   index = index;
   stored = stored;
-  single = single;
+  ports = own;
   few = few;
   marks = ap length none ∙ length-replicate (length jobs) false;
   known = λ k marked. let no : is_marked failed k ≡ false = ap (λ (f : List Bool). is_marked f k) none ∙ none-marked (length jobs) k in absurd (cc);
@@ -32,7 +34,7 @@ module _ (scene : Scene) (jobs : List Job) (failed : List Bool) (ready : IsReady
   ready-given slots idle = record {
     index = ready.index;
     stored = stored-later jobs i slots idle (stock_in scene) ready.stored;
-    single = single-later jobs i slots idle ready.single;
+    ports = all-later jobs i slots idle (λ (request : Request). AreOwn (ad_frames request.ad) request.ports) ready.ports;
     few = subst (λ (n : ℕ). n ≤ 10000) (sym (length-later jobs i slots idle)) ready.few;
     marks = ready.marks ∙ sym (length-later jobs i slots idle);
     known = λ k marked. found-later jobs i slots idle scene.moment (stock_in scene) k (ready.known k marked);
@@ -42,7 +44,7 @@ module _ (scene : Scene) (jobs : List Job) (failed : List Bool) (ready : IsReady
   ready-marked none = record {
     index = ready.index;
     stored = ready.stored;
-    single = ready.single;
+    ports = ready.ports;
     few = ready.few;
     marks = length-set failed i true ∙ ready.marks;
     known = λ k marked. by k marked (cases_eq k i);

@@ -1,21 +1,32 @@
 -- A job by its place and by its name, and what a search for it gives.
-use Rattle.std.proofs.Common.{◌≡◌, ◌≢◌, ◌≤◌, ◌+◌, ◌*◌, ℕ, Bool, true, false, All, AllPairs, List, [], ◌∷◌, length, max, slice_get, Option, None, Some, is_some, refl, ap, sym, ◌∙◌, subst, arith}
-use Rattle.std.specs.Prelude.{option_and_then, option_map}
+use Rattle.std.proofs.Common.{◌≡◌, ◌≢◌, ◌<◌, ◌≤◌, ◌+◌, ◌*◌, ℕ, Bool, true, false, All, AllPairs, List, [], ◌∷◌, length, map, max, slice_get, Option, None, Some, Result, IfOk, is_some, refl, ap, sym, ◌∙◌, subst, arith}
+use Rattle.std.specs.Prelude.{IfSome, option_and_then, option_map}
 use Rattle.std.specs.Option.{option_map_or}
+use Rattle.std.proofs.Math.Nat.{max-eq_right}
 use Rattle.std.proofs.lemmas.List.Elements.{All-cons, All-nil}
-use Rattle.ad_tree.specs.declared.request.Request.{Request}
+use Rattle.std.proofs.lemmas.Option.{IfSome_then}
+use Rattle.std.proofs.lemmas.Result.{IfOk-weaker}
+use Rattle.pool_text.specs.declared.memory.OutOfMemory.{OutOfMemory}
 use Rattle.ad_tree.specs.Ad.{ad_frames}
+use Rattle.ad_tree.specs.Frames.{Frame}
+use Rattle.ad_tree.specs.declared.request.Port.{Port}
+use Rattle.ad_tree.specs.declared.request.Request.{Request}
 use Rattle.ad_store.specs.Stock.{Stock}
 use Rattle.bilateral_match.specs.Counts.{entered_for, least_left, open_count}
+use Rattle.bilateral_match.specs.Members.{best_slot}
+use Rattle.bilateral_match.specs.Pool.{Pool, slot_at}
 use Rattle.claim_table.specs.declared.answers.JobState.{JobState}
 use Rattle.claim_table.specs.declared.job.Job.{Job}
 use Rattle.claim_table.specs.declared.job.Standing.{Standing}
 use Rattle.claim_table.specs.Jobs.{AreFree, AreNamedApart, job_named, numbered, offered_to, state_of, wanted}
 use Rattle.claim_table.proofs.HolderLemmas.{All-found}
-use Rattle.negotiator.specs.declared.answers.Offered.{Offered}
 use Rattle.conjunct_plan.specs.Tests.{tests_of}
-use Rattle.negotiator.specs.Budget.{Counts, IsSearched, entries_for, evaluations_for, is_idle_at, looks_for}
-use Rattle.negotiator.specs.Markets.{found, found_for, is_idle, name_at, offer_named, pool_for}
+use Rattle.gang_ports.specs.Gangs.{attributes_open, docks_open, gang, looks_most}
+use Rattle.gang_ports.specs.Ports.{ports_of}
+use Rattle.negotiator.specs.declared.answers.Offered.{Offered}
+use Rattle.negotiator.specs.Budget.{Counts, IsSearched, entries_by, entries_for, evaluations_by, evaluations_for, is_idle_at, looks_by, looks_for}
+use Rattle.negotiator.specs.Markets.{AreOwn, found, found_by, found_for, is_idle, name_at, offer_named, pool_for}
+use Rattle.negotiator.proofs.GangLemmas.{not-some}
 
 abbrev pub state_at : List Job → ℕ → Option JobState
 state_at jobs i = option_map (λ (job : Job). state_of job.standing) (slice_get jobs i)
@@ -49,61 +60,75 @@ idle-state jobs i = by (slice_get jobs i)
     by None = refl
     by (Some job) = standing job.standing
 
--- ---- one job
+-- ---- without ports
 
-module _ (jobs : List Job) (i : ℕ) (request : Request) (at : option_map (λ (job : Job). job.request) (slice_get jobs i) ≡ Some request) where
-  pub read-request : {A : Type 0} (f : Request → A) (none : A) → option_map_or (λ (job : Job). f job.request) (slice_get jobs i) none ≡ f request
-  read-request f none = by (slice_get jobs i) at
-    where
-      by : (o : Option Job) → option_map (λ (job : Job). job.request) o ≡ Some request → option_map_or (λ (job : Job). f job.request) o none ≡ f request
-      by None e = absurd (cc)
-      by (Some job) e = let same : job.request ≡ request = cc in ap f same
+module _ (moment : ℕ) (stock : Stock) (jobs : List Job) (request : Request) (none : request.ports ≡ []) where
+  pub evaluations-one : (start now : ℕ) → now ≤ start + 5 * open_count (pool_for moment stock jobs) (ad_frames request.ad) → now ≤ start + evaluations_for moment stock jobs request
+  evaluations-one start now rise = subst (λ ports. now ≤ start + evaluations_by (pool_for moment stock jobs) (ad_frames request.ad) ports) (sym none) rise
 
-  pub found-is : (moment : ℕ) (stock : Stock) → found moment stock jobs i ≡ found_for moment stock jobs request
-  found-is moment stock = by (slice_get jobs i) at
-    where
-      by : (o : Option Job) → option_map (λ (job : Job). job.request) o ≡ Some request → option_and_then (λ (job : Job). found_for moment stock jobs job.request) o ≡ found_for moment stock jobs request
-      by None e = absurd (cc)
-      by (Some job) e = let same : job.request ≡ request = cc in ap (found_for moment stock jobs) same
+  pub entries-one : (start now : ℕ) → now ≤ start + entered_for (pool_for moment stock jobs) (ad_frames request.ad) → now ≤ start + entries_for moment stock jobs request
+  entries-one start now rise = subst (λ ports. now ≤ start + entries_by (pool_for moment stock jobs) (ad_frames request.ad) ports) (sym none) rise
 
-  pub wanted-is : option_map (λ (job : Job). wanted job.request) (slice_get jobs i) ≡ Some (wanted request)
-  wanted-is = by (slice_get jobs i) at
-    where
-      by : (o : Option Job) → option_map (λ (job : Job). job.request) o ≡ Some request → option_map (λ (job : Job). wanted job.request) o ≡ Some (wanted request)
-      by None e = absurd (cc)
-      by (Some job) e = let same : job.request ≡ request = cc in ap (λ r. Some (wanted r)) same
+  pub looks-one : (start now : ℕ) → now ≤ start + 9 * least_left stock.ads (tests_of (ad_frames request.ad) 0 []) → now ≤ start + looks_for stock jobs request
+  looks-one start now rise = subst (λ ports. now ≤ start + looks_by stock.ads (ad_frames request.ad) ports) (sym none) rise
 
-  pub no-ports : All (λ (job : Job). job.request.ports ≡ []) jobs → request.ports ≡ []
-  no-ports single = by (slice_get jobs i) refl at
-    where
-      by : (o : Option Job) → slice_get jobs i ≡ o → option_map (λ (job : Job). job.request) o ≡ Some request → request.ports ≡ []
-      by None here e = absurd (cc)
-      by (Some job) here e = let same : job.request ≡ request = cc in subst (λ (r : Request). r.ports ≡ []) same (All-found (λ (job : Job). job.request.ports ≡ []) jobs i job single here)
+  pub found-one : found_for moment stock jobs request ≡ option_map (λ slot. slot ∷ []) (best_slot stock (pool_for moment stock jobs) (ad_frames request.ad))
+  found-one = ap (found_by stock (pool_for moment stock jobs) (ad_frames request.ad)) none
 
-  -- how much the search counts
-  pub searched : (moment : ℕ) (stock : Stock) (before after : Counts)
-      → after.tops ≤ before.tops + 5 * open_count (pool_for moment stock jobs) (ad_frames request.ad)
-      → after.entry ≤ before.entry + entered_for (pool_for moment stock jobs) (ad_frames request.ad)
-      → after.touch ≤ before.touch + 9 * least_left stock.ads (tests_of (ad_frames request.ad) 0 [])
-      → IsSearched moment stock jobs i before after
-  searched moment stock before after evaluations entries looks = record {
-    tops = subst (λ (n : ℕ). after.tops ≤ before.tops + n) (sym (read-request (evaluations_for moment stock jobs) 0)) evaluations;
-    entry = subst (λ (n : ℕ). after.entry ≤ before.entry + n) (sym (read-request (entries_for moment stock jobs) 0)) entries;
-    touch = subst (λ (n : ℕ). after.touch ≤ before.touch + n) (sym (read-request (looks_for stock jobs) 0)) looks;
-  }
+-- what holds of the slot in a list, where there is one
+pub one-all : (P : List ℕ → Type 0) (slot : Option ℕ) → IfSome slot (λ s. P (s ∷ [])) → (o : Option (List ℕ)) → o ≡ option_map (λ s. s ∷ []) slot → IfSome o P
+one-all P slot each o e = subst (λ (p : Option (List ℕ)). IfSome p P) (sym e) (by slot each)
+  where
+    by : (slot : Option ℕ) → IfSome slot (λ s. P (s ∷ [])) → IfSome (option_map (λ s. s ∷ []) slot) P
+    by None h = tt
+    by (Some s) h = h
+
+pub if-each : (P : ℕ → Type 0) → ((slot : ℕ) → P slot) → (o : Option ℕ) → IfSome o P
+if-each P each None = tt
+if-each P each (Some slot) = each slot
 
 pub one-apart : (slot : ℕ) → AllPairs (λ a b. a ≢ b) (slot ∷ [])
 one-apart slot = λ i j d before within. absurd (omega (arith, before, within))
 
 pub one-free : (jobs : List Job) (slot : ℕ) → is_some (offered_to slot jobs) ≡ false → AreFree (slot ∷ []) jobs
-one-free jobs slot free = All-cons (λ s. offered_to s jobs ≡ None) slot [] (by (offered_to slot jobs) free) (All-nil (λ s. offered_to s jobs ≡ None))
-  where
-    by : (o : Option ℕ) → is_some o ≡ false → o ≡ None
-    by None e = refl
-    by (Some k) e = absurd (cc)
+one-free jobs slot free = All-cons (λ s. offered_to s jobs ≡ None) slot [] (not-some (offered_to slot jobs) free) (All-nil (λ s. offered_to s jobs ≡ None))
 
 pub one-wanted : (request : Request) → request.ports ≡ [] → wanted request ≡ 1
 one-wanted request none = ap (λ ports. max 1 (length ports)) none
+
+-- ---- with ports
+
+-- what holds of each list with a first port holds where there are ports
+with-some : (P : List Port → Type 0) → ((port : Port) (ports : List Port) → P (port ∷ ports)) → (ports : List Port) → 0 < length ports → P ports
+with-some P each [] some = absurd (omega (arith, some))
+with-some P each (port ∷ ports) some = each port ports
+
+module _ (moment : ℕ) (stock : Stock) (jobs : List Job) (request : Request) (some : 0 < length request.ports) where
+  abbrev pool : Pool
+  pool = pool_for moment stock jobs
+
+  abbrev frames : List Frame
+  frames = ad_frames request.ad
+
+  pub evaluations-gang : (start now : ℕ) → now ≤ start + 3 * docks_open pool frames request.ports → now ≤ start + evaluations_for moment stock jobs request
+  evaluations-gang start now rise =
+      subst (λ (n : ℕ). now ≤ start + n) (sym (with-some (λ ports. evaluations_by pool frames ports ≡ 3 * docks_open pool frames ports) (λ port ports. refl) request.ports some)) rise
+
+  pub entries-gang : (start now : ℕ) → now ≤ start + attributes_open pool frames request.ports → now ≤ start + entries_for moment stock jobs request
+  entries-gang start now rise =
+      subst (λ (n : ℕ). now ≤ start + n) (sym (with-some (λ ports. entries_by pool frames ports ≡ attributes_open pool frames ports) (λ port ports. refl) request.ports some)) rise
+
+  pub looks-gang : (start now : ℕ) → now ≤ start + looks_most stock.ads frames request.ports → now ≤ start + looks_for stock jobs request
+  looks-gang start now rise =
+      subst (λ (n : ℕ). now ≤ start + n) (sym (with-some (λ ports. looks_by stock.ads frames ports ≡ looks_most stock.ads frames ports) (λ port ports. refl) request.ports some)) rise
+
+  pub found-gang : found_for moment stock jobs request ≡ option_map (map (slot_at stock)) (gang pool frames request.ports)
+  found-gang = with-some (λ ports. found_by stock pool frames ports ≡ option_map (map (slot_at stock)) (gang pool frames ports)) (λ port ports. refl) request.ports some
+
+pub gang-wanted : (request : Request) → 0 < length request.ports → wanted request ≡ length request.ports
+gang-wanted request some = max-eq_right some
+
+-- ---- names
 
 pub name-is : (jobs : List Job) (i : ℕ) (name : List ℕ) → option_map (λ (job : Job). job.name) (slice_get jobs i) ≡ Some name → name_at jobs i ≡ name
 name-is jobs i name at = by (slice_get jobs i) at

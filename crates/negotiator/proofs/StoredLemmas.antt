@@ -1,5 +1,5 @@
 -- What is offered in a cycle is what searches find, and so it is in the store.
-use Rattle.std.proofs.Common.{◌≡◌, ◌≤◌, ◌<◌, ◌+◌, ℕ, zero, suc, Bool, true, false, if◌then◌else◌, List, [], ◌∷◌, ◌++◌, All, Contains, length, slice_get, Option, None, Some, sym, subst, arith}
+use Rattle.std.proofs.Common.{◌≡◌, ◌≤◌, ◌<◌, ◌+◌, ℕ, zero, suc, Bool, true, false, if◌then◌else◌, List, [], ◌∷◌, ◌++◌, All, Contains, length, slice_get, Option, None, Some, refl, sym, subst, arith}
 use Rattle.std.specs.Prelude.{IfSome, option_and_then, option_map}
 use Rattle.std.specs.List.{cons_option}
 use Rattle.std.specs.Ordering.{is_lt}
@@ -7,7 +7,7 @@ use Rattle.std.proofs.lemmas.List.{get_or_default, length-map}
 use Rattle.std.proofs.lemmas.List.Elements.{All-append, All-cons, All-head, All-nil, All-tail}
 use Rattle.ad_tree.specs.Ad.{ad_frames}
 use Rattle.ad_tree.specs.Frames.{Frame}
-use Rattle.ad_tree.specs.declared.request.Request.{Request}
+use Rattle.ad_tree.specs.declared.request.Port.{Port}
 use Rattle.ad_store.specs.declared.store.Store.{Store}
 use Rattle.ad_store.specs.Stock.{Advert, Stock}
 use Rattle.ad_store.specs.Store.{stock_of}
@@ -16,9 +16,10 @@ use Rattle.bilateral_match.specs.Members.{as_member, best, earlier, first_of, is
 use Rattle.bilateral_match.specs.Pool.{Pool, slot_at}
 use Rattle.claim_table.specs.declared.job.Job.{Job}
 use Rattle.negotiator.specs.Cycle.{Market, Offer, cycle_of, is_empty, offers_in, offers_of, places, shares_of, spin, spins_within, turn, turns, users_of, waiting_count}
-use Rattle.negotiator.specs.Markets.{found, found_for, market_of, pool_for, with_offers}
+use Rattle.negotiator.specs.Markets.{found, found_by, found_for, market_of, pool_for, with_offers}
 use Rattle.negotiator.specs.Priorities.{Setting}
 use Rattle.negotiator.proofs.CycleLemmas.{offer, offers-kept, turn-by}
+use Rattle.negotiator.proofs.GangLemmas.{gang-all, slots-stored}
 
 -- ---- in a cycle
 
@@ -94,26 +95,30 @@ module _ (moment : ℕ) (stock : Stock) (beside : length stock.ads ≤ length st
   at-place : (place : ℕ) → place < length stock.slots → Contains stock.slots (slot_at stock place)
   at-place place within = (place, within, get_or_default stock.slots place (slot_at stock place) 0 within)
 
-  found-for : (jobs : List Job) (request : Request) (slots : List ℕ) → found_for moment stock jobs request ≡ Some slots → All (Contains stock.slots) slots
-  found-for jobs request slots e = by (best (pool_for moment stock jobs) (ad_frames request.ad)) (best-below (pool_for moment stock jobs) (ad_frames request.ad) (length stock.slots) beside) e
+  found-by : (jobs : List Job) (request : List Frame) (ports : List Port) (slots : List ℕ) → found_by stock (pool_for moment stock jobs) request ports ≡ Some slots → All (Contains stock.slots) slots
+  found-by jobs request [] slots e = by (best (pool_for moment stock jobs) request) (best-below (pool_for moment stock jobs) request (length stock.slots) beside) e
     where
       by : (o : Option Member) → IfSome o (λ m. m.place < length stock.slots) → option_map (λ slot. slot ∷ []) (option_map (λ (m : Member). slot_at stock m.place) o) ≡ Some slots → All (Contains stock.slots) slots
       by None h e = absurd (cc)
       by (Some m) h e =
           let same : slot_at stock m.place ∷ [] ≡ slots = cc in
           subst (All (Contains stock.slots)) same (All-cons (Contains stock.slots) (slot_at stock m.place) [] (at-place m.place h) (All-nil (Contains stock.slots)))
+  found-by jobs request (port ∷ ports) slots e =
+      subst (λ o. IfSome o (All (Contains stock.slots))) e
+      (gang-all moment stock jobs request (port ∷ ports) (All (Contains stock.slots)) (λ places is. slots-stored moment stock jobs request (port ∷ ports) places is beside)
+      (found_by stock (pool_for moment stock jobs) request (port ∷ ports)) refl)
 
   pub found-stored : (jobs : List Job) (i : ℕ) (slots : List ℕ) → found moment stock jobs i ≡ Some slots → All (Contains stock.slots) slots
   found-stored jobs i slots e = by (slice_get jobs i) e
     where
       by : (o : Option Job) → option_and_then (λ (job : Job). found_for moment stock jobs job.request) o ≡ Some slots → All (Contains stock.slots) slots
       by None e = absurd (cc)
-      by (Some job) e = found-for jobs job.request slots e
+      by (Some job) e = found-by jobs (ad_frames job.request.ad) job.request.ports slots e
 
 -- ---- a store
 
 module _ (store : Store) where
-  beside : length (stock_of store).ads ≤ length (stock_of store).slots
+  pub beside : length (stock_of store).ads ≤ length (stock_of store).slots
   beside = simp length-map (omega arith)
 
   pub cycle-stored : (moment : ℕ) (settings : List Setting) (jobs : List Job)

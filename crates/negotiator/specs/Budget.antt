@@ -1,40 +1,64 @@
 -- How much the searches of a cycle may count, where each job is searched for at most once.
-use Rattle.std.specs.Prelude.{◌≡◌, ℕ, ◌+◌, ◌*◌, ◌≤◌, Bool, true, false, not, ◌&&◌, List, [], filter, length, slice_get, slice_index_or, sum_by, None, if◌then◌else◌}
+use Rattle.std.specs.Prelude.{◌≡◌, ℕ, ◌+◌, ◌*◌, ◌≤◌, Bool, true, false, not, ◌&&◌, List, [], ◌∷◌, filter, length, slice_get, slice_index_or, sum_by, None, if◌then◌else◌}
 use Rattle.std.specs.List.{range_with_len}
 use Rattle.std.specs.Option.{option_map_or}
 use Rattle.ad_tree.specs.Ad.{ad_frames}
+use Rattle.ad_tree.specs.Frames.{Frame}
+use Rattle.ad_tree.specs.declared.request.Port.{Port}
 use Rattle.ad_tree.specs.declared.request.Request.{Request}
-use Rattle.ad_store.specs.Stock.{Stock}
+use Rattle.ad_store.specs.Stock.{Advert, Stock}
 use Rattle.bilateral_match.specs.Counts.{entered_for, least_left, open_count}
+use Rattle.bilateral_match.specs.Pool.{Pool}
 use Rattle.claim_table.specs.declared.job.Job.{Job}
 use Rattle.conjunct_plan.specs.Tests.{tests_of}
+use Rattle.gang_ports.specs.Gangs.{attributes_open, docks_open, looks_most}
 use Rattle.negotiator.specs.Markets.{found, is_idle, pool_for}
 
 -- ---- one search
 
--- how many evaluations a search for a job may take, how many attributes may be entered in them, and how many ads it may look at
+-- how many docks of a request are undecided, and how many ads its narrowest test leaves, or those of its ports together
+abbrev pub open_by : Pool → List Frame → List Port → ℕ
+open_by pool request [] = open_count pool request
+open_by pool request (port ∷ ports) = docks_open pool request (port ∷ ports)
+
+abbrev pub narrowed_by : List Advert → List Frame → List Port → ℕ
+narrowed_by ads request [] = least_left ads (tests_of request 0 [])
+narrowed_by ads request (port ∷ ports) = looks_most ads request (port ∷ ports)
+
+-- how many evaluations a search may take, how many attributes may be entered in them, and how many ads it may look at
+abbrev pub evaluations_by : Pool → List Frame → List Port → ℕ
+evaluations_by pool request [] = 5 * open_count pool request
+evaluations_by pool request (port ∷ ports) = 3 * docks_open pool request (port ∷ ports)
+
+abbrev pub entries_by : Pool → List Frame → List Port → ℕ
+entries_by pool request [] = entered_for pool request
+entries_by pool request (port ∷ ports) = attributes_open pool request (port ∷ ports)
+
+abbrev pub looks_by : List Advert → List Frame → List Port → ℕ
+looks_by ads request [] = 9 * least_left ads (tests_of request 0 [])
+looks_by ads request (port ∷ ports) = looks_most ads request (port ∷ ports)
+
+-- the same for a job among others
+abbrev pub open_for : ℕ → Stock → List Job → Request → ℕ
+open_for moment stock jobs request = open_by (pool_for moment stock jobs) (ad_frames request.ad) request.ports
+
+abbrev pub left_for : Stock → List Job → Request → ℕ
+left_for stock jobs request = narrowed_by stock.ads (ad_frames request.ad) request.ports
+
 abbrev pub evaluations_for : ℕ → Stock → List Job → Request → ℕ
-evaluations_for moment stock jobs request = 5 * open_count (pool_for moment stock jobs) (ad_frames request.ad)
+evaluations_for moment stock jobs request = evaluations_by (pool_for moment stock jobs) (ad_frames request.ad) request.ports
 
 abbrev pub entries_for : ℕ → Stock → List Job → Request → ℕ
-entries_for moment stock jobs request = entered_for (pool_for moment stock jobs) (ad_frames request.ad)
+entries_for moment stock jobs request = entries_by (pool_for moment stock jobs) (ad_frames request.ad) request.ports
 
 abbrev pub looks_for : Stock → List Job → Request → ℕ
-looks_for stock jobs request = 9 * least_left stock.ads (tests_of (ad_frames request.ad) 0 [])
+looks_for stock jobs request = looks_by stock.ads (ad_frames request.ad) request.ports
 
 -- ---- all searches
 
 -- the sum over the idle jobs
 abbrev pub over_idle : (List Job → Request → ℕ) → List Job → ℕ
 over_idle price jobs = sum_by (λ job. price jobs job.request) (filter (λ job. is_idle job.standing) jobs)
-
--- how many docks an evaluation of which a search for a job may need
-abbrev pub open_for : ℕ → Stock → List Job → Request → ℕ
-open_for moment stock jobs request = open_count (pool_for moment stock jobs) (ad_frames request.ad)
-
--- how many ads the narrowest test of a job leaves
-abbrev pub left_for : Stock → List Job → Request → ℕ
-left_for stock jobs request = least_left stock.ads (tests_of (ad_frames request.ad) 0 [])
 
 -- ---- what is left to be counted, where jobs that found nothing are marked
 

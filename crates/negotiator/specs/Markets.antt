@@ -1,15 +1,19 @@
--- The market of a pool: single jobs, and the resources of a store by their slots.
-use Rattle.std.specs.Prelude.{◌≡◌, ℕ, Bool, true, false, ◌&&◌, List, [], ◌∷◌, ◌++◌, count_by, map, slice_get, Option, is_none, is_some, option_and_then, option_map}
+-- The market of a pool: its jobs, and the resources of a store by their slots.
+use Rattle.std.specs.Prelude.{◌≡◌, ℕ, Bool, true, false, ◌&&◌, List, [], ◌∷◌, ◌++◌, count_by, map, slice_get, Option, Some, is_none, is_some, option_and_then, option_map}
 use Rattle.std.specs.Option.{option_map_or}
 use Rattle.ad_tree.specs.Ad.{ad_frames}
+use Rattle.ad_tree.specs.Frames.{Frame}
+use Rattle.ad_tree.specs.declared.request.Port.{Port}
 use Rattle.ad_tree.specs.declared.request.Request.{Request}
 use Rattle.ad_store.specs.Stock.{Stock}
 use Rattle.bilateral_match.specs.Members.{best_slot}
-use Rattle.bilateral_match.specs.Pool.{Pool, pool_of}
+use Rattle.bilateral_match.specs.Pool.{Pool, pool_of, slot_at}
 use Rattle.claim_table.specs.declared.job.Job.{Job}
 use Rattle.claim_table.specs.declared.job.Standing.{Standing}
 use Rattle.claim_table.specs.Holders.{holder_of}
 use Rattle.claim_table.specs.Jobs.{claimed_by, offered_to, wanted, with_standing}
+use Rattle.gang_ports.specs.Gangs.{gang}
+use Rattle.gang_ports.specs.Ports.{ports_of}
 use Rattle.negotiator.specs.declared.answers.Offered.{Offered}
 use Rattle.negotiator.specs.declared.answers.Spin.{Spin}
 use Rattle.negotiator.specs.declared.answers.Turn.{Turn}
@@ -24,6 +28,11 @@ is_idle other = false
 
 abbrev pub waiting_of : Job → Waiting
 waiting_of job = record { user = job.user; wants = wanted job.request; is_idle = is_idle job.standing }
+
+-- the ports are none, or those that the ad of these frames lists
+abbrev pub AreOwn : List Frame → List Port → Type 0
+AreOwn frames [] = Unit {0}
+AreOwn frames (port ∷ ports) = ports_of frames ≡ Some (port ∷ ports)
 
 -- the jobs once offers are made: each stands as matched
 abbrev pub with_offers : List (Offer ℕ) → List Job → List Job
@@ -43,9 +52,13 @@ pub record IsPart (offers : List (Offer ℕ)) (jobs later : List Job) : Type 0 w
 abbrev pub pool_for : ℕ → Stock → List Job → Pool
 pool_for moment stock jobs = pool_of moment stock (λ slot. is_some (offered_to slot jobs)) (holder_of jobs)
 
--- a job finds the one resource that is best for it
+-- without ports a request finds the one resource that is best for it, and with ports its gang
+abbrev pub found_by : Stock → Pool → List Frame → List Port → Option (List ℕ)
+found_by stock pool request [] = option_map (λ slot. slot ∷ []) (best_slot stock pool request)
+found_by stock pool request (port ∷ ports) = option_map (map (slot_at stock)) (gang pool request (port ∷ ports))
+
 abbrev pub found_for : ℕ → Stock → List Job → Request → Option (List ℕ)
-found_for moment stock jobs request = option_map (λ slot. slot ∷ []) (best_slot stock (pool_for moment stock jobs) (ad_frames request.ad))
+found_for moment stock jobs request = found_by stock (pool_for moment stock jobs) (ad_frames request.ad) request.ports
 
 abbrev pub found : ℕ → Stock → List Job → ℕ → Option (List ℕ)
 found moment stock jobs i = option_and_then (λ job. found_for moment stock jobs job.request) (slice_get jobs i)

@@ -1,6 +1,7 @@
 -- What the searches of a cycle stand on.
 use Rattle.std.specs.Prelude.{◌≡◌, ◌≤◌, ℕ, Bool, List, [], All, length, map, slice_get}
 use Rattle.std.specs.Option.{option_map_or}
+use Rattle.ad_tree.specs.Ad.{ad_frames}
 use Rattle.ad_store.specs.Stock.{Stock}
 use Rattle.ad_store.specs.Store.{stock_of}
 use Rattle.bilateral_match.specs.Pool.{AreStored}
@@ -13,7 +14,7 @@ use Rattle.negotiator.specs.declared.queues.Queue.{Queue}
 use Rattle.negotiator.specs.declared.scene.Scene.{Scene}
 use Rattle.negotiator.specs.Budget.{AreFailing}
 use Rattle.negotiator.specs.Cycle.{Market}
-use Rattle.negotiator.specs.Markets.{market_of}
+use Rattle.negotiator.specs.Markets.{AreOwn, market_of}
 use Rattle.negotiator.specs.Settings.{settings_of}
 
 abbrev pub stock_in : Scene → Stock
@@ -22,11 +23,11 @@ stock_in scene = stock_of scene.store.now
 abbrev pub market_in : Scene → List Job → Market ℕ
 market_in scene jobs = market_of scene.moment (stock_in scene) (settings_of scene.priorities.now) jobs
 
--- the index is that of the store, what is claimed is in the store, the jobs are single, and jobs that are marked find nothing
+-- the index is that of the store, what is claimed is in the store, each job has no ports or those that its ad lists, and jobs that are marked find nothing
 pub record IsReady (scene : Scene) (jobs : List Job) (failed : List Bool) : Type 0 where
   pub index : IsIndex scene.index.now (rows_of (stock_in scene))
   pub stored : AreStored (stock_in scene) (holder_of jobs)
-  pub single : All (λ job. job.request.ports ≡ []) jobs
+  pub ports : All (λ job. AreOwn (ad_frames job.request.ad) job.request.ports) jobs
   pub few : length jobs ≤ jobs_limit
   pub marks : length failed ≡ length jobs
   pub known : AreFailing scene.moment (stock_in scene) jobs failed

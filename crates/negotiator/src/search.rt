@@ -1,20 +1,24 @@
 // The search for one job.
-ghost use Rattle.std.specs.Prelude.{◌≡◌, ◌≢◌, ◌<◌, true, [], All, AllPairs, IfOk, IfSome, OnErr, OnOk, Some, length, option_map, slice_get};
+ghost use Rattle.std.specs.Prelude.{◌≡◌, ◌≢◌, ◌<◌, ◌≤◌, ◌+◌, ◌∷◌, true, [], All, AllPairs, IfOk, IfSome, OnErr, OnOk, Some, length, option_map, slice_get};
 ghost use Rattle.std.specs.Option.{option_map_or};
+ghost use Rattle.ad_tree.specs.Ad.{ad_frames};
 ghost use Rattle.bilateral_match.specs.Pool.{AreStored};
 ghost use Rattle.bilateral_match.specs.Rows.{rows_of};
 ghost use Rattle.claim_table.specs.declared.job.Standing.{Standing};
 ghost use Rattle.claim_table.specs.Holders.{holder_of};
 ghost use Rattle.claim_table.specs.Jobs.{AreFree, wanted, with_standing};
 ghost use Rattle.claim_table.specs.Table.{jobs_of};
+ghost use Rattle.gang_ports.specs.Ports.{ports_of};
 ghost use Rattle.literal_index.specs.Shown.{IsIndex};
-ghost use Rattle.negotiator.specs.Budget.{ArePaid, AreWithin, IsSearched, counts, is_idle_at};
-ghost use Rattle.negotiator.specs.Markets.{found, offer_named};
+ghost use Rattle.negotiator.specs.Budget.{ArePaid, AreWithin, IsSearched, counts, entries_for, evaluations_for, is_idle_at, looks_for};
+ghost use Rattle.negotiator.specs.Markets.{AreOwn, found, found_for, offer_named};
 ghost use Rattle.negotiator.specs.Scenes.{IsReady, stock_in};
 
 use crate::{Offered, Scene};
+use ad_tree::Request;
 use bilateral_match::best;
 use claim_table::{ClaimTable, JobState};
+use gang_ports::first_gang;
 use pool_steps::Steps;
 use pool_text::{OutOfMemory, Slots};
 use std::alloc::Global;
@@ -57,7 +61,7 @@ fn search<F: Ledger, E: Ledger, T: Ledger>(
     requires place { i < length (jobs_of claims.now) }
     requires index { IsIndex scene.now.index.now (rows_of (stock_in scene.now)) }
     requires stored { AreStored (stock_in scene.now) (holder_of (jobs_of claims.now)) }
-    requires single { All (λ job. job.request.ports ≡ []) (jobs_of claims.now) }
+    requires ports { All (λ job. AreOwn (ad_frames job.request.ad) job.request.ports) (jobs_of claims.now) }
     ensures found { IfOk result (λ slots. slots ≡ found scene.now.moment (stock_in scene.now) (jobs_of claims.now) i) }
     ensures free { IfOk result (λ slots. IfSome slots (λ list. AreFree list (jobs_of claims.now))) }
     ensures distinct { IfOk result (λ slots. IfSome slots (AllPairs (λ a b. a ≢ b))) }
@@ -65,7 +69,34 @@ fn search<F: Ledger, E: Ledger, T: Ledger>(
     ensures counted { IsSearched scene.now.moment (stock_in scene.now) (jobs_of claims.now) i (counts tops.old entry.old touch.old) (counts tops.new entry.new touch.new) }
 {
     let request = claims.request(i);
-    let Some(slot) = best(
+    if request.ports.len() == 0 {
+        search_one(scene, claims, request, tops, entry, touch)
+    } else {
+        search_gang(scene, claims, request, tops, entry, touch)
+    }
+}
+
+// The resource that a request without ports finds, in a list.
+fn search_one<F: Ledger, E: Ledger, T: Ledger>(
+    scene: &Scene<'_>,
+    claims: &ClaimTable,
+    request: &Request,
+    tops: &mut Steps<F>,
+    entry: &mut Steps<E>,
+    touch: &mut Steps<T>,
+) -> Result<Option<Slots>, OutOfMemory>
+    requires index { IsIndex scene.now.index.now (rows_of (stock_in scene.now)) }
+    requires stored { AreStored (stock_in scene.now) (holder_of (jobs_of claims.now)) }
+    requires single { request.now.ports ≡ [] }
+    ensures found { IfOk result (λ slots. slots ≡ found_for scene.now.moment (stock_in scene.now) (jobs_of claims.now) request.now) }
+    ensures free { IfOk result (λ slots. IfSome slots (λ list. AreFree list (jobs_of claims.now))) }
+    ensures distinct { IfOk result (λ slots. IfSome slots (AllPairs (λ a b. a ≢ b))) }
+    ensures enough { IfOk result (λ slots. IfSome slots (λ list. wanted request.now ≡ length list)) }
+    ensures evaluations { tops.new ≤ tops.old + evaluations_for scene.now.moment (stock_in scene.now) (jobs_of claims.now) request.now }
+    ensures entries { entry.new ≤ entry.old + entries_for scene.now.moment (stock_in scene.now) (jobs_of claims.now) request.now }
+    ensures looks { touch.new ≤ touch.old + looks_for (stock_in scene.now) (jobs_of claims.now) request.now }
+{
+    let slot = best(
         scene.alloc,
         scene.store,
         scene.index,
@@ -75,13 +106,54 @@ fn search<F: Ledger, E: Ledger, T: Ledger>(
         tops,
         entry,
         touch,
-    )?
-    else {
+    )?;
+    listed(scene.alloc, slot)
+}
+
+// The slot in a list, where there is one.
+fn listed(alloc: Global, slot: Option<usize>) -> Result<Option<Slots>, OutOfMemory>
+    ensures { IfOk result (λ slots. slots ≡ option_map (λ s. s ∷ []) slot) }
+{
+    let Some(slot) = slot else {
         return Ok(None);
     };
-    let mut slots = Slots::new(scene.alloc);
+    let mut slots = Slots::new(alloc);
     slots.push(slot)?;
     Ok(Some(slots))
+}
+
+// The resources that a request finds for its ports.
+fn search_gang<F: Ledger, E: Ledger, T: Ledger>(
+    scene: &Scene<'_>,
+    claims: &ClaimTable,
+    request: &Request,
+    tops: &mut Steps<F>,
+    entry: &mut Steps<E>,
+    touch: &mut Steps<T>,
+) -> Result<Option<Slots>, OutOfMemory>
+    requires index { IsIndex scene.now.index.now (rows_of (stock_in scene.now)) }
+    requires ports { ports_of (ad_frames request.now.ad) ≡ Some request.now.ports }
+    requires some { 0 < length request.now.ports }
+    ensures found { IfOk result (λ slots. slots ≡ found_for scene.now.moment (stock_in scene.now) (jobs_of claims.now) request.now) }
+    ensures free { IfOk result (λ slots. IfSome slots (λ list. AreFree list (jobs_of claims.now))) }
+    ensures distinct { IfOk result (λ slots. IfSome slots (AllPairs (λ a b. a ≢ b))) }
+    ensures enough { IfOk result (λ slots. IfSome slots (λ list. wanted request.now ≡ length list)) }
+    ensures evaluations { tops.new ≤ tops.old + evaluations_for scene.now.moment (stock_in scene.now) (jobs_of claims.now) request.now }
+    ensures entries { entry.new ≤ entry.old + entries_for scene.now.moment (stock_in scene.now) (jobs_of claims.now) request.now }
+    ensures looks { touch.new ≤ touch.old + looks_for (stock_in scene.now) (jobs_of claims.now) request.now }
+{
+    scene.store.slots_are_apart();
+    first_gang(
+        scene.alloc,
+        scene.store,
+        scene.index,
+        claims,
+        request,
+        scene.moment,
+        tops,
+        entry,
+        touch,
+    )
 }
 
 // Offers resources to job `i`, and tells the offer.

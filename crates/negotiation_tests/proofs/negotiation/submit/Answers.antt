@@ -5,4 +5,4 @@ use Rattle.negotiation_tests.specs.Fresh.{AreFresh, IsFresh}
 use Rattle.negotiation_tests.proofs.negotiation.submit.Goals as goal
 
 pub returns : goal.returns
-returns c = subst AreFresh (sym c.in_ok-submit.ensures.ok) (All-push IsFresh (jobs_of c.args.jobs.now) _ c.requires (record { idle = refl; single = c.in_ok-request.ensures }))
+returns c = subst AreFresh (sym c.in_ok-submit.ensures.ok) (All-push IsFresh (jobs_of c.args.jobs.now) _ c.requires (record { idle = refl; ports = c.in_ok-request.ensures }))

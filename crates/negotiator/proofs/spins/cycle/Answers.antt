@@ -31,7 +31,7 @@ run_spins-requires-clause-queues g c =
 pub run_spins-requires-clause-ready : goal.run_spins-requires-clause-ready
 run_spins-requires-clause-ready g c =
     let none = c.deref_mut.ensures.value ∙ c.in_ok-failed.ensures.items_if_clones_equal (λ y h. h) in
-    ready-start _ (jobs_of c.args.claims.now) c.deref_mut.result.now c.requires.index c.requires.stored c.requires.single (subst (λ (n : ℕ). n ≤ 10000) c.len.ensures.len c.len.ensures.few)
+    ready-start _ (jobs_of c.args.claims.now) c.deref_mut.result.now c.requires.index c.requires.stored c.requires.ports (subst (λ (n : ℕ). n ≤ 10000) c.len.ensures.len c.len.ensures.few)
     (none ∙ ap (λ (n : ℕ). replicate n false) c.len.ensures.len)
 
 pub returns-clause-stored : goal.returns-clause-stored

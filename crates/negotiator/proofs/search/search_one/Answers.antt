@@ -1,0 +1,57 @@
+use Rattle.std.proofs.Common.{◌≡◌, ◌≢◌, List, ℕ, [], ◌∷◌, AllPairs, Some, false, is_some, ap, length, sym, ◌∙◌}
+use Rattle.std.specs.Prelude.{IfSome, option_map}
+use Rattle.std.proofs.lemmas.Option.{IfSome_then}
+use Rattle.std.proofs.lemmas.Result.{IfOk-weaker}
+use Rattle.claim_table.specs.Jobs.{AreFree, wanted}
+use Rattle.claim_table.specs.Table.{jobs_of}
+use Rattle.negotiator.specs.Markets.{found_for}
+use Rattle.negotiator.specs.Scenes.{stock_in}
+use Rattle.negotiator.proofs.SearchLemmas.{entries-one, evaluations-one, found-one, if-each, looks-one, one-all, one-apart, one-free, one-wanted}
+use Rattle.negotiator.proofs.search.search_one.Goals as goal
+
+pub returns-in_err-slot-clause-evaluations : goal.returns-in_err-slot-clause-evaluations
+returns-in_err-slot-clause-evaluations g c =
+    evaluations-one c.args.scene.now.moment (stock_in c.args.scene.now) (jobs_of c.args.claims.now) c.args.request.now c.requires.single c.args.tops.now c.best.new.tops c.best.ensures.evaluations
+
+pub returns-in_err-slot-clause-entries : goal.returns-in_err-slot-clause-entries
+returns-in_err-slot-clause-entries g c =
+    entries-one c.args.scene.now.moment (stock_in c.args.scene.now) (jobs_of c.args.claims.now) c.args.request.now c.requires.single c.args.entry.now c.best.new.entry c.best.ensures.entries
+
+pub returns-in_err-slot-clause-looks : goal.returns-in_err-slot-clause-looks
+returns-in_err-slot-clause-looks g c =
+    looks-one c.args.scene.now.moment (stock_in c.args.scene.now) (jobs_of c.args.claims.now) c.args.request.now c.requires.single c.args.touch.now c.best.new.touch c.best.ensures.looks
+
+pub returns-clause-evaluations : goal.returns-clause-evaluations
+returns-clause-evaluations g c =
+    evaluations-one c.args.scene.now.moment (stock_in c.args.scene.now) (jobs_of c.args.claims.now) c.args.request.now c.requires.single c.args.tops.now c.best.new.tops c.best.ensures.evaluations
+
+pub returns-clause-entries : goal.returns-clause-entries
+returns-clause-entries g c =
+    entries-one c.args.scene.now.moment (stock_in c.args.scene.now) (jobs_of c.args.claims.now) c.args.request.now c.requires.single c.args.entry.now c.best.new.entry c.best.ensures.entries
+
+pub returns-clause-looks : goal.returns-clause-looks
+returns-clause-looks g c =
+    looks-one c.args.scene.now.moment (stock_in c.args.scene.now) (jobs_of c.args.claims.now) c.args.request.now c.requires.single c.args.touch.now c.best.new.touch c.best.ensures.looks
+
+pub returns-clause-found : goal.returns-clause-found
+returns-clause-found g c =
+    let is = found-one c.args.scene.now.moment (stock_in c.args.scene.now) (jobs_of c.args.claims.now) c.args.request.now c.requires.single in
+    IfOk-weaker c.listed.result (λ slots. slots ≡ option_map (λ s. s ∷ []) c.in_ok-slot.slot) (λ slots. slots ≡ found_for c.args.scene.now.moment (stock_in c.args.scene.now) (jobs_of c.args.claims.now) c.args.request.now)
+    (λ slots e. e ∙ ap (option_map (λ s. s ∷ [])) c.in_ok-slot.ensures.best ∙ sym is) c.listed.ensures
+
+pub returns-clause-free : goal.returns-clause-free
+returns-clause-free g c =
+    let jobs = jobs_of c.args.claims.now in
+    IfOk-weaker c.listed.result (λ slots. slots ≡ option_map (λ s. s ∷ []) c.in_ok-slot.slot) (λ slots. IfSome slots (λ list. AreFree list jobs))
+    (one-all (λ list. AreFree list jobs) c.in_ok-slot.slot (IfSome_then c.in_ok-slot.slot c.in_ok-slot.ensures.free (one-free jobs))) c.listed.ensures
+
+pub returns-clause-distinct : goal.returns-clause-distinct
+returns-clause-distinct g c =
+    IfOk-weaker c.listed.result (λ slots. slots ≡ option_map (λ s. s ∷ []) c.in_ok-slot.slot) (λ slots. IfSome slots (AllPairs (λ (a b : ℕ). a ≢ b)))
+    (one-all (AllPairs (λ (a b : ℕ). a ≢ b)) c.in_ok-slot.slot (if-each (λ s. AllPairs (λ (a b : ℕ). a ≢ b) (s ∷ [])) one-apart c.in_ok-slot.slot)) c.listed.ensures
+
+pub returns-clause-enough : goal.returns-clause-enough
+returns-clause-enough g c =
+    let request = c.args.request.now in
+    IfOk-weaker c.listed.result (λ slots. slots ≡ option_map (λ s. s ∷ []) c.in_ok-slot.slot) (λ slots. IfSome slots (λ list. wanted request ≡ length list))
+    (one-all (λ list. wanted request ≡ length list) c.in_ok-slot.slot (if-each (λ s. wanted request ≡ 1) (λ s. one-wanted request c.requires.single) c.in_ok-slot.slot)) c.listed.ensures

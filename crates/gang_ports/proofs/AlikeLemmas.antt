@@ -1,46 +1,22 @@
--- Pools that say the same of each place have the same gangs and as many open docks; a gang stands within its pool.
-use Rattle.std.proofs.Common.{◌≡◌, ◌<◌, ◌≤◌, ◌+◌, ℕ, zero, suc, Bool, true, not, ◌&&◌, cond, refl, List, [], ◌∷◌, filter, length, Option, None, Some, IfSome, slice_get, is_some, All, ap, sym, ◌∙◌, subst, arith}
+-- Pools that say the same of each place have the same gangs, and as many open docks.
+use Rattle.std.proofs.Common.{◌≡◌, ◌<◌, ◌≤◌, ◌+◌, ℕ, zero, suc, Bool, false, not, ◌&&◌, cond, refl, List, [], ◌∷◌, filter, length, Option, slice_get, is_some, ap, ◌∙◌, arith}
 use Rattle.std.specs.List.{range_with_len}
 use Rattle.std.specs.Option.{option_map_or}
-use Rattle.std.proofs.lemmas.List.Elements.{All-cons, All-contains, All-filter, All-nil}
 use Rattle.ad_tree.specs.Frames.{Frame}
 use Rattle.ad_tree.specs.declared.request.Port.{Port}
 use Rattle.ad_store.specs.Stock.{Advert, is_live}
 use Rattle.bilateral_match.specs.Pool.{Pool}
 use Rattle.eval_scope.specs.World.{PlainWorld, port_frame}
-use Rattle.gang_ports.specs.Choice.{Choice, IsFirstOf, first_of, is_among, over_prefixes, tuples}
+use Rattle.gang_ports.specs.Choice.{Choice, first_of, is_among, over_prefixes, tuples}
 use Rattle.gang_ports.specs.Gangs.{choice_of, docks_open, free_places, gang, is_free, is_open, open_docks, open_places}
-use Rattle.gang_ports.proofs.LawLemmas.{all-tuples, first-are}
 
 -- ---- places of a range
-
-range-below : (k n m : ℕ) → k + n ≤ m → All (λ p. p < m) (range_with_len k n)
-range-below k zero m fits = All-nil (λ p. p < m)
-range-below k (suc n) m fits = All-cons (λ p. p < m) k (range_with_len (k + 1) n) (omega (arith, fits)) (range-below (k + 1) n m (omega (arith, fits)))
 
 filter-within : (p q : ℕ → Bool) (k n m : ℕ) → k + n ≤ m → ((i : ℕ) → i < m → p i ≡ q i) → filter p (range_with_len k n) ≡ filter q (range_with_len k n)
 filter-within p q k zero m fits same = refl
 filter-within p q k (suc n) m fits same =
     ap (λ b. cond b (k ∷ filter p (range_with_len (k + 1) n)) (filter p (range_with_len (k + 1) n))) (same k (omega (arith, fits)))
     ∙ ap (λ l. cond (q k) (k ∷ l) l) (filter-within p q (k + 1) n m (omega (arith, fits)) same)
-
--- ---- where a gang stands
-
-module _ (pool : Pool) (request : List Frame) (ports : List Port) where
-  pub gang-inside : IfSome (gang pool request ports) (All (λ p. p < length pool.ads))
-  unfolding free_places
-  gang-inside = by (gang pool request ports) (first-are choice (tuples choice (length ports) []))
-    where
-      choice : Choice
-      choice = choice_of pool request ports
-
-      free : All (λ p. p < length pool.ads) choice.free
-      free = All-filter (is_free pool) (λ p. p < length pool.ads) (range_with_len 0 (length pool.ads)) (range-below 0 (length pool.ads) (length pool.ads) (omega arith))
-
-      by : (o : Option (List ℕ)) → IsFirstOf choice (tuples choice (length ports) []) o → IfSome o (All (λ p. p < length pool.ads))
-      by None first = tt
-      by (Some places) first =
-          All-contains (λ t. All (λ p. p < length pool.ads) t) (tuples choice (length ports) []) places (all-tuples choice (λ p. p < length pool.ads) free (length ports) []) first.among
 
 -- ---- pools that say the same
 
@@ -54,7 +30,7 @@ module _ (moment : ℕ) (ads : List Advert) (off_a off_b : ℕ → Bool) (held_a
   module _ (same : (i : ℕ) → i < length ads → (off_a i ≡ off_b i) × (held_a i ≡ held_b i)) where
     free-by : (place : ℕ) → place < length ads → is_free one place ≡ is_free other place
     free-by place within =
-        let live = option_map_or (is_live moment) (slice_get ads place) (not true) in
+        let live = option_map_or (is_live moment) (slice_get ads place) false in
         ap (λ b. live && (not b && not (is_some (held_a place)))) (same place within).0
         ∙ ap (λ held. live && (not (off_b place) && not (is_some held))) (same place within).1
 

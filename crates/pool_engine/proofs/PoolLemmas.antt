@@ -2,8 +2,7 @@
 use Rattle.std.proofs.Common.{◌≡◌, ℕ, zero, suc, ◌+◌, ◌<◌, All, Bool, cond, eqb, Contains, List, [], ◌∷◌, count_by, length, map, slice_get, Option, None, Some, option_map, is_some, IfSome, refl, sym, ◌∙◌, ap, arith}
 use Rattle.std.specs.List.{position_or_len}
 use Rattle.std.specs.Option.{option_map_or}
-use Rattle.std.proofs.lemmas.List.{get_or_default}
-use Rattle.std.proofs.lemmas.List.Elements.{All-cons, All-head, All-nil, All-tail}
+use Rattle.std.proofs.lemmas.List.Elements.{All-head, All-tail}
 use Rattle.std.proofs.lemmas.List.Sums.{sum_by-cons}
 use Rattle.std.proofs.lemmas.Option.{get_or_from_slice_get}
 use Rattle.ad_tree.specs.Frames.{Frame}
@@ -18,8 +17,9 @@ use Rattle.claim_table.specs.Holders.{holder_of}
 use Rattle.claim_table.specs.Jobs.{offered_to as offeree}
 use Rattle.eval_scope.specs.World.{PlainWorld}
 use Rattle.gang_ports.specs.Gangs.{docks_open, gang}
-use Rattle.gang_ports.proofs.AlikeLemmas.{docks-same, gang-inside, gang-same}
+use Rattle.gang_ports.proofs.AlikeLemmas.{docks-same, gang-same}
 use Rattle.negotiator.specs.Markets as market
+use Rattle.negotiator.proofs.GangLemmas.{gang-all, gang-below, slots-stored}
 use Rattle.pool_engine.specs.Gangs.{gang_names}
 use Rattle.pool_engine.specs.Negotiation as seen
 use Rattle.pool_engine.specs.Pool.{name_in, queued}
@@ -102,12 +102,6 @@ module _ (stock : Stock) (beside : AreBeside stock.ads stock.slots) where
 
     -- ---- gangs
 
-    held-at : (place : ℕ) → place < length stock.ads → Contains stock.slots (slot_at stock place)
-    held-at place within =
-        let long = beside.long in
-        let inside : place < length stock.slots = omega (arith, within, long) in
-        (place, inside, get_or_default stock.slots place (slot_at stock place) 0 inside)
-
     gang-seen : (request : List Frame) (ports : List Port) → gang (seen.pool_in moment stock.ads (map (queued stock) jobs)) request ports ≡ gang (market.pool_for moment stock jobs) request ports
     gang-seen request ports = gang-same moment stock.ads off_named off_slots held_named held_slots same-at request ports
 
@@ -125,22 +119,14 @@ module _ (stock : Stock) (beside : AreBeside stock.ads stock.slots) where
         ≡ option_map (map (name_in stock)) (option_map (map (slot_at stock)) (gang (market.pool_for moment stock jobs) request ports))
     gang-names request ports =
         ap (option_map (map names_at)) (gang-seen request ports)
-        ∙ by (gang (market.pool_for moment stock jobs) request ports) (gang-inside (market.pool_for moment stock jobs) request ports)
+        ∙ by (gang (market.pool_for moment stock jobs) request ports) refl
       where
-        by : (o : Option (List ℕ)) → IfSome o (All (λ p. p < length stock.ads)) → option_map (map names_at) o ≡ option_map (map (name_in stock)) (option_map (map (slot_at stock)) o)
-        by None within = refl
-        by (Some places) within = ap (λ l. Some l) (names-of places within)
+        by : (o : Option (List ℕ)) → gang (market.pool_for moment stock jobs) request ports ≡ o → option_map (map names_at) o ≡ option_map (map (name_in stock)) (option_map (map (slot_at stock)) o)
+        by None there = refl
+        by (Some places) there = ap (λ l. Some l) (names-of places (gang-below (market.pool_for moment stock jobs) request ports places there))
 
     -- they are in the store
-    pub gang-stored : (request : List Frame) (ports : List Port) → IfSome (option_map (map (slot_at stock)) (gang (market.pool_for moment stock jobs) request ports)) (All (Contains stock.slots))
-    gang-stored request ports = by (gang (market.pool_for moment stock jobs) request ports) (gang-inside (market.pool_for moment stock jobs) request ports)
-      where
-        slots-held : (places : List ℕ) → All (λ p. p < length stock.ads) places → All (Contains stock.slots) (map (slot_at stock) places)
-        slots-held [] within = All-nil (Contains stock.slots)
-        slots-held (p ∷ places) within =
-            All-cons (Contains stock.slots) (slot_at stock p) (map (slot_at stock) places) (held-at p (All-head (λ p. p < length stock.ads) p places within))
-            (slots-held places (All-tail (λ p. p < length stock.ads) p places within))
-
-        by : (o : Option (List ℕ)) → IfSome o (All (λ p. p < length stock.ads)) → IfSome (option_map (map (slot_at stock)) o) (All (Contains stock.slots))
-        by None within = tt
-        by (Some places) within = slots-held places within
+    pub gang-stored : (request : List Frame) (ports : List Port) (found : Option (List ℕ)) → found ≡ option_map (map (slot_at stock)) (gang (market.pool_for moment stock jobs) request ports) → IfSome found (All (Contains stock.slots))
+    gang-stored request ports found is =
+        gang-all moment stock jobs request ports (All (Contains stock.slots))
+        (λ places there. slots-stored moment stock jobs request ports places there (let long = beside.long in omega (arith, long))) found is

@@ -6,11 +6,10 @@ use Rattle.ad_tree.specs.Frames.{Frame}
 use Rattle.ad_tree.specs.declared.request.Port.{Port}
 use Rattle.ad_store.specs.Stock.{Advert, is_named}
 use Rattle.eval_scope.specs.World.{PlainWorld}
-use Rattle.conjunct_plan.specs.Tests.{tests_of}
-use Rattle.bilateral_match.specs.Counts.{least_left, open_count}
 use Rattle.bilateral_match.specs.Members.{best}
 use Rattle.bilateral_match.specs.Pool.{Pool}
-use Rattle.gang_ports.specs.Gangs.{docks_open, gang, looks_most}
+use Rattle.gang_ports.specs.Gangs.{gang}
+use Rattle.negotiator.specs.Budget.{narrowed_by, open_by}
 use Rattle.negotiator.specs.Cycle.{Market, Offer, PlainSpin, PlainTurn, Waiting, cycle_of, offers_of}
 use Rattle.negotiator.specs.Priorities.{priority_of}
 use Rattle.pool_replies.specs.declared.reply.Reply.{Reply}
@@ -114,20 +113,10 @@ negotiate s =
 abbrev pub over_idle : (QueuedJob → ℕ) → List QueuedJob → ℕ
 over_idle price jobs = sum_by price (filter (λ job. is_idle job.standing) jobs)
 
--- how many docks of a request with these ports literal attributes leave undecided
-abbrev pub undecided_with : Pool → List Frame → List Port → ℕ
-undecided_with pool request [] = open_count pool request
-undecided_with pool request (port ∷ ports) = docks_open pool request (port ∷ ports)
-
--- how many ads its narrowest tests leave
-abbrev pub narrowest_with : List Advert → List Frame → List Port → ℕ
-narrowest_with ads request [] = least_left ads (tests_of request 0 [])
-narrowest_with ads request (port ∷ ports) = looks_most ads request (port ∷ ports)
-
--- how many docks of idle jobs literal attributes leave undecided
+-- how many docks of idle jobs literal attributes leave undecided, together
 abbrev pub undecided_for_jobs : State → ℕ
-undecided_for_jobs s = over_idle (λ job. undecided_with (pool_in s.moment s.ads s.jobs) job.ad (ports_in job.ad)) s.jobs
+undecided_for_jobs s = over_idle (λ job. open_by (pool_in s.moment s.ads s.jobs) job.ad (ports_in job.ad)) s.jobs
 
 -- how many ads the narrowest tests of the idle jobs leave, together
 abbrev pub narrowest_for_jobs : State → ℕ
-narrowest_for_jobs s = over_idle (λ job. narrowest_with s.ads job.ad (ports_in job.ad)) s.jobs
+narrowest_for_jobs s = over_idle (λ job. narrowed_by s.ads job.ad (ports_in job.ad)) s.jobs

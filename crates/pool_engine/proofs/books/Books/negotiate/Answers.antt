@@ -10,6 +10,7 @@ use Rattle.pool_engine.proofs.HitLemmas.{if_ok}
 use Rattle.pool_engine.proofs.MarketLemmas.{narrowest-seen, negotiated, undecided-seen}
 use Rattle.pool_engine.proofs.MatchedLemmas.{part-of, part-owned, part-stored}
 use Rattle.pool_engine.proofs.NameLemmas.{AreBeside}
+use Rattle.pool_engine.proofs.PortLemmas.{all-own}
 use Rattle.pool_engine.proofs.SpinRowLemmas.{spins-held}
 use Rattle.pool_engine.proofs.books.Books.negotiate.Goals as goal
 
@@ -20,6 +21,9 @@ if_ok-both (Err e) P Q more a p = tt
 
 pub cycle-requires-clause-stored : goal.cycle-requires-clause-stored
 cycle-requires-clause-stored g c = holders-stored (stock_of c.args.self.now.ads.store) (jobs_of c.args.self.now.claims) c.args.self.now.listed
+
+pub cycle-requires-clause-ports : goal.cycle-requires-clause-ports
+cycle-requires-clause-ports g c = all-own (jobs_of c.args.self.now.claims) c.args.self.now.owned
 
 pub invariant_of-self : goal.invariant_of-self
 invariant_of-self g c =

@@ -17,6 +17,7 @@ mod LosersLemmas
 mod MarketLemmas
 mod MatchedLemmas
 mod NameLemmas
+mod OneJobLemmas
 mod PoolLemmas
 mod PortLemmas
 mod QueueLemmas

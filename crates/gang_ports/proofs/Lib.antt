@@ -1,4 +1,3 @@
-pub mod AlikeLemmas
 mod CandidateLemmas
 mod CountLemmas
 mod DockLemmas
@@ -8,4 +7,5 @@ mod OrderLemmas
 pub mod PoolLemmas
 mod PortLemmas
 mod ReadingLemmas
+pub mod SameLemmas
 mod SearchLemmas

@@ -1,5 +1,5 @@
 -- The pool of a state, by the names of its resources, and that of a table of jobs, by their slots: they say the same of each place.
-use Rattle.std.proofs.Common.{◌≡◌, ℕ, zero, suc, ◌+◌, ◌<◌, All, Bool, cond, eqb, Contains, List, [], ◌∷◌, count_by, length, map, slice_get, Option, None, Some, option_map, is_some, IfSome, refl, sym, ◌∙◌, ap, arith}
+use Rattle.std.proofs.Common.{◌≡◌, ℕ, zero, suc, ◌+◌, ◌<◌, All, Bool, true, cond, eqb, Contains, List, [], ◌∷◌, count_by, length, map, slice_get, Option, None, Some, option_map, is_some, IfSome, refl, sym, ◌∙◌, ap, arith}
 use Rattle.std.specs.List.{position_or_len}
 use Rattle.std.specs.Option.{option_map_or}
 use Rattle.std.proofs.lemmas.List.Elements.{All-head, All-tail}
@@ -17,7 +17,7 @@ use Rattle.claim_table.specs.Holders.{holder_of}
 use Rattle.claim_table.specs.Jobs.{offered_to as offeree}
 use Rattle.eval_scope.specs.World.{PlainWorld}
 use Rattle.gang_ports.specs.Gangs.{docks_open, gang}
-use Rattle.gang_ports.proofs.AlikeLemmas.{docks-same, gang-same}
+use Rattle.gang_ports.proofs.SameLemmas.{docks-same, gang-same}
 use Rattle.negotiator.specs.Markets as market
 use Rattle.negotiator.proofs.GangLemmas.{gang-all, gang-below, slots-stored}
 use Rattle.pool_engine.specs.Gangs.{gang_names}

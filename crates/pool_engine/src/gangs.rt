@@ -1,7 +1,8 @@
 // Gangs: the resources that the ports of a request are given.
-ghost use Rattle.std.specs.Prelude.{◌≡◌, ◌+◌, ◌*◌, ◌≤◌, IfOk, IsTrue, Some};
+ghost use Rattle.std.specs.Prelude.{◌≡◌, ◌+◌, ◌*◌, ◌≤◌, IfOk, IfSome, IsTrue, Some};
 ghost use Rattle.ad_parser.proofs.Outcomes.{ad_outcome};
 ghost use Rattle.ad_tree.specs.Ad.{ad_frames};
+ghost use Rattle.ad_tree.specs.Requests.{ArePorts};
 ghost use Rattle.gang_ports.specs.Gangs.{docks_open, looks_most};
 ghost use Rattle.gang_ports.specs.Ports.{ports_of};
 ghost use Rattle.pool_script.specs.Form.{is_block_text};
@@ -15,7 +16,7 @@ use crate::books::Books;
 use crate::negotiation::names_of;
 use crate::pool::told;
 use ad_parser::parse_ad;
-use ad_tree::Request;
+use ad_tree::{Ad, Ports, Request};
 use gang_ports::{PortsFault, first_gang, read_ports};
 use pool_replies::{Refusal, Reply};
 use pool_steps::Steps;
@@ -47,15 +48,25 @@ pub(crate) fn gang<F: Ledger, E: Ledger, T: Ledger>(
         Ok(ad) => ad,
         Err(fault) => return Ok(Reply::Refused(Refusal::AdText(told(fault)?))),
     };
-    let ports = match read_ports(alloc, &ad) {
-        Ok(ports) => ports,
-        Err(PortsFault::Bad) => return Ok(Reply::Refused(Refusal::BadPorts)),
-        Err(PortsFault::OutOfMemory) => return Err(OutOfMemory),
+    let Some(ports) = listed_ports(alloc, &ad)? else {
+        return Ok(Reply::Refused(Refusal::BadPorts));
     };
     let request = Request { ad, ports };
     let names = gang_names(alloc, books, &request, moment, tops, entry, touch);
     drop(request);
     Ok(line(names?))
+}
+
+/// The ports that an ad lists, if it lists ports of the form that a gang has.
+pub(crate) fn listed_ports(alloc: Global, ad: &Ad) -> Result<Option<Ports>, OutOfMemory>
+    ensures ports { IfOk result (λ ports. ports ≡ ports_of (ad_frames ad.now)) }
+    ensures are_ports { IfOk result (λ ports. IfSome ports (ArePorts (ad_frames ad.now))) }
+{
+    match read_ports(alloc, ad) {
+        Ok(ports) => Ok(Some(ports)),
+        Err(PortsFault::Bad) => Ok(None),
+        Err(PortsFault::OutOfMemory) => Err(OutOfMemory),
+    }
 }
 
 // The names of the gang of a request, if it has one.

@@ -15,10 +15,10 @@ ghost use Rattle.pool_engine.specs.Queue.{job_refusal};
 ghost use Rattle.pool_engine.specs.Step as steps;
 
 use crate::books::Books;
+use crate::gangs::listed_ports;
 use crate::pool::told;
 use ad_parser::parse_ad;
 use ad_tree::{Ad, Ports, Request};
-use gang_ports::{PortsFault, read_ports};
 use negotiator::{Priorities, PriorityFault};
 use pool_replies::{Refusal, Reply, Room};
 use pool_text::{OutOfMemory, Text};
@@ -79,11 +79,7 @@ fn own_ports(alloc: Global, ad: &Ad) -> Result<Option<Ports>, OutOfMemory>
     if ad.position(0, b"Ports").is_none() {
         return Ok(Some(Ports::new(alloc)));
     }
-    match read_ports(alloc, ad) {
-        Ok(ports) => Ok(Some(ports)),
-        Err(PortsFault::Bad) => Ok(None),
-        Err(PortsFault::OutOfMemory) => Err(OutOfMemory),
-    }
+    listed_ports(alloc, ad)
 }
 
 // Why a job of this name, with a text of so many bytes, is refused.

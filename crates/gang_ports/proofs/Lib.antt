@@ -7,4 +7,5 @@ mod OrderLemmas
 pub mod PoolLemmas
 mod PortLemmas
 mod ReadingLemmas
+pub mod SameLemmas
 mod SearchLemmas

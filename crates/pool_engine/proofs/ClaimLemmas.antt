@@ -30,7 +30,7 @@ use Rattle.pool_engine.proofs.FailingLemmas.{failing-seen, failing-stored, found
 use Rattle.pool_engine.proofs.GrantedLemmas.{granted-seen, restood-seen}
 use Rattle.pool_engine.proofs.JobLemmas.{found-first}
 use Rattle.pool_engine.proofs.LosersLemmas.{idle-seen, losers-seen}
-use Rattle.pool_engine.proofs.MatchedLemmas.{IsSingle, single-standing, standing_next}
+use Rattle.pool_engine.proofs.MatchedLemmas.{IsOwned, owned-standing, standing_next}
 use Rattle.pool_engine.proofs.NameLemmas.{AreBeside}
 use Rattle.pool_engine.proofs.QueueLemmas.{names-mapped}
 use Rattle.pool_engine.proofs.SlotLemmas.{all-contained, all-lists, lists-contains}
@@ -64,15 +64,15 @@ pub released-stored : (slots : List ℕ) (o : Option ℕ) (jobs : List Job) → 
 released-stored slots None jobs stored = stored
 released-stored slots (Some i) jobs stored = idle-stored slots i jobs stored
 
--- ---- single jobs stay single
+-- ---- jobs keep the ports that their ads list
 
-single-idle : (ks : List ℕ) (jobs : List Job) → All IsSingle jobs → All IsSingle (claims.all_idle jobs ks)
-single-idle [] jobs single = single
-single-idle (k ∷ ks) jobs single = single-idle ks (idle_at (Some k) jobs) (single-standing k Standing.Idle jobs single)
+owned-idle : (ks : List ℕ) (jobs : List Job) → All IsOwned jobs → All IsOwned (claims.all_idle jobs ks)
+owned-idle [] jobs owned = owned
+owned-idle (k ∷ ks) jobs owned = owned-idle ks (idle_at (Some k) jobs) (owned-standing k Standing.Idle jobs owned)
 
-pub single-released : (o : Option ℕ) (jobs : List Job) → All IsSingle jobs → All IsSingle (idle_at o jobs)
-single-released None jobs single = single
-single-released (Some i) jobs single = single-standing i Standing.Idle jobs single
+pub owned-released : (o : Option ℕ) (jobs : List Job) → All IsOwned jobs → All IsOwned (idle_at o jobs)
+owned-released None jobs owned = owned
+owned-released (Some i) jobs owned = owned-standing i Standing.Idle jobs owned
 
 -- ---- the job of a name
 
@@ -99,12 +99,12 @@ given-seen stock name jobs =
     by (Some job) = sym (names-mapped stock job.standing)
 
 -- the slots of the job of a name are in the store
-pub given-held : (slots : List ℕ) (name : List ℕ) (jobs : List Job) → are_stored slots jobs ≡ true → All IsSingle jobs → All (Contains slots) (option_map_or (λ job. slots_of job.standing) (job_named name jobs) [])
-given-held slots name jobs stored single =
+pub given-held : (slots : List ℕ) (name : List ℕ) (jobs : List Job) → are_stored slots jobs ≡ true → All IsOwned jobs → All (Contains slots) (option_map_or (λ job. slots_of job.standing) (job_named name jobs) [])
+given-held slots name jobs stored owned =
     subst (λ (o : Option Job). All (Contains slots) (option_map_or (λ (j : Job). slots_of j.standing) o [])) (sym (found-first (is_named name) jobs))
-    (by (find (is_named name) jobs) (found-both slots name jobs stored single))
+    (by (find (is_named name) jobs) (found-both slots name jobs stored owned))
   where
-    by : (o : Option Job) → IfSome o (λ job. IsSingle job × (is_stored slots job ≡ true)) → All (Contains slots) (option_map_or (λ (j : Job). slots_of j.standing) o [])
+    by : (o : Option Job) → IfSome o (λ job. IsOwned job × (is_stored slots job ≡ true)) → All (Contains slots) (option_map_or (λ (j : Job). slots_of j.standing) o [])
     by None holds = All-nil (Contains slots)
     by (Some job) holds = all-contained slots (slots_of job.standing) holds.1
 
@@ -122,7 +122,7 @@ module _ (stock : Stock) (moment : ℕ) (settings : List Setting) where
   abbrev then_jobs : List QueuedJob → State
   then_jobs queue = record { moment = moment; ads = stock.ads; jobs = queue; priorities = settings }
 
-  module _ (beside : AreBeside stock.ads stock.slots) (name : List ℕ) (jobs : List Job) (stored : are_stored stock.slots jobs ≡ true) (single : All IsSingle jobs) (apart : AreNamedApart jobs) (exclusive : AreExclusive claim_of jobs) where
+  module _ (beside : AreBeside stock.ads stock.slots) (name : List ℕ) (jobs : List Job) (stored : are_stored stock.slots jobs ≡ true) (owned : All IsOwned jobs) (apart : AreNamedApart jobs) (exclusive : AreExclusive claim_of jobs) where
     abbrev Fits : Answer → Type 0
     Fits a = IsClaimAnswer stock (state_of jobs) name (state_of a.1) a.0
 
@@ -164,7 +164,7 @@ module _ (stock : Stock) (moment : ℕ) (settings : List Setting) where
           told : List QueuedJob → List ℕ → List (List ℕ) → List (List ℕ) → State × Reply
           told queue n ns lost = (then_jobs queue, reply.Claimed n ns lost)
 
-    at-fits : (i : ℕ) (job : Job) (s : Standing) → slice_get jobs i ≡ Some (record job { standing = s }) → is_named name job ≡ true → IsSingle job → list_all (lists stock.slots) (slots_of s) ≡ true
+    at-fits : (i : ℕ) (job : Job) (s : Standing) → slice_get jobs i ≡ Some (record job { standing = s }) → is_named name job ≡ true → IsOwned job → list_all (lists stock.slots) (slots_of s) ≡ true
         → names_given name (map (queued stock) jobs) ≡ names_of (named_standing stock s)
         → ◌≡◌ {A = State × Reply} (seen.claim (state_of jobs) name) (seen.claim_as (state_of jobs) (queued stock (record job { standing = s })) (named_standing stock s))
         → Fits (claims.claimed_at moment stock jobs i (record job { standing = s }))
@@ -172,8 +172,8 @@ module _ (stock : Stock) (moment : ℕ) (settings : List Setting) where
     at-fits i job (Standing.Claimed slots) at named alone held given is = (refl, is)
     at-fits i job (Standing.Matched slots) at named alone held given is =
         checked-fits i (record job { standing = Standing.Matched slots }) slots at named held given (claims.first_failing moment stock jobs job.request slots)
-        (failing-stored stock beside moment settings jobs stored single (record job { standing = Standing.Matched slots }) alone slots held)
-        (is ∙ ap (seen.checked (state_of jobs) (queued stock (record job { standing = Standing.Matched slots })) (map (name_in stock) slots)) (failing-seen stock beside moment settings jobs stored single (record job { standing = Standing.Matched slots }) alone slots held))
+        (failing-stored stock beside moment settings jobs stored owned (record job { standing = Standing.Matched slots }) alone slots held)
+        (is ∙ ap (seen.checked (state_of jobs) (queued stock (record job { standing = Standing.Matched slots })) (map (name_in stock) slots)) (failing-seen stock beside moment settings jobs stored owned (record job { standing = Standing.Matched slots }) alone slots held))
 
     given-one : (job : Job) → find (is_named name) jobs ≡ Some job → names_given name (map (queued stock) jobs) ≡ names_of (named_standing stock job.standing)
     given-one job found =
@@ -182,7 +182,7 @@ module _ (stock : Stock) (moment : ℕ) (settings : List Setting) where
     job-fits : (i : ℕ) (o : Option Job) → slice_get jobs i ≡ o → find (is_named name) jobs ≡ o → Fits (option_map_or (claims.claimed_at moment stock jobs i) o nobody)
     job-fits i None at found = claim-found None found
     job-fits i (Some job) at found =
-        let holds : IsSingle job × (is_stored stock.slots job ≡ true) = subst (λ (o : Option Job). IfSome o (λ j. IsSingle j × (is_stored stock.slots j ≡ true))) found (found-both stock.slots name jobs stored single) in
+        let holds : IsOwned job × (is_stored stock.slots job ≡ true) = subst (λ (o : Option Job). IfSome o (λ j. IsOwned j × (is_stored stock.slots j ≡ true))) found (found-both stock.slots name jobs stored owned) in
         at-fits i job job.standing at (named-by name jobs job found) holds.0 holds.1 (given-one job found) (claim-found (Some job) found)
 
     fits : Fits (claims.claimed moment stock name jobs)
@@ -200,41 +200,41 @@ module _ (stock : Stock) (moment : ℕ) (settings : List Setting) where
     claim-seen (Err (ClaimFault.Stale slot)) new same = subst Fits same fits
     claim-seen (Err ClaimFault.OutOfMemory) new same = ap state_of same
 
--- ---- single jobs stay single after a claim
+-- ---- and after a claim
 
-module _ (moment : ℕ) (stock : Stock) (name : List ℕ) (jobs : List Job) (single : All IsSingle jobs) where
+module _ (moment : ℕ) (stock : Stock) (name : List ℕ) (jobs : List Job) (owned : All IsOwned jobs) where
   abbrev no_job : Answer
   no_job = (Err ClaimFault.NoJob, jobs)
 
-  checked-single : (i : ℕ) (slots : List ℕ) (o : Option ℕ) → All IsSingle (option_map_or {U = Answer} (λ slot. (Err (ClaimFault.Stale slot), with_standing jobs i Standing.Idle)) o (Ok (claims.freed_all jobs (claims.losers jobs slots)), claims.granted jobs i slots)).1
-  checked-single i slots None = single-standing i (Standing.Claimed slots) (claims.all_idle jobs (claims.losers jobs slots)) (single-idle (claims.losers jobs slots) jobs single)
-  checked-single i slots (Some slot) = single-standing i Standing.Idle jobs single
+  checked-owned : (i : ℕ) (slots : List ℕ) (o : Option ℕ) → All IsOwned (option_map_or {U = Answer} (λ slot. (Err (ClaimFault.Stale slot), with_standing jobs i Standing.Idle)) o (Ok (claims.freed_all jobs (claims.losers jobs slots)), claims.granted jobs i slots)).1
+  checked-owned i slots None = owned-standing i (Standing.Claimed slots) (claims.all_idle jobs (claims.losers jobs slots)) (owned-idle (claims.losers jobs slots) jobs owned)
+  checked-owned i slots (Some slot) = owned-standing i Standing.Idle jobs owned
 
-  at-single : (i : ℕ) (job : Job) (s : Standing) → All IsSingle (claims.claimed_at moment stock jobs i (record job { standing = s })).1
-  at-single i job Standing.Idle = single
-  at-single i job (Standing.Claimed slots) = single
-  at-single i job (Standing.Matched slots) = checked-single i slots (claims.first_failing moment stock jobs job.request slots)
+  at-owned : (i : ℕ) (job : Job) (s : Standing) → All IsOwned (claims.claimed_at moment stock jobs i (record job { standing = s })).1
+  at-owned i job Standing.Idle = owned
+  at-owned i job (Standing.Claimed slots) = owned
+  at-owned i job (Standing.Matched slots) = checked-owned i slots (claims.first_failing moment stock jobs job.request slots)
 
-  job-single : (i : ℕ) (o : Option Job) → All IsSingle (option_map_or {U = Answer} (claims.claimed_at moment stock jobs i) o no_job).1
-  job-single i None = single
-  job-single i (Some job) = at-single i job job.standing
+  job-owned : (i : ℕ) (o : Option Job) → All IsOwned (option_map_or {U = Answer} (claims.claimed_at moment stock jobs i) o no_job).1
+  job-owned i None = owned
+  job-owned i (Some job) = at-owned i job job.standing
 
-  claimed-single : All IsSingle (claims.claimed moment stock name jobs).1
-  claimed-single = by (numbered name jobs)
+  claimed-owned : All IsOwned (claims.claimed moment stock name jobs).1
+  claimed-owned = by (numbered name jobs)
     where
-      by : (o : Option ℕ) → All IsSingle (option_map_or {U = Answer} (λ i. option_map_or (claims.claimed_at moment stock jobs i) (slice_get jobs i) no_job) o no_job).1
-      by None = single
-      by (Some i) = job-single i (slice_get jobs i)
+      by : (o : Option ℕ) → All IsOwned (option_map_or {U = Answer} (λ i. option_map_or (claims.claimed_at moment stock jobs i) (slice_get jobs i) no_job) o no_job).1
+      by None = owned
+      by (Some i) = job-owned i (slice_get jobs i)
 
-  after-single : (answer : Result (List Freed) ClaimFault) (new : List Job) → claims.claimed moment stock name jobs ≡ (answer, new) → All IsSingle new
-  after-single answer new same = subst (All IsSingle) (ap (λ (x : Answer). x.1) same) claimed-single
+  after-owned : (answer : Result (List Freed) ClaimFault) (new : List Job) → claims.claimed moment stock name jobs ≡ (answer, new) → All IsOwned new
+  after-owned answer new same = subst (All IsOwned) (ap (λ (x : Answer). x.1) same) claimed-owned
 
-  pub claim-single : (answer : Result (List Freed) ClaimFault) (new : List Job) → claims.IsClaimed answer jobs new (claims.claimed moment stock name jobs) → All IsSingle new
-  claim-single (Ok freed) new same = after-single (Ok freed) new same
-  claim-single (Err ClaimFault.NoJob) new same = after-single (Err ClaimFault.NoJob) new same
-  claim-single (Err (ClaimFault.WrongState state)) new same = after-single (Err (ClaimFault.WrongState state)) new same
-  claim-single (Err (ClaimFault.Stale slot)) new same = after-single (Err (ClaimFault.Stale slot)) new same
-  claim-single (Err ClaimFault.OutOfMemory) new same = subst (All IsSingle) (sym same) single
+  pub claim-owned : (answer : Result (List Freed) ClaimFault) (new : List Job) → claims.IsClaimed answer jobs new (claims.claimed moment stock name jobs) → All IsOwned new
+  claim-owned (Ok freed) new same = after-owned (Ok freed) new same
+  claim-owned (Err ClaimFault.NoJob) new same = after-owned (Err ClaimFault.NoJob) new same
+  claim-owned (Err (ClaimFault.WrongState state)) new same = after-owned (Err (ClaimFault.WrongState state)) new same
+  claim-owned (Err (ClaimFault.Stale slot)) new same = after-owned (Err (ClaimFault.Stale slot)) new same
+  claim-owned (Err ClaimFault.OutOfMemory) new same = subst (All IsOwned) (sym same) owned
 
 -- ---- releases
 
@@ -290,10 +290,10 @@ module _ (stock : Stock) (moment : ℕ) (settings : List Setting) (name : List �
   released (Ok slots) later is ok err = subst (λ (js : List Job). IsReleaseAnswer (here jobs) name (here js) (Ok slots)) (sym ok) (subst IsFree (sym is) release-seen)
   released (Err fault) later is ok err = subst (λ (js : List Job). IsReleaseAnswer (here jobs) name (here js) (Err fault)) (sym err) (subst IsFree (sym is) release-seen)
 
--- in any case what is left is stored, and single
-pub either-released : {T E : Type 0} (slots : List ℕ) (o : Option ℕ) (jobs later : List Job) (r : Result T E) → OnOk r (later ≡ idle_at o jobs) → OnErr r (later ≡ jobs) → are_stored slots jobs ≡ true → All IsSingle jobs → (are_stored slots later ≡ true) × All IsSingle later
-either-released slots o jobs later (Ok x) ok err stored single = (ap (are_stored slots) ok ∙ released-stored slots o jobs stored, subst (All IsSingle) (sym ok) (single-released o jobs single))
-either-released slots o jobs later (Err e) ok err stored single = (ap (are_stored slots) err ∙ stored, subst (All IsSingle) (sym err) single)
+-- in any case what is left is stored, and keeps its ports
+pub either-released : {T E : Type 0} (slots : List ℕ) (o : Option ℕ) (jobs later : List Job) (r : Result T E) → OnOk r (later ≡ idle_at o jobs) → OnErr r (later ≡ jobs) → are_stored slots jobs ≡ true → All IsOwned jobs → (are_stored slots later ≡ true) × All IsOwned later
+either-released slots o jobs later (Ok x) ok err stored owned = (ap (are_stored slots) ok ∙ released-stored slots o jobs stored, subst (All IsOwned) (sym ok) (owned-released o jobs owned))
+either-released slots o jobs later (Err e) ok err stored owned = (ap (are_stored slots) err ∙ stored, subst (All IsOwned) (sym err) owned)
 
 -- ---- replies
 

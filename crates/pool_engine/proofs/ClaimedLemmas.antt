@@ -18,10 +18,11 @@ use Rattle.eval_scope.specs.World.{PlainWorld}
 use Rattle.pool_engine.specs.Claiming as seen
 use Rattle.pool_engine.specs.Negotiation.{frames_named, held_world}
 use Rattle.pool_engine.specs.Pool.{name_in, queued}
+use Rattle.pool_engine.specs.Ports.{ports_in}
 use Rattle.pool_engine.specs.Queue.{claimed_by}
 use Rattle.pool_engine.specs.Stored.{are_stored}
 use Rattle.pool_engine.proofs.DockLemmas.{frames-of-all, holder-same}
-use Rattle.pool_engine.proofs.MatchedLemmas.{IsSingle}
+use Rattle.pool_engine.proofs.MatchedLemmas.{IsOwned}
 use Rattle.pool_engine.proofs.NameLemmas.{AreBeside, Named, beside-is, name_there, named_beside}
 use Rattle.pool_engine.proofs.QueueLemmas.{map-map}
 use Rattle.pool_engine.proofs.SlotLemmas.{all-take}
@@ -36,25 +37,25 @@ ranked_lower world held = int_lt (regard_in held) (regard_in world)
 
 module _ (stock : Stock) (beside : AreBeside stock.ads stock.slots) (moment : ℕ) where
   -- the world of the dock of the resource at a port
-  pub world-seen : (job : Job) → IsSingle job → (slots : List ℕ) → list_all (lists stock.slots) slots ≡ true → (port : ℕ)
+  pub world-seen : (job : Job) → IsOwned job → (slots : List ℕ) → list_all (lists stock.slots) slots ≡ true → (port : ℕ)
       → seen.world_at moment stock.ads (queued stock job) (map (name_in stock) slots) port ≡ claims.world_at moment stock job.request slots port
-  world-seen job single slots listed port =
-      ap (λ docked. world [] docked)
+  world-seen job owned slots listed port =
+      ap (λ docked. world (ports_in (ad_frames job.request.ad)) docked)
       (ap (map (frames_named stock.ads)) (take-map (name_in stock) (suc port) slots)
       ∙ map-map (frames_named stock.ads) (name_in stock) (take (suc port) slots)
       ∙ frames-of-all stock beside (take (suc port) slots) (all-take (lists stock.slots) (suc port) slots listed))
-      ∙ ap (λ ports. world ports (map (ad_in stock) (take (suc port) slots))) (sym single)
+      ∙ ap (λ ports. world ports (map (ad_in stock) (take (suc port) slots))) (sym owned)
     where
       world : List Port → List (List Frame) → PlainWorld
       world ports docked = record { moment = moment; request = ad_frames job.request.ad; ports = ports; docked = docked }
 
-  module _ (jobs : List Job) (stored : are_stored stock.slots jobs ≡ true) (single : All IsSingle jobs) where
+  module _ (jobs : List Job) (stored : are_stored stock.slots jobs ≡ true) (owned : All IsOwned jobs) where
     won-seen : (slot : ℕ) → lists stock.slots slot ≡ true → (world : PlainWorld)
         → seen.is_won moment stock.ads (map (queued stock) jobs) (name_in stock slot) world ≡ claims.is_won moment stock jobs slot world
     won-seen slot listed world =
         ap (λ name. seen.is_won moment stock.ads (map (queued stock) jobs) name world) called
         ∙ mapped-or (held_world moment stock.ads there.advert.name) (ranked_lower world) true (claimed_by there.advert.name (map (queued stock) jobs))
-        ∙ ap (λ o. option_map_or (ranked_lower world) o true) (holder-same stock beside there.place there.advert slot there.at there.slot_at jobs stored moment single)
+        ∙ ap (λ o. option_map_or (ranked_lower world) o true) (holder-same stock beside there.place there.advert slot there.at there.slot_at jobs stored moment owned)
         ∙ sym (mapped-or (holder_world moment stock) (ranked_lower world) true (holder_of jobs slot))
       where
         there : Named stock.ads stock.slots slot (named_beside stock.ads stock.slots slot)

@@ -19,11 +19,12 @@ use Rattle.eval_scope.specs.World.{PlainWorld}
 use Rattle.negotiator.specs.Markets as market
 use Rattle.pool_engine.specs.Negotiation as seen
 use Rattle.pool_engine.specs.Pool.{name_in, named_standing, queued}
+use Rattle.pool_engine.specs.Ports.{ports_in}
 use Rattle.pool_engine.specs.Queue.{claim_names, claimed_by, is_listed, offer_names, offered_to}
 use Rattle.pool_engine.specs.State.{QueuedJob}
 use Rattle.pool_engine.specs.Stored.{are_stored, is_stored}
 use Rattle.pool_engine.proofs.JobLemmas.{found-any, found-first}
-use Rattle.pool_engine.proofs.MatchedLemmas.{IsSingle}
+use Rattle.pool_engine.proofs.MatchedLemmas.{IsOwned}
 use Rattle.pool_engine.proofs.NameLemmas.{AreBeside, Named, beside-is, listed-named, name_there, named_beside}
 use Rattle.pool_engine.proofs.QueueLemmas.{map-map, position-cons}
 use Rattle.pool_engine.proofs.SlotLemmas.{all-contained, all-take, find-at, position-at}
@@ -162,25 +163,25 @@ module _ (stock : Stock) (beside : AreBeside stock.ads stock.slots) where
     docked-claim (Standing.Matched own) all = refl
     docked-claim (Standing.Claimed own) all = docked-same own all
 
-    held-same : (moment : ℕ) (job : Job) → is_stored stock.slots job ≡ true → IsSingle job → seen.held_world moment stock.ads advert.name (queued stock job) ≡ holder_world moment stock (holding_in slot job)
-    held-same moment job stored single =
-        ap (λ docked. world [] docked) (docked-claim job.standing stored)
-        ∙ ap (λ ports. world ports (map (ad_in stock) (take (suc (position_or_len (λ s. eqb s slot) (claim_of job.standing))) (claim_of job.standing)))) (sym single)
+    held-same : (moment : ℕ) (job : Job) → is_stored stock.slots job ≡ true → IsOwned job → seen.held_world moment stock.ads advert.name (queued stock job) ≡ holder_world moment stock (holding_in slot job)
+    held-same moment job stored owned =
+        ap (λ docked. world (ports_in (ad_frames job.request.ad)) docked) (docked-claim job.standing stored)
+        ∙ ap (λ ports. world ports (map (ad_in stock) (take (suc (position_or_len (λ s. eqb s slot) (claim_of job.standing))) (claim_of job.standing)))) (sym owned)
       where
         world : List Port → List (List Frame) → PlainWorld
         world ports docked = record { moment = moment; request = ad_frames job.request.ad; ports = ports; docked = docked }
 
-    worlds-same : (moment : ℕ) (test : Job → Bool) (jobs : List Job) → are_stored stock.slots jobs ≡ true → All IsSingle jobs
+    worlds-same : (moment : ℕ) (test : Job → Bool) (jobs : List Job) → are_stored stock.slots jobs ≡ true → All IsOwned jobs
         → option_map (seen.held_world moment stock.ads advert.name) (option_map (queued stock) (find test jobs)) ≡ option_map (holder_world moment stock) (option_map (holding_in slot) (find test jobs))
-    worlds-same moment test [] stored single = refl
-    worlds-same moment test (job ∷ jobs) stored single = by (test job) (worlds-same moment test jobs parts.1 (All-tail IsSingle job jobs single))
+    worlds-same moment test [] stored owned = refl
+    worlds-same moment test (job ∷ jobs) stored owned = by (test job) (worlds-same moment test jobs parts.1 (All-tail IsOwned job jobs owned))
       where
         parts : (is_stored stock.slots job ≡ true) × (are_stored stock.slots jobs ≡ true)
         parts = both (is_stored stock.slots job) (are_stored stock.slots jobs) stored
 
         by : (b : Bool) → option_map (seen.held_world moment stock.ads advert.name) (option_map (queued stock) (find test jobs)) ≡ option_map (holder_world moment stock) (option_map (holding_in slot) (find test jobs))
             → option_map (seen.held_world moment stock.ads advert.name) (option_map (queued stock) (cond b (Some job) (find test jobs))) ≡ option_map (holder_world moment stock) (option_map (holding_in slot) (cond b (Some job) (find test jobs)))
-        by true rest = ap (λ (w : PlainWorld). Some w) (held-same moment job parts.0 (All-head IsSingle job jobs single))
+        by true rest = ap (λ (w : PlainWorld). Some w) (held-same moment job parts.0 (All-head IsOwned job jobs owned))
         by false rest = rest
 
     -- ---- as both see it
@@ -208,9 +209,9 @@ module _ (stock : Stock) (beside : AreBeside stock.ads stock.slots) where
           ap (λ b. b && is_none (claimed_by advert.name (map (queued stock) jobs))) (none-some (offered_to advert.name (map (queued stock) jobs)) ∙ ap not offered-same ∙ sym (none-some (offeree slot jobs)))
           ∙ ap (λ b. is_none (offeree slot jobs) && b) (none-some (claimed_by advert.name (map (queued stock) jobs)) ∙ ap not claimed-same ∙ sym (none-some (claimer slot jobs)))
 
-      pub holder-same : (moment : ℕ) → All IsSingle jobs
+      pub holder-same : (moment : ℕ) → All IsOwned jobs
           → option_map (seen.held_world moment stock.ads advert.name) (claimed_by advert.name (map (queued stock) jobs)) ≡ option_map (holder_world moment stock) (holder_of jobs slot)
-      holder-same moment single =
+      holder-same moment owned =
           ap (option_map (seen.held_world moment stock.ads advert.name)) claimed-found
-          ∙ worlds-same moment claims_it jobs stored single
+          ∙ worlds-same moment claims_it jobs stored owned
           ∙ sym (ap (λ o. option_map (holder_world moment stock) (option_map (holding_in slot) o)) (found-first claims_it jobs))

@@ -19,7 +19,7 @@ use Rattle.pool_engine.specs.State.{QueuedJob, State}
 use Rattle.pool_engine.specs.Stored.{are_stored, is_stored}
 use Rattle.pool_engine.proofs.ClaimedLemmas.{passes-seen, world-seen}
 use Rattle.pool_engine.proofs.JobLemmas.{found-first}
-use Rattle.pool_engine.proofs.MatchedLemmas.{IsSingle}
+use Rattle.pool_engine.proofs.MatchedLemmas.{IsOwned}
 use Rattle.pool_engine.proofs.NameLemmas.{AreBeside}
 
 -- ---- the ports of an offer
@@ -73,15 +73,15 @@ job-seen stock name (job ∷ jobs) = by (is_named name job) (job-seen stock name
     by false rest = rest
 
 -- what holds of a job that is found
-pub found-both : (slots : List ℕ) (name : List ℕ) (jobs : List Job) → are_stored slots jobs ≡ true → All IsSingle jobs → IfSome (find (is_named name) jobs) (λ job. IsSingle job × (is_stored slots job ≡ true))
-found-both slots name [] stored single = tt
-found-both slots name (job ∷ jobs) stored single = by (is_named name job) (found-both slots name jobs parts.1 (All-tail IsSingle job jobs single))
+pub found-both : (slots : List ℕ) (name : List ℕ) (jobs : List Job) → are_stored slots jobs ≡ true → All IsOwned jobs → IfSome (find (is_named name) jobs) (λ job. IsOwned job × (is_stored slots job ≡ true))
+found-both slots name [] stored owned = tt
+found-both slots name (job ∷ jobs) stored owned = by (is_named name job) (found-both slots name jobs parts.1 (All-tail IsOwned job jobs owned))
   where
     parts : (is_stored slots job ≡ true) × (are_stored slots jobs ≡ true)
     parts = both (is_stored slots job) (are_stored slots jobs) stored
 
-    by : (b : Bool) → IfSome (find (is_named name) jobs) (λ j. IsSingle j × (is_stored slots j ≡ true)) → IfSome (cond b (Some job) (find (is_named name) jobs)) (λ j. IsSingle j × (is_stored slots j ≡ true))
-    by true rest = (All-head IsSingle job jobs single, parts.0)
+    by : (b : Bool) → IfSome (find (is_named name) jobs) (λ j. IsOwned j × (is_stored slots j ≡ true)) → IfSome (cond b (Some job) (find (is_named name) jobs)) (λ j. IsOwned j × (is_stored slots j ≡ true))
+    by true rest = (All-head IsOwned job jobs owned, parts.0)
     by false rest = rest
 
 pub offer-names : (stock : Stock) (standing : Standing) → offer_names (named_standing stock standing) ≡ map (name_in stock) (offer_of standing)
@@ -96,11 +96,11 @@ offer-held slots (Standing.Claimed own) held = refl
 
 -- ---- an offer
 
-module _ (stock : Stock) (beside : AreBeside stock.ads stock.slots) (moment : ℕ) (settings : List Setting) (jobs : List Job) (stored : are_stored stock.slots jobs ≡ true) (single : All IsSingle jobs) where
+module _ (stock : Stock) (beside : AreBeside stock.ads stock.slots) (moment : ℕ) (settings : List Setting) (jobs : List Job) (stored : are_stored stock.slots jobs ≡ true) (owned : All IsOwned jobs) where
   abbrev state : State
   state = record { moment = moment; ads = stock.ads; jobs = map (queued stock) jobs; priorities = settings }
 
-  module _ (job : Job) (alone : IsSingle job) (slots : List ℕ) (listed : list_all (lists stock.slots) slots ≡ true) where
+  module _ (job : Job) (alone : IsOwned job) (slots : List ℕ) (listed : list_all (lists stock.slots) slots ≡ true) where
     abbrev names : List (List ℕ)
     names = map (name_in stock) slots
 
@@ -115,7 +115,7 @@ module _ (stock : Stock) (beside : AreBeside stock.ads stock.slots) (moment : �
         let name = name-at (name_in stock) slots port within in (
           ap (λ n. not (seen.passes moment stock.ads (map (queued stock) jobs) n (seen.world_at moment stock.ads (queued stock job) names port))) name
               ∙ ap (λ w. not (seen.passes moment stock.ads (map (queued stock) jobs) (name_in stock (slice_index slots port)) w)) (world-seen stock beside moment job alone slots listed port)
-              ∙ ap not (passes-seen stock beside moment jobs stored single (slice_index slots port) (slot-at (lists stock.slots) slots port listed within) (claims.world_at moment stock job.request slots port)),
+              ∙ ap not (passes-seen stock beside moment jobs stored owned (slice_index slots port) (slot-at (lists stock.slots) slots port listed within) (claims.world_at moment stock job.request slots port)),
           name,
         )
 
@@ -141,7 +141,7 @@ module _ (stock : Stock) (beside : AreBeside stock.ads stock.slots) (moment : �
   abbrev undecided : Job → ℕ
   undecided job = claims.sum_over (λ slot world. if is_last_decided world then 0 else 1) moment stock job
 
-  undecided-job : (job : Job) → IsSingle job → is_stored stock.slots job ≡ true → seen.undecided_in state (queued stock job) (offer_names (named_standing stock job.standing)) ≡ undecided job
+  undecided-job : (job : Job) → IsOwned job → is_stored stock.slots job ≡ true → seen.undecided_in state (queued stock job) (offer_names (named_standing stock job.standing)) ≡ undecided job
   undecided-job job alone held =
       ap (seen.undecided_in state (queued stock job)) (offer-names stock job.standing)
       ∙ undecided-one job alone (offer_of job.standing) (offer-held stock.slots job.standing held)
@@ -149,10 +149,10 @@ module _ (stock : Stock) (beside : AreBeside stock.ads stock.slots) (moment : �
   pub undecided-seen : (name : List ℕ) → seen.undecided_for_claim state name ≡ claims.undecided_for moment stock name jobs
   undecided-seen name =
       ap (λ o. option_map_or (λ (q : QueuedJob). seen.undecided_in state q (offer_names q.standing)) o 0) (job-seen stock name jobs)
-      ∙ by (find (is_named name) jobs) (found-both stock.slots name jobs stored single)
+      ∙ by (find (is_named name) jobs) (found-both stock.slots name jobs stored owned)
       ∙ sym (ap (λ o. option_map_or undecided o 0) (found-first (is_named name) jobs))
     where
-      by : (o : Option Job) → IfSome o (λ job. IsSingle job × (is_stored stock.slots job ≡ true))
+      by : (o : Option Job) → IfSome o (λ job. IsOwned job × (is_stored stock.slots job ≡ true))
           → option_map_or (λ (q : QueuedJob). seen.undecided_in state q (offer_names q.standing)) (option_map (queued stock) o) 0 ≡ option_map_or undecided o 0
       by None holds = refl
       by (Some job) holds = undecided-job job holds.0 holds.1

@@ -1,54 +1,28 @@
--- What jobs find among the resources of a store, by slots and by names, and how many are free.
-use Rattle.std.proofs.Common.{◌≡◌, ℕ, zero, suc, ◌+◌, ◌<◌, ◌≤◌, All, Bool, false, true, cond, eqb, if◌then◌else◌, List, [], ◌∷◌, count_by, length, map, slice_get, Option, None, Some, option_map, is_some, IfSome, refl, sym, ◌∙◌, ap, arith}
-use Rattle.std.specs.List.{cons_option, position_or_len}
-use Rattle.std.specs.Option.{option_and_then, option_map_or}
+-- What jobs find among the resources of a store, by slots and by names.
+use Rattle.std.proofs.Common.{◌≡◌, ℕ, suc, ◌+◌, ◌<◌, ◌≤◌, All, Bool, false, true, if◌then◌else◌, List, [], ◌∷◌, length, map, slice_get, Option, None, Some, option_map, IfSome, refl, sym, ◌∙◌, ap, arith}
+use Rattle.std.specs.List.{cons_option}
+use Rattle.std.specs.Option.{option_and_then}
 use Rattle.std.specs.Ordering.{is_lt}
 use Rattle.std.proofs.lemmas.List.Elements.{All-cons, All-head, All-nil, All-tail}
-use Rattle.std.proofs.lemmas.List.Sums.{sum_by-cons}
-use Rattle.std.proofs.lemmas.Option.{get_or_from_slice_get, slice_get-map}
+use Rattle.std.proofs.lemmas.Option.{slice_get-map}
 use Rattle.ad_tree.specs.Ad.{ad_frames}
 use Rattle.ad_tree.specs.Frames.{Frame}
+use Rattle.ad_tree.specs.declared.request.Port.{Port}
 use Rattle.ad_store.specs.Stock.{Advert, Stock}
 use Rattle.bilateral_match.specs.declared.member.Member.{Member}
-use Rattle.bilateral_match.specs.Counts.{open_count}
 use Rattle.bilateral_match.specs.Members.{as_member, best, earlier, first_of, is_member, member_order, members_from}
-use Rattle.bilateral_match.specs.Pool.{Pool, holder_world, slot_at}
-use Rattle.bilateral_match.proofs.PoolLemmas.{best-same, open-same}
+use Rattle.bilateral_match.specs.Pool.{Pool, slot_at}
 use Rattle.claim_table.specs.declared.job.Job.{Job}
-use Rattle.claim_table.specs.Holders.{holder_of}
-use Rattle.claim_table.specs.Jobs.{offered_to as offeree}
-use Rattle.eval_scope.specs.World.{PlainWorld}
+use Rattle.claim_table.proofs.HolderLemmas.{All-found}
 use Rattle.negotiator.specs.Markets as market
 use Rattle.pool_engine.specs.Negotiation as seen
 use Rattle.pool_engine.specs.Pool.{name_in, queued}
-use Rattle.pool_engine.specs.Queue.{claimed_by, offered_to}
+use Rattle.pool_engine.specs.Ports.{ports_in}
 use Rattle.pool_engine.specs.State.{QueuedJob}
 use Rattle.pool_engine.specs.Stored.{are_stored}
-use Rattle.pool_engine.proofs.DockLemmas.{free-same, holder-same, offered-same}
-use Rattle.pool_engine.proofs.MatchedLemmas.{IsSingle}
+use Rattle.pool_engine.proofs.MatchedLemmas.{IsOwned}
 use Rattle.pool_engine.proofs.NameLemmas.{AreBeside}
-use Rattle.pool_engine.proofs.SlotLemmas.{position-at}
-
--- ---- lists
-
--- an element within a list
-record At {A : Type 0} (xs : List A) (i : ℕ) : Type 0 where
-  pub it : A
-  pub at : slice_get xs i ≡ Some it
-
-get-within : {A : Type 0} (xs : List A) (i : ℕ) → i < length xs → At xs i
-get-within [] i within = absurd (omega (arith, within))
-get-within (x ∷ xs) zero within = record { it = x; at = refl }
-get-within (x ∷ xs) (suc i) within = let rest = get-within xs i (omega (arith, within)) in record { it = rest.it; at = rest.at }
-
-count-beside : {A B : Type 0} (f : A → Bool) (g : B → Bool) (xs : List A) (ys : List B) → length xs ≡ length ys → ((i : ℕ) (a : A) (b : B) → slice_get xs i ≡ Some a → slice_get ys i ≡ Some b → f a ≡ g b) → count_by f xs ≡ count_by g ys
-count-beside f g [] [] long same = refl
-count-beside f g [] (y ∷ ys) long same = absurd (omega (arith, long))
-count-beside f g (x ∷ xs) [] long same = absurd (omega (arith, long))
-count-beside f g (x ∷ xs) (y ∷ ys) long same =
-    let one = ap (λ (b : Bool). let k : ℕ = cond b 1 0 in k) (same 0 x y refl refl) in
-    let rest = count-beside f g xs ys (omega (arith, long)) (λ i a b at_x at_y. same (suc i) a b at_x at_y) in
-    omega (arith, one, rest, sum_by-cons (λ a. cond (f a) 1 0) x xs, sum_by-cons (λ b. cond (g b) 1 0) y ys)
+use Rattle.pool_engine.proofs.PoolLemmas.{best-seen, gang-names, name-of}
 
 -- ---- the best resource is one of the ads
 
@@ -77,65 +51,47 @@ best-within pool request = first-all (λ (m : Member). m.place < length pool.ads
 
 -- ---- what jobs find
 
-module _ (stock : Stock) (beside : AreBeside stock.ads stock.slots) where
+module _ (stock : Stock) (beside : AreBeside stock.ads stock.slots) (moment : ℕ) (jobs : List Job) (stored : are_stored stock.slots jobs ≡ true) (owned : All IsOwned jobs) where
+  abbrev pool_seen : Pool
+  pool_seen = seen.pool_in moment stock.ads (map (queued stock) jobs)
+
+  abbrev pool_here : Pool
+  pool_here = market.pool_for moment stock jobs
+
   abbrev names_at : ℕ → List ℕ
   names_at place = seen.name_at stock.ads place
 
-  -- the name of the resource at a place, and the name in its slot
-  name-of : (place : ℕ) → place < length stock.ads → names_at place ≡ name_in stock (slot_at stock place)
-  name-of place within =
-      let s = get-within stock.slots place (let long = beside.long in omega (arith, within, long)) in
-      let slot : slot_at stock place ≡ s.it = get_or_from_slice_get stock.slots place s.it 0 s.at in
-      let at_slot : position_or_len (λ t. eqb t s.it) stock.slots ≡ place = position-at stock.slots place s.it s.at (λ j at_j. beside.apart j place s.it at_j s.at) in
-      sym (ap (name_in stock) slot ∙ ap (λ k. option_map_or (λ (x : Advert). x.name) (slice_get stock.ads k) []) at_slot)
+  best-named : (request : List Frame) → option_map (map names_at) (option_map (λ (m : Member). m.place ∷ []) (best pool_here request))
+      ≡ option_map (map (name_in stock)) (option_map (λ slot. slot ∷ []) (option_map (λ (m : Member). slot_at stock m.place) (best pool_here request)))
+  best-named request = by (best pool_here request) (best-within pool_here request)
+    where
+      by : (o : Option Member) → IfSome o (λ m. m.place < length stock.ads) → option_map (map names_at) (option_map (λ (m : Member). m.place ∷ []) o)
+          ≡ option_map (map (name_in stock)) (option_map (λ slot. slot ∷ []) (option_map (λ (m : Member). slot_at stock m.place) o))
+      by None within = refl
+      by (Some m) within = ap (λ (n : List ℕ). Some (n ∷ [])) (name-of stock beside m.place within)
 
-  module _ (moment : ℕ) (jobs : List Job) (stored : are_stored stock.slots jobs ≡ true) (single : All IsSingle jobs) where
-    abbrev off_named : ℕ → Bool
-    off_named place = is_some (offered_to (names_at place) (map (queued stock) jobs))
+  -- what a request with these ports finds
+  found-with : (request : List Frame) (ports : List Port) → option_map (map names_at) (seen.places_for pool_seen request ports) ≡ option_map (map (name_in stock)) (market.found_by stock pool_here request ports)
+  found-with request [] =
+      ap (λ o. option_map (map names_at) (option_map (λ (m : Member). m.place ∷ []) o)) (best-seen stock beside moment jobs stored owned request) ∙ best-named request
+  found-with request (port ∷ ports) = gang-names stock beside moment jobs stored owned request (port ∷ ports)
 
-    abbrev off_slots : ℕ → Bool
-    off_slots place = is_some (offeree (slot_at stock place) jobs)
+  owned-at : (i : ℕ) → IfSome (slice_get jobs i) IsOwned
+  owned-at i = by (slice_get jobs i) refl
+    where
+      by : (o : Option Job) → slice_get jobs i ≡ o → IfSome o IsOwned
+      by None at = tt
+      by (Some job) at = All-found IsOwned jobs i job owned at
 
-    abbrev held_named : ℕ → Option PlainWorld
-    held_named place = option_map (seen.held_world moment stock.ads (names_at place)) (claimed_by (names_at place) (map (queued stock) jobs))
+  abbrev seen_for : QueuedJob → Option (List (List ℕ))
+  seen_for job = option_map (map names_at) (seen.places_for pool_seen job.ad (ports_in job.ad))
 
-    abbrev held_slots : ℕ → Option PlainWorld
-    held_slots place = option_map (holder_world moment stock) (holder_of jobs (slot_at stock place))
-
-    same-at : (i : ℕ) → i < length stock.ads → (off_named i ≡ off_slots i) × (held_named i ≡ held_slots i)
-    same-at i within =
-        let a = get-within stock.ads i within in
-        let s = get-within stock.slots i (let long = beside.long in omega (arith, within, long)) in
-        let name : names_at i ≡ a.it.name = ap (λ o. option_map_or (λ (x : Advert). x.name) o []) a.at in
-        let slot : slot_at stock i ≡ s.it = get_or_from_slice_get stock.slots i s.it 0 s.at in (
-          ap (λ n. is_some (offered_to n (map (queued stock) jobs))) name ∙ offered-same stock beside i a.it s.it a.at s.at jobs stored ∙ sym (ap (λ k. is_some (offeree k jobs)) slot),
-          ap (λ n. option_map (seen.held_world moment stock.ads n) (claimed_by n (map (queued stock) jobs))) name ∙ holder-same stock beside i a.it s.it a.at s.at jobs stored moment single ∙ sym (ap (λ k. option_map (holder_world moment stock) (holder_of jobs k)) slot),
-        )
-
-    best-seen : (request : List Frame) → best (seen.pool_in moment stock.ads (map (queued stock) jobs)) request ≡ best (market.pool_for moment stock jobs) request
-    best-seen request = best-same moment stock.ads request off_named off_slots held_named held_slots same-at
-
-    pub open-seen : (request : List Frame) → open_count (seen.pool_in moment stock.ads (map (queued stock) jobs)) request ≡ open_count (market.pool_for moment stock jobs) request
-    open-seen request = open-same moment stock.ads request off_named off_slots held_named held_slots same-at
-
-    found-named : (request : List Frame) → option_map (λ (m : Member). names_at m.place ∷ []) (best (market.pool_for moment stock jobs) request)
-        ≡ option_map (map (name_in stock)) (option_map (λ slot. slot ∷ []) (option_map (λ (m : Member). slot_at stock m.place) (best (market.pool_for moment stock jobs) request)))
-    found-named request = by (best (market.pool_for moment stock jobs) request) (best-within (market.pool_for moment stock jobs) request)
-      where
-        by : (o : Option Member) → IfSome o (λ m. m.place < length stock.ads) → option_map (λ (m : Member). names_at m.place ∷ []) o
-            ≡ option_map (map (name_in stock)) (option_map (λ slot. slot ∷ []) (option_map (λ (m : Member). slot_at stock m.place) o))
-        by None within = refl
-        by (Some m) within = ap (λ (n : List ℕ). Some (n ∷ [])) (name-of m.place within)
-
-    pub find-seen : (i : ℕ) → seen.found moment stock.ads (map (queued stock) jobs) i ≡ option_map (map (name_in stock)) (market.found moment stock jobs i)
-    find-seen i = ap (option_and_then (λ (job : QueuedJob). option_map (λ (m : Member). names_at m.place ∷ []) (best (seen.pool_in moment stock.ads (map (queued stock) jobs)) job.ad))) (slice_get-map (queued stock) jobs i) ∙ by (slice_get jobs i)
-      where
-        by : (o : Option Job) → option_and_then (λ (job : QueuedJob). option_map (λ (m : Member). names_at m.place ∷ []) (best (seen.pool_in moment stock.ads (map (queued stock) jobs)) job.ad)) (option_map (queued stock) o)
-            ≡ option_map (map (name_in stock)) (option_and_then (λ (job : Job). market.found_for moment stock jobs job.request) o)
-        by None = refl
-        by (Some job) = ap (option_map (λ (m : Member). names_at m.place ∷ [])) (best-seen (ad_frames job.request.ad)) ∙ found-named (ad_frames job.request.ad)
-
-    pub free-seen : count_by (seen.is_free (map (queued stock) jobs)) stock.ads ≡ market.free_among stock jobs
-    free-seen =
-        count-beside (seen.is_free (map (queued stock) jobs)) (market.is_free jobs) stock.ads stock.slots beside.long
-        (λ i a s at_a at_s. free-same stock beside i a s at_a at_s jobs stored)
+  pub find-seen : (i : ℕ) → seen.found moment stock.ads (map (queued stock) jobs) i ≡ option_map (map (name_in stock)) (market.found moment stock jobs i)
+  find-seen i = ap (option_and_then seen_for) (slice_get-map (queued stock) jobs i) ∙ by (slice_get jobs i) (owned-at i)
+    where
+      by : (o : Option Job) → IfSome o IsOwned → option_and_then seen_for (option_map (queued stock) o)
+          ≡ option_map (map (name_in stock)) (option_and_then (λ (job : Job). market.found_for moment stock jobs job.request) o)
+      by None own = refl
+      by (Some job) own =
+          ap (λ ports. option_map (map names_at) (seen.places_for pool_seen (ad_frames job.request.ad) ports)) (sym own)
+          ∙ found-with (ad_frames job.request.ad) job.request.ports

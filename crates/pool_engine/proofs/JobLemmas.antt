@@ -15,6 +15,7 @@ use Rattle.claim_table.specs.Answers.{no_job, without_at}
 use Rattle.claim_table.specs.Jobs.{AreExclusive, AreNamedApart, claim_of, claimed_by as claimer, is_named, job_named, lists, numbered, offer_of, offered_to as offeree, slots_of}
 use Rattle.claim_table.proofs.ListLemmas.{All-remove}
 use Rattle.pool_engine.specs.Pool.{name_in, named_standing, queued}
+use Rattle.pool_engine.specs.Ports.{HasOwnPorts}
 use Rattle.pool_engine.specs.Queue.{claim_names, claimed_by, has_job, is_job, is_listed, names_of, offer_names, offered_to, without_job, without_resources}
 use Rattle.pool_engine.specs.State.{JobStanding, QueuedJob, idle}
 use Rattle.pool_engine.specs.Stored.{are_stored, is_stored}
@@ -125,9 +126,9 @@ pub stored-without : (slots : List ℕ) (name : List ℕ) (jobs : List Job) → 
 stored-without slots name jobs apart stored =
     ap (are_stored slots) (without_at-filter (is_named name) jobs (named_once name jobs apart)) ∙ all_kept (is_stored slots) (λ job. not (is_named name job)) jobs stored
 
-pub single-without : (o : Option ℕ) (jobs : List Job) → All (λ job. job.request.ports ≡ []) jobs → All (λ job. job.request.ports ≡ []) (without_at o jobs)
-single-without None jobs single = single
-single-without (Some i) jobs single = All-remove (λ job. job.request.ports ≡ []) jobs i single
+pub owned-without : (o : Option ℕ) (jobs : List Job) → All (λ job. HasOwnPorts job.request) jobs → All (λ job. HasOwnPorts job.request) (without_at o jobs)
+owned-without None jobs owned = owned
+owned-without (Some i) jobs owned = All-remove (λ job. HasOwnPorts job.request) jobs i owned
 
 -- ---- the job of a name
 

@@ -8,6 +8,7 @@ mod EventLemmas
 mod ExpiryLemmas
 mod FailingLemmas
 mod FoundLemmas
+mod GangLemmas
 mod GrantedLemmas
 mod HitLemmas
 mod IndexLemmas
@@ -17,6 +18,8 @@ mod MarketLemmas
 mod MatchedLemmas
 mod NameLemmas
 mod OneJobLemmas
+mod PoolLemmas
+mod PortLemmas
 mod QueueLemmas
 mod ReadingLemmas
 mod RowLemmas

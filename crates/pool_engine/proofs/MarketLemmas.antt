@@ -4,12 +4,11 @@ use Rattle.std.proofs.lemmas.List.{map-append}
 use Rattle.std.proofs.lemmas.List.Elements.{All-head, All-nil, All-push, All-tail}
 use Rattle.std.proofs.lemmas.List.Sums.{sum_by-cons}
 use Rattle.ad_tree.specs.Ad.{ad_frames}
+use Rattle.ad_tree.specs.Frames.{Frame}
 use Rattle.ad_tree.specs.declared.request.Port.{Port}
 use Rattle.ad_store.specs.Stock.{Stock}
-use Rattle.bilateral_match.specs.Counts.{least_left, open_count}
 use Rattle.claim_table.specs.declared.job.Job.{Job}
 use Rattle.claim_table.specs.declared.job.Standing.{Standing}
-use Rattle.conjunct_plan.specs.Tests.{tests_of}
 use Rattle.negotiator.specs.Budget as budget
 use Rattle.negotiator.specs.Cycle.{Market, Offer, PlainSpin, PlainTurn, Waiting, cycle_of, offers_in, offers_of}
 use Rattle.negotiator.specs.Mapped.{offer_mapped, spin_mapped, turn_mapped}
@@ -24,12 +23,14 @@ use Rattle.pool_replies.specs.declared.reply.Reply.TheVariants as reply
 use Rattle.pool_replies.specs.declared.rows.SpinRow.{SpinRow}
 use Rattle.pool_engine.specs.Negotiation as seen
 use Rattle.pool_engine.specs.Pool.{name_in, named_standing, queued}
+use Rattle.pool_engine.specs.Ports.{ports_in}
 use Rattle.pool_engine.specs.Rows as rows
 use Rattle.pool_engine.specs.State.{QueuedJob, State}
 use Rattle.pool_engine.specs.Stored.{are_stored}
-use Rattle.pool_engine.proofs.FoundLemmas.{find-seen, free-seen, open-seen}
-use Rattle.pool_engine.proofs.MatchedLemmas.{AreOffered, IsOffered, IsSingle, offers-seen, single-offers, stored-offers}
+use Rattle.pool_engine.proofs.FoundLemmas.{find-seen}
+use Rattle.pool_engine.proofs.MatchedLemmas.{AreOffered, IsOffered, IsOwned, offers-seen, owned-offers, stored-offers}
 use Rattle.pool_engine.proofs.NameLemmas.{AreBeside}
+use Rattle.pool_engine.proofs.PoolLemmas.{docks-seen, free-seen, open-seen}
 use Rattle.pool_engine.proofs.SpinRowLemmas.{spin-rows}
 
 module _ (stock : Stock) where
@@ -38,16 +39,16 @@ module _ (stock : Stock) where
   idle-seen (Standing.Matched own) = refl
   idle-seen (Standing.Claimed own) = refl
 
-  one-waiting : (job : Job) → IsSingle job → seen.waiting (queued stock job) ≡ market.waiting_of job
-  one-waiting job single =
-      ap (λ b. let w : Waiting = record { user = job.user; wants = 1; is_idle = b } in w) (idle-seen job.standing)
-      ∙ ap (λ n. let w : Waiting = record { user = job.user; wants = n; is_idle = market.is_idle job.standing } in w) (sym (ap (λ (ports : List Port). max 1 (length ports)) single))
+  one-waiting : (job : Job) → IsOwned job → seen.waiting (queued stock job) ≡ market.waiting_of job
+  one-waiting job owned =
+      ap (λ b. let w : Waiting = record { user = job.user; wants = max 1 (length (ports_in (ad_frames job.request.ad))); is_idle = b } in w) (idle-seen job.standing)
+      ∙ ap (λ n. let w : Waiting = record { user = job.user; wants = n; is_idle = market.is_idle job.standing } in w) (sym (ap (λ (ports : List Port). max 1 (length ports)) owned))
 
-  waiting-seen : (jobs : List Job) → All IsSingle jobs → map seen.waiting (map (queued stock) jobs) ≡ map market.waiting_of jobs
-  waiting-seen [] single = refl
-  waiting-seen (job ∷ jobs) single =
-      ap (λ w. w ∷ map seen.waiting (map (queued stock) jobs)) (one-waiting job (All-head IsSingle job jobs single))
-      ∙ ap (λ l. market.waiting_of job ∷ l) (waiting-seen jobs (All-tail IsSingle job jobs single))
+  waiting-seen : (jobs : List Job) → All IsOwned jobs → map seen.waiting (map (queued stock) jobs) ≡ map market.waiting_of jobs
+  waiting-seen [] owned = refl
+  waiting-seen (job ∷ jobs) owned =
+      ap (λ w. w ∷ map seen.waiting (map (queued stock) jobs)) (one-waiting job (All-head IsOwned job jobs owned))
+      ∙ ap (λ l. market.waiting_of job ∷ l) (waiting-seen jobs (All-tail IsOwned job jobs owned))
 
   -- the offers of turns and spins with names
   abbrev named : Offer ℕ → Offer (List ℕ)
@@ -66,7 +67,7 @@ module _ (stock : Stock) where
 
 -- ---- the cycle
 
-module _ (stock : Stock) (beside : AreBeside stock.ads stock.slots) (moment : ℕ) (settings : List Setting) (jobs : List Job) (stored : are_stored stock.slots jobs ≡ true) (single : All IsSingle jobs) where
+module _ (stock : Stock) (beside : AreBeside stock.ads stock.slots) (moment : ℕ) (settings : List Setting) (jobs : List Job) (stored : are_stored stock.slots jobs ≡ true) (owned : All IsOwned jobs) where
   abbrev state_of : List QueuedJob → State
   state_of js = record { moment = moment; ads = stock.ads; jobs = js; priorities = settings }
 
@@ -79,16 +80,16 @@ module _ (stock : Stock) (beside : AreBeside stock.ads stock.slots) (moment : �
   then_stored : (made : List (Offer ℕ)) → AreOffered stock.slots made → are_stored stock.slots (market.with_offers made jobs) ≡ true
   then_stored made offered = stored-offers stock.slots made jobs offered stored
 
-  then_single : (made : List (Offer ℕ)) → All IsSingle (market.with_offers made jobs)
-  then_single made = single-offers made jobs single
+  then_owned : (made : List (Offer ℕ)) → All IsOwned (market.with_offers made jobs)
+  then_owned made = owned-offers made jobs owned
 
   renames : IsRenamed (name_in stock) here (seen.market_in state) (AreOffered stock.slots)
   renames = record {
-    jobs = waiting-seen stock jobs single;
+    jobs = waiting-seen stock jobs owned;
     priority = λ user. refl;
     start = All-nil (IsOffered stock.slots);
-    free = λ made offered. ap (λ js. count_by (seen.is_free js) stock.ads) (offers-seen stock made jobs) ∙ free-seen stock beside moment (market.with_offers made jobs) (then_stored made offered) (then_single made);
-    find = λ made i offered. ap (λ js. seen.found moment stock.ads js i) (offers-seen stock made jobs) ∙ find-seen stock beside moment (market.with_offers made jobs) (then_stored made offered) (then_single made) i;
+    free = λ made offered. ap (λ js. count_by (seen.is_free js) stock.ads) (offers-seen stock made jobs) ∙ free-seen stock beside moment (market.with_offers made jobs) (then_stored made offered) (then_owned made);
+    find = λ made i offered. ap (λ js. seen.found moment stock.ads js i) (offers-seen stock made jobs) ∙ find-seen stock beside moment (market.with_offers made jobs) (then_stored made offered) (then_owned made) i;
     step = λ user made i own offered waiting found.
         All-push (IsOffered stock.slots) made (offer i own) offered (found-stored moment stock (let long = beside.long in omega (arith, long)) (market.with_offers made jobs) i own found);
   }
@@ -115,11 +116,12 @@ module _ (stock : Stock) (beside : AreBeside stock.ads stock.slots) (moment : �
 
   -- ---- what it costs
 
-  sum-idle : (f : QueuedJob → ℕ) (g : Job → ℕ) → ((job : Job) → f (queued stock job) ≡ g job) → (js : List Job)
+  sum-idle : (f : QueuedJob → ℕ) (g : Job → ℕ) → ((job : Job) → IsOwned job → f (queued stock job) ≡ g job) → (js : List Job) → All IsOwned js
       → sum_by f (filter (λ (job : QueuedJob). seen.is_idle job.standing) (map (queued stock) js)) ≡ sum_by g (filter (λ (job : Job). market.is_idle job.standing) js)
-  sum-idle f g each [] = refl
-  sum-idle f g each (job ∷ js) =
-      ap (λ b. sum_by f (cond b (queued stock job ∷ behind) behind)) (idle-seen stock job.standing) ∙ by (market.is_idle job.standing) (sum-idle f g each js)
+  sum-idle f g each [] own = refl
+  sum-idle f g each (job ∷ js) own =
+      ap (λ b. sum_by f (cond b (queued stock job ∷ behind) behind)) (idle-seen stock job.standing)
+      ∙ by (market.is_idle job.standing) (sum-idle f g each js (All-tail IsOwned job js own))
     where
       behind : List QueuedJob
       behind = filter (λ (j : QueuedJob). seen.is_idle j.standing) (map (queued stock) js)
@@ -128,13 +130,21 @@ module _ (stock : Stock) (beside : AreBeside stock.ads stock.slots) (moment : �
       others = filter (λ (j : Job). market.is_idle j.standing) js
 
       by : (b : Bool) → sum_by f behind ≡ sum_by g others → sum_by f (cond b (queued stock job ∷ behind) behind) ≡ sum_by g (cond b (job ∷ others) others)
-      by true rest = let one = each job in omega (arith, one, rest, sum_by-cons f (queued stock job) behind, sum_by-cons g job others)
+      by true rest = let one = each job (All-head IsOwned job js own) in omega (arith, one, rest, sum_by-cons f (queued stock job) behind, sum_by-cons g job others)
       by false rest = rest
+
+  open-with : (request : List Frame) (ports : List Port) → budget.open_by (seen.pool_in moment stock.ads (map (queued stock) jobs)) request ports ≡ budget.open_by (market.pool_for moment stock jobs) request ports
+  open-with request [] = open-seen stock beside moment jobs stored owned request
+  open-with request (port ∷ ports) = docks-seen stock beside moment jobs stored owned request (port ∷ ports)
 
   pub undecided-seen : seen.undecided_for_jobs state ≡ budget.over_idle (budget.open_for moment stock) jobs
   undecided-seen =
-      sum-idle (λ job. open_count (seen.pool_in moment stock.ads (map (queued stock) jobs)) job.ad) (λ job. budget.open_for moment stock jobs job.request)
-      (λ job. open-seen stock beside moment jobs stored single (ad_frames job.request.ad)) jobs
+      sum-idle (λ job. budget.open_by (seen.pool_in moment stock.ads (map (queued stock) jobs)) job.ad (ports_in job.ad)) (λ job. budget.open_for moment stock jobs job.request)
+      (λ job own.
+      ap (budget.open_by (seen.pool_in moment stock.ads (map (queued stock) jobs)) (ad_frames job.request.ad)) (sym own)
+      ∙ open-with (ad_frames job.request.ad) job.request.ports) jobs owned
 
   pub narrowest-seen : seen.narrowest_for_jobs state ≡ budget.over_idle (budget.left_for stock) jobs
-  narrowest-seen = sum-idle (λ job. least_left stock.ads (tests_of job.ad 0 [])) (λ job. budget.left_for stock jobs job.request) (λ job. refl) jobs
+  narrowest-seen =
+      sum-idle (λ job. budget.narrowed_by stock.ads job.ad (ports_in job.ad)) (λ job. budget.left_for stock jobs job.request)
+      (λ job own. ap (budget.narrowed_by stock.ads (ad_frames job.request.ad)) (sym own)) jobs owned

@@ -14,6 +14,7 @@ use Rattle.negotiator.specs.Mapped.{offer_mapped}
 use Rattle.negotiator.specs.Markets as market
 use Rattle.pool_engine.specs.Negotiation as seen
 use Rattle.pool_engine.specs.Pool.{name_in, queued}
+use Rattle.pool_engine.specs.Ports.{HasOwnPorts}
 use Rattle.pool_engine.specs.State.{JobStanding, QueuedJob}
 use Rattle.pool_engine.specs.Stored.{are_stored, is_stored}
 use Rattle.pool_engine.proofs.SlotLemmas.{all-lists}
@@ -71,21 +72,21 @@ stored-offers slots (o ∷ os) jobs offered stored =
     stored-offers slots os (with_standing jobs o.job (Standing.Matched o.resources)) (All-tail (IsOffered slots) o os offered)
     (stored-standing slots o.job o.resources jobs (all-lists slots o.resources (All-head (IsOffered slots) o os offered)) stored)
 
--- ---- single jobs stay single
+-- ---- jobs keep the ports that their ads list
 
-abbrev pub IsSingle : Job → Type 0
-IsSingle job = job.request.ports ≡ []
+abbrev pub IsOwned : Job → Type 0
+IsOwned job = HasOwnPorts job.request
 
-pub single-standing : (i : ℕ) (standing : Standing) (jobs : List Job) → All IsSingle jobs → All IsSingle (with_standing jobs i standing)
-single-standing i standing [] single = single
-single-standing zero standing (x ∷ xs) single = All-cons IsSingle (record x { standing = standing }) xs (All-head IsSingle x xs single) (All-tail IsSingle x xs single)
-single-standing (suc i) standing (x ∷ xs) single =
-    subst (All IsSingle) (sym (standing_next (slice_get xs i) x xs i standing))
-    (All-cons IsSingle x (with_standing xs i standing) (All-head IsSingle x xs single) (single-standing i standing xs (All-tail IsSingle x xs single)))
+pub owned-standing : (i : ℕ) (standing : Standing) (jobs : List Job) → All IsOwned jobs → All IsOwned (with_standing jobs i standing)
+owned-standing i standing [] owned = owned
+owned-standing zero standing (x ∷ xs) owned = All-cons IsOwned (record x { standing = standing }) xs (All-head IsOwned x xs owned) (All-tail IsOwned x xs owned)
+owned-standing (suc i) standing (x ∷ xs) owned =
+    subst (All IsOwned) (sym (standing_next (slice_get xs i) x xs i standing))
+    (All-cons IsOwned x (with_standing xs i standing) (All-head IsOwned x xs owned) (owned-standing i standing xs (All-tail IsOwned x xs owned)))
 
-pub single-offers : (made : List (Offer ℕ)) (jobs : List Job) → All IsSingle jobs → All IsSingle (market.with_offers made jobs)
-single-offers [] jobs single = single
-single-offers (o ∷ os) jobs single = single-offers os (with_standing jobs o.job (Standing.Matched o.resources)) (single-standing o.job (Standing.Matched o.resources) jobs single)
+pub owned-offers : (made : List (Offer ℕ)) (jobs : List Job) → All IsOwned jobs → All IsOwned (market.with_offers made jobs)
+owned-offers [] jobs owned = owned
+owned-offers (o ∷ os) jobs owned = owned-offers os (with_standing jobs o.job (Standing.Matched o.resources)) (owned-standing o.job (Standing.Matched o.resources) jobs owned)
 
 -- ---- where memory was wanting, the first offers are made
 
@@ -107,5 +108,5 @@ part-stored slots offers jobs later part offered stored =
     ap (are_stored slots) part.made
     ∙ stored-offers slots part.front jobs (front-all (IsOffered slots) part.front part.rest (subst (AreOffered slots) part.all offered)) stored
 
-pub part-single : (offers : List (Offer ℕ)) (jobs later : List Job) → market.IsPart offers jobs later → All IsSingle jobs → All IsSingle later
-part-single offers jobs later part single = subst (All IsSingle) (sym part.made) (single-offers part.front jobs single)
+pub part-owned : (offers : List (Offer ℕ)) (jobs later : List Job) → market.IsPart offers jobs later → All IsOwned jobs → All IsOwned later
+part-owned offers jobs later part owned = subst (All IsOwned) (sym part.made) (owned-offers part.front jobs owned)

@@ -12,6 +12,7 @@ use Rattle.claim_table.specs.declared.job.Standing.{Standing}
 use Rattle.claim_table.specs.Answers.{without_at}
 use Rattle.claim_table.specs.Jobs.{AreExclusive, AreNamedApart, claim_of, claimed_by as claimer, idle_at, is_named, job_named, lists, lost, numbered, offer_of, offered_to as offeree, slots_of, with_standing}
 use Rattle.pool_engine.specs.Pool.{name_in, named_standing, queued}
+use Rattle.pool_engine.specs.Ports.{HasOwnPorts}
 use Rattle.pool_engine.specs.Queue.{claim_names, claimed_by, has_job, is_job, is_listed, names_of, offer_names, offered_to, without_job, without_resources}
 use Rattle.pool_engine.specs.State.{JobStanding, QueuedJob, idle}
 use Rattle.pool_engine.specs.Stored.{are_stored, is_stored}
@@ -183,18 +184,18 @@ freed-stored slots fewer slot stay (job ∷ jobs) stored =
     one true is held = refl
     one false is held = others_stored slots fewer slot stay (slots_of job.standing) is held
 
-pub freed-single : (slot : ℕ) (jobs : List Job) → All (λ job. job.request.ports ≡ []) jobs → All (λ job. job.request.ports ≡ []) (map (freed slot) jobs)
-freed-single slot jobs single = All-map (λ job. job.request.ports ≡ []) (freed slot) jobs (λ k d within. same (slice_index k d) (single k d within))
+pub freed-owned : (slot : ℕ) (jobs : List Job) → All (λ job. HasOwnPorts job.request) jobs → All (λ job. HasOwnPorts job.request) (map (freed slot) jobs)
+freed-owned slot jobs owned = All-map (λ job. HasOwnPorts job.request) (freed slot) jobs (λ k d within. same (slice_index k d) (owned k d within))
   where
     slice_index : ℕ → Job → Job
     slice_index k d = get_or jobs k d
 
-    same : (job : Job) → job.request.ports ≡ [] → (freed slot job).request.ports ≡ []
-    same job none = by (lists (slots_of job.standing) slot)
+    same : (job : Job) → HasOwnPorts job.request → HasOwnPorts (freed slot job).request
+    same job holds = by (lists (slots_of job.standing) slot)
       where
-        by : (b : Bool) → (cond b (idle_job job) job).request.ports ≡ []
-        by true = none
-        by false = none
+        by : (b : Bool) → HasOwnPorts (cond b (idle_job job) job).request
+        by true = holds
+        by false = holds
 
 -- ---- seen by names
 

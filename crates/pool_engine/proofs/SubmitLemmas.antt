@@ -22,9 +22,10 @@ use Rattle.pool_replies.specs.declared.refusal.Room.TheVariants as room
 use Rattle.pool_replies.specs.declared.reply.Reply.{Reply}
 use Rattle.pool_replies.specs.declared.reply.Reply.TheVariants as reply
 use Rattle.pool_engine.specs.Pool.{queued}
+use Rattle.pool_engine.specs.Ports.{has_bad_ports}
 use Rattle.pool_engine.specs.Queue.{has_job, is_job, job_refusal, job_text, without_job}
 use Rattle.pool_engine.specs.State.{QueuedJob, State, idle}
-use Rattle.pool_engine.specs.Step.{is_gang, refused, remove, set_priority, submit, take_job}
+use Rattle.pool_engine.specs.Step.{refused, remove, set_priority, submit, take_job}
 use Rattle.pool_engine.proofs.JobLemmas.{found-any, found-first, has-queued}
 use Rattle.pool_engine.proofs.StepLemmas.{no_fault, with_books}
 
@@ -84,8 +85,11 @@ submit-faulty s name user size (Ok x) fault fits told = absurd (no_fault fault t
 submit-faulty s name user size (Err wrong) fault (inl same) told = ap (λ (f : ParseFault). refused s (why.AdText f)) (sym same)
 submit-faulty s name user size (Err wrong) fault (inr none) told = absurd (no_fault fault told none)
 
+abbrev pub queued_job : List ℕ → List ℕ → ℕ → List Frame → QueuedJob
+queued_job name user size frames = record { name = name; user = user; size = size; ad = frames; standing = idle }
+
 abbrev pub new_job : List ℕ → List ℕ → ℕ → Ad → QueuedJob
-new_job name user size ad = record { name = name; user = user; size = size; ad = ad_frames ad; standing = idle }
+new_job name user size ad = queued_job name user size (ad_frames ad)
 
 module _ (s : State) (name user used owner : List ℕ) (size : ℕ) (outcome : Result Inline ParseFault) (ad : Ad) (fits : IsAdAnswer outcome (Ok ad)) (is : used ≡ name) (owned : owner ≡ user) where
   used_as : ◌≡◌ {A = State × Reply} (submit s name user size outcome) (take_job s (new_job used owner size ad) (job_refusal used size s.jobs))
@@ -94,15 +98,17 @@ module _ (s : State) (name user used owner : List ℕ) (size : ℕ) (outcome : R
   pub submit-refused : (reason : Refusal) → job_refusal used size s.jobs ≡ Some reason → ◌≡◌ {A = State × Reply} (submit s name user size outcome) (refused s reason)
   submit-refused reason told = used_as ∙ ap (take_job s (new_job used owner size ad)) told
 
-  pub submit-gang : job_refusal used size s.jobs ≡ None → is_gang (ad_frames ad) ≡ true → ◌≡◌ {A = State × Reply} (submit s name user size outcome) (refused s why.NotBuilt)
-  submit-gang free gang =
-      let gone : ◌≡◌ {A = State × Reply} (take_job s (new_job used owner size ad) None) (refused s why.NotBuilt) = rw gang refl in
+  pub submit-bad : job_refusal used size s.jobs ≡ None → has_bad_ports (ad_frames ad) ≡ true → ◌≡◌ {A = State × Reply} (submit s name user size outcome) (refused s why.BadPorts)
+  submit-bad free bad =
+      let gone : ◌≡◌ {A = State × Reply} (take_job s (new_job used owner size ad) None) (refused s why.BadPorts) = rw bad refl in
       used_as ∙ ap (take_job s (new_job used owner size ad)) free ∙ gone
 
-  pub submit-taken : (told : List ℕ) (after : List Advert) (queue : List QueuedJob) → told ≡ name → job_refusal used size s.jobs ≡ None → is_gang (ad_frames ad) ≡ false → after ≡ s.ads → queue ≡ s.jobs ++ new_job used owner size ad ∷ [] → ◌≡◌ {A = State × Reply} (submit s name user size outcome) (with_books s after queue, reply.Submitted told)
-  submit-taken told after queue same free single ads jobs =
-      let taken : ◌≡◌ {A = State × Reply} (take_job s (new_job used owner size ad) None) (with_books s s.ads (s.jobs ++ new_job used owner size ad ∷ []), reply.Submitted used) = rw single refl in
-      used_as ∙ ap (take_job s (new_job used owner size ad)) free ∙ taken ∙ (λ i. (with_books s (sym ads i) (sym jobs i), reply.Submitted ((is ∙ sym same) i)))
+  -- the frames of the request that is kept are those of the ad
+  pub submit-taken : (told : List ℕ) (kept : List Frame) (after : List Advert) (queue : List QueuedJob) → told ≡ name → job_refusal used size s.jobs ≡ None → has_bad_ports (ad_frames ad) ≡ false → kept ≡ ad_frames ad → after ≡ s.ads → queue ≡ s.jobs ++ queued_job used owner size kept ∷ [] → ◌≡◌ {A = State × Reply} (submit s name user size outcome) (with_books s after queue, reply.Submitted told)
+  submit-taken told kept after queue same free good frames ads jobs =
+      let taken : ◌≡◌ {A = State × Reply} (take_job s (new_job used owner size ad) None) (with_books s s.ads (s.jobs ++ new_job used owner size ad ∷ []), reply.Submitted used) = rw good refl in
+      let all : queue ≡ s.jobs ++ new_job used owner size ad ∷ [] = jobs ∙ ap (λ (fs : List Frame). s.jobs ++ queued_job used owner size fs ∷ []) frames in
+      used_as ∙ ap (take_job s (new_job used owner size ad)) free ∙ taken ∙ (λ i. (with_books s (sym ads i) (sym all i), reply.Submitted ((is ∙ sym same) i)))
 
 -- ---- remove
 

@@ -4,6 +4,7 @@ use Rattle.std.specs.Io.KnownBytes.{Appends}
 use Rattle.ad_tree.specs.Inline.{Inline, ad_of, phrase_of, phrase_tree}
 use Rattle.ad_tree.specs.Tree.{Tree}
 use Rattle.ad_tree.specs.Frames.{Frame}
+use Rattle.ad_tree.specs.declared.request.Port.{Port}
 use Rattle.ad_parser.specs.declared.fault.ParseFault.{ParseFault}
 use Rattle.ad_parser.specs.declared.fault.ParseFault.TheVariants as faults
 use Rattle.ad_parser.specs.Outcomes.{HasAdOutcome, HasExprOutcome}
@@ -11,6 +12,7 @@ use Rattle.ad_parser.proofs.Outcomes.{ad_outcome, ad_outcome-has, expr_outcome, 
 use Rattle.ad_store.specs.Stock.{Advert, has, lack, placed, without}
 use Rattle.std.specs.Option.{option_map_or}
 use Rattle.ad_store.specs.declared.answers.PutFault.{PutFault}
+use Rattle.gang_ports.specs.Ports.{ports_of}
 use Rattle.pool_io.specs.Flow.{Supply}
 use Rattle.pool_script.specs.Commands.{ended_commands}
 use Rattle.pool_script.specs.declared.command.Command.{Command}
@@ -30,12 +32,14 @@ use Rattle.pool_engine.specs.Ends.{AnswersFirst, Effects, IsWriteFault, before_l
 use Rattle.pool_engine.specs.Events.{events_of, replies_text, state_after}
 use Rattle.ad_printer.specs.Values.{printed_frame}
 use Rattle.negotiator.specs.Priorities.{lacks_place, with_setting}
+use Rattle.pool_engine.specs.Gangs.{gang, gang_names, line}
+use Rattle.pool_engine.specs.Ports.{has_bad_ports}
 use Rattle.pool_engine.specs.Queue.{has_job, job_refusal, job_text, without_job}
 use Rattle.claim_table.specs.Jobs.{jobs_limit, text_limit}
 use Rattle.claim_table.specs.declared.answers.JobState.{JobState}
 use Rattle.pool_engine.specs.State.{JobStanding, QueuedJob, State, claimed, idle, matched, opening}
 use Rattle.pool_engine.specs.Claiming.{checked, claim, claim_as, first_failing, job_named, losers, release, release_as, restood, without_holders}
-use Rattle.pool_engine.specs.Step.{ad_named, advertise, clock, eval, eval_beside, eval_in, is_gang, live_ads, put_ad, query, refused, remove, room_of, set_priority, show, step, submit, take_job, withdraw}
+use Rattle.pool_engine.specs.Step.{ad_named, advertise, clock, eval, eval_beside, eval_in, live_ads, put_ad, query, refused, remove, room_of, set_priority, show, step, submit, take_job, withdraw}
 
 -- ---- no reply is empty
 
@@ -101,6 +105,10 @@ unbuilt_told : (s : State) → IsTold (refused s why.NotBuilt)
 unfolding reply_text refusal_text
 unbuilt_told s = omega arith
 
+bad_ports_told : (s : State) → IsTold (refused s why.BadPorts)
+unfolding reply_text refusal_text
+bad_ports_told s = omega arith
+
 moment_told : (s : State) (n expired : ℕ) → IsTold (s, reply.Clock n expired)
 unfolding reply_text
 moment_told s n expired = front_some (codes "clock ") _ (omega arith)
@@ -148,6 +156,11 @@ ads_told s rows = front_some (codes "ads ") _ (omega arith)
 hits_told : (s : State) (rows : List HitRow) → IsTold (s, reply.Hits rows)
 unfolding reply_text
 hits_told s rows = front_some (codes "hits ") _ (omega arith)
+
+names_told : (s : State) (names : Option (List (List ℕ))) → IsTold (s, line names)
+unfolding reply_text
+names_told s None = omega arith
+names_told s (Some names) = front_some (codes "gang") _ (omega arith)
 
 claimed_told : (s : State) (job : List ℕ) (names losers : List (List ℕ)) → IsTold (s, reply.Claimed job names losers)
 unfolding reply_text
@@ -225,6 +238,14 @@ query_told : (s : State) (moment : ℕ) (ads : List Advert) (text : List ℕ) (o
 query_told s moment ads text (Ok x) has_outcome = hits_told s _
 query_told s moment ads text (Err fault) has_outcome = text_told s fault (told_fault fault has_outcome.1)
 
+gang_told : (s : State) (moment : ℕ) (ads : List Advert) (jobs : List QueuedJob) (text : List ℕ) (outcome : Result Inline ParseFault) → HasAdOutcome text outcome → IsTold (s, gang moment ads jobs outcome)
+gang_told s moment ads jobs text (Ok x) has_outcome = by (ports_of (ad_of x))
+  where
+    by : (listed : Option (List Port)) → IsTold (s, option_map_or (λ ports. line (gang_names moment ads jobs (ad_of x) ports)) listed (reply.Refused why.BadPorts))
+    by None = bad_ports_told s
+    by (Some ports) = names_told s (gang_names moment ads jobs (ad_of x) ports)
+gang_told s moment ads jobs text (Err fault) has_outcome = text_told s fault (told_fault fault has_outcome.1)
+
 -- the refusal, where there is one, has a text
 abbrev IsRefusalTold : State → Option Refusal → Type 0
 IsRefusalTold s None = Unit {0}
@@ -238,7 +259,7 @@ refusal_told s name size jobs =
 
 take_told : (s : State) (job : QueuedJob) (reason : Option Refusal) → IsRefusalTold s reason → IsTold (take_job s job reason)
 take_told s job (Some reason) told = told
-take_told s job None told = holds_if IsTold (is_gang job.ad) (refused s why.NotBuilt) _ (unbuilt_told s) (submitted_told s job.name)
+take_told s job None told = holds_if IsTold (has_bad_ports job.ad) (refused s why.BadPorts) _ (bad_ports_told s) (submitted_told s job.name)
 
 submit_told : (s : State) (name user text : List ℕ) (size : ℕ) (outcome : Result Inline ParseFault) → HasAdOutcome text outcome → IsTold (submit s name user size outcome)
 submit_told s name user text size (Ok x) has_outcome = take_told s (record { name = name; user = user; size = size; ad = ad_of x; standing = idle }) (job_refusal name size s.jobs) (refusal_told s name size s.jobs)
@@ -291,7 +312,7 @@ step_told s (command.Query block) = query_told s s.moment s.ads block (ad_outcom
 step_told s (command.Submit job user block) = submit_told s job user block (length block) (ad_outcome block) (ad_outcome-has block)
 step_told s (command.Remove job) = remove_told s job
 step_told s (command.Priority user n) = set_priority_told s user n
-step_told s (command.Gang block) = unbuilt_told s
+step_told s (command.Gang block) = gang_told s s.moment s.ads s.jobs block (ad_outcome block) (ad_outcome-has block)
 step_told s command.Negotiate = cycle_told s _
 step_told s (command.Claim job) = claim_told s job
 step_told s (command.Release job) = release_told s job

@@ -12,6 +12,7 @@ use Rattle.pool_replies.specs.declared.refusal.Refusal.TheVariants as why
 use Rattle.pool_replies.specs.declared.reply.Reply.{Reply}
 use Rattle.pool_replies.specs.declared.reply.Reply.TheVariants as reply
 use Rattle.pool_engine.specs.Negotiation.{frames_named, held_world}
+use Rattle.pool_engine.specs.Ports.{ports_in}
 use Rattle.pool_engine.specs.Queue.{claim_names, claimed_by, is_job, is_listed, offer_names}
 use Rattle.pool_engine.specs.State.{JobStanding, QueuedJob, State, claimed, idle, matched}
 
@@ -23,7 +24,7 @@ job_named name jobs = find (is_job name) jobs
 
 -- the world of the dock of the resource at a port: those before it are docked too
 abbrev pub world_at : ℕ → List Advert → QueuedJob → List (List ℕ) → ℕ → PlainWorld
-world_at moment ads job names port = record { moment = moment; request = job.ad; ports = []; docked = map (frames_named ads) (take (suc port) names) }
+world_at moment ads job names port = record { moment = moment; request = job.ad; ports = ports_in job.ad; docked = map (frames_named ads) (take (suc port) names) }
 
 -- the resource of a name, docked last, is unclaimed, or ranks its holder strictly lower than the job
 abbrev pub is_won : ℕ → List Advert → List QueuedJob → List ℕ → PlainWorld → Bool

@@ -6,10 +6,12 @@ pub mod Claiming
 pub mod CommandLine
 pub mod Ends
 pub mod Events
+pub mod Gangs
 pub mod Indexed
 pub mod Limits
 pub mod Negotiation
 pub mod Pool
+pub mod Ports
 pub mod Queue
 pub mod Rows
 pub mod Session

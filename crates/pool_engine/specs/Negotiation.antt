@@ -1,14 +1,15 @@
 -- Negotiation in a state: what its jobs find among its ads, and the cycle that offers it to them.
-use Rattle.std.specs.Prelude.{ℕ, suc, Bool, ◌&&◌, false, true, List, [], ◌∷◌, count_by, filter, find, map, slice_get, slice_set, sum_by, take, Option, bytes_eq, is_none, is_some, option_map}
+use Rattle.std.specs.Prelude.{ℕ, suc, Bool, ◌&&◌, false, true, List, [], ◌∷◌, count_by, filter, find, length, map, max, slice_get, slice_set, sum_by, take, Option, bytes_eq, is_none, is_some, option_map}
 use Rattle.std.specs.List.{position_or_len}
 use Rattle.std.specs.Option.{option_and_then, option_map_or}
 use Rattle.ad_tree.specs.Frames.{Frame}
+use Rattle.ad_tree.specs.declared.request.Port.{Port}
 use Rattle.ad_store.specs.Stock.{Advert, is_named}
 use Rattle.eval_scope.specs.World.{PlainWorld}
-use Rattle.conjunct_plan.specs.Tests.{tests_of}
-use Rattle.bilateral_match.specs.Counts.{least_left, open_count}
 use Rattle.bilateral_match.specs.Members.{best}
 use Rattle.bilateral_match.specs.Pool.{Pool}
+use Rattle.gang_ports.specs.Gangs.{gang}
+use Rattle.negotiator.specs.Budget.{narrowed_by, open_by}
 use Rattle.negotiator.specs.Cycle.{Market, Offer, PlainSpin, PlainTurn, Waiting, cycle_of, offers_of}
 use Rattle.negotiator.specs.Priorities.{priority_of}
 use Rattle.pool_replies.specs.declared.reply.Reply.{Reply}
@@ -16,6 +17,7 @@ use Rattle.pool_replies.specs.declared.reply.Reply.TheVariants as reply
 use Rattle.pool_replies.specs.declared.rows.OfferRow.{OfferRow}
 use Rattle.pool_replies.specs.declared.rows.SpinRow.{SpinRow}
 use Rattle.pool_replies.specs.declared.rows.TurnRow.{TurnRow}
+use Rattle.pool_engine.specs.Ports.{ports_in}
 use Rattle.pool_engine.specs.Queue.{claim_names, claimed_by, offered_to}
 use Rattle.pool_engine.specs.State.{JobStanding, QueuedJob, State, idle, matched}
 
@@ -35,7 +37,7 @@ up_to name names = take (suc (position_or_len (bytes_eq name) names)) names
 
 -- the world of the dock by which a job holds the resource of a name: those of its resources are docked that stand up to it
 abbrev pub held_world : ℕ → List Advert → List ℕ → QueuedJob → PlainWorld
-held_world moment ads name job = record { moment = moment; request = job.ad; ports = []; docked = map (frames_named ads) (up_to name (claim_names job.standing)) }
+held_world moment ads name job = record { moment = moment; request = job.ad; ports = ports_in job.ad; docked = map (frames_named ads) (up_to name (claim_names job.standing)) }
 
 -- the resources, which of them are offered, and the docks by which they are held
 abbrev pub pool_in : ℕ → List Advert → List QueuedJob → Pool
@@ -50,9 +52,14 @@ pool_in moment ads jobs = record {
 abbrev pub is_free : List QueuedJob → Advert → Bool
 is_free jobs advert = is_none (offered_to advert.name jobs) && is_none (claimed_by advert.name jobs)
 
--- what the job at a place finds: the one resource that is best for it
+-- the places of what a request with these ports finds: without ports the one that is best for it, else those of its gang
+abbrev pub places_for : Pool → List Frame → List Port → Option (List ℕ)
+places_for pool request [] = option_map (λ m. m.place ∷ []) (best pool request)
+places_for pool request (port ∷ ports) = gang pool request (port ∷ ports)
+
+-- what the job at a place finds, by its names
 abbrev pub found : ℕ → List Advert → List QueuedJob → ℕ → Option (List (List ℕ))
-found moment ads jobs i = option_and_then (λ job. option_map (λ m. name_at ads m.place ∷ []) (best (pool_in moment ads jobs) job.ad)) (slice_get jobs i)
+found moment ads jobs i = option_and_then (λ job. option_map (map (name_at ads)) (places_for (pool_in moment ads jobs) job.ad (ports_in job.ad))) (slice_get jobs i)
 
 -- ---- offers
 
@@ -71,9 +78,9 @@ abbrev pub is_idle : JobStanding → Bool
 is_idle idle = true
 is_idle other = false
 
--- a job as a cycle sees it: it wants one resource
+-- a job as a cycle sees it: it wants a resource for each of its ports, or one
 abbrev pub waiting : QueuedJob → Waiting
-waiting job = record { user = job.user; wants = 1; is_idle = is_idle job.standing }
+waiting job = record { user = job.user; wants = max 1 (length (ports_in job.ad)); is_idle = is_idle job.standing }
 
 -- the market of a state
 abbrev pub market_in : State → Market (List ℕ)
@@ -106,10 +113,10 @@ negotiate s =
 abbrev pub over_idle : (QueuedJob → ℕ) → List QueuedJob → ℕ
 over_idle price jobs = sum_by price (filter (λ job. is_idle job.standing) jobs)
 
--- how many docks of idle jobs with resources that aren't offered literal attributes leave undecided
+-- how many docks of idle jobs literal attributes leave undecided, together
 abbrev pub undecided_for_jobs : State → ℕ
-undecided_for_jobs s = over_idle (λ job. open_count (pool_in s.moment s.ads s.jobs) job.ad) s.jobs
+undecided_for_jobs s = over_idle (λ job. open_by (pool_in s.moment s.ads s.jobs) job.ad (ports_in job.ad)) s.jobs
 
 -- how many ads the narrowest tests of the idle jobs leave, together
 abbrev pub narrowest_for_jobs : State → ℕ
-narrowest_for_jobs s = over_idle (λ job. least_left s.ads (tests_of job.ad 0 [])) s.jobs
+narrowest_for_jobs s = over_idle (λ job. narrowed_by s.ads job.ad (ports_in job.ad)) s.jobs

@@ -1,10 +1,9 @@
 -- What a command makes of the state, and the reply to it.
-use Rattle.std.specs.Prelude.{ℕ, ◌-◌, ◌*◌, Bool, not, ◌&&◌, List, [], ◌∷◌, ◌++◌, codes, length, filter, find, map, nat_lt, position, slice_get, Option, None, Some, is_some, option_map, Result, Ok, Err, bytes_eq, if◌then◌else◌}
+use Rattle.std.specs.Prelude.{ℕ, ◌-◌, ◌*◌, Bool, not, ◌&&◌, List, [], ◌∷◌, ◌++◌, length, filter, find, map, nat_lt, slice_get, Option, None, Some, option_map, Result, Ok, Err, bytes_eq, if◌then◌else◌}
 use Rattle.std.specs.List.{list_any}
 use Rattle.std.specs.Option.{option_map_or}
-use Rattle.ad_tree.specs.Frames.{Frame, names_in}
+use Rattle.ad_tree.specs.Frames.{Frame}
 use Rattle.ad_tree.specs.Inline.{Inline, ad_of, phrase_of, phrase_tree}
-use Rattle.ad_tree.specs.Names.{same_name}
 use Rattle.ad_tree.specs.Tree.{Tree}
 use Rattle.ad_parser.specs.declared.fault.ParseFault.{ParseFault}
 use Rattle.ad_parser.proofs.Outcomes.{ad_outcome, expr_outcome}
@@ -30,7 +29,9 @@ use Rattle.pool_replies.specs.declared.reply.Reply.TheVariants as reply
 use Rattle.pool_replies.specs.declared.rows.AdRow.{AdRow}
 use Rattle.pool_replies.specs.declared.rows.HitRow.{HitRow}
 use Rattle.pool_engine.specs.Claiming.{claim, offered_for_claim, release, undecided_for_claim}
+use Rattle.pool_engine.specs.Gangs.{gang, narrowest_for_gang, undecided_for_gang}
 use Rattle.pool_engine.specs.Negotiation.{narrowest_for_jobs, negotiate, undecided_for_jobs}
+use Rattle.pool_engine.specs.Ports.{has_bad_ports}
 use Rattle.pool_engine.specs.Queue.{claimed_by, has_job, job_refusal, offered_to, without_job, without_resources}
 use Rattle.pool_engine.specs.State.{QueuedJob, State, idle}
 use Rattle.negotiator.specs.Priorities.{lacks_place, with_setting}
@@ -151,14 +152,10 @@ narrowest ads (Ok x) = least_left ads (tests_of (ad_of x) 0 [])
 
 -- ---- jobs
 
--- the root of an ad has an attribute `Ports`, as a gang's has
-abbrev pub is_gang : List Frame → Bool
-is_gang frames = is_some (position (same_name (codes "Ports")) (names_in frames 0))
-
--- a job is taken, unless something speaks against it; a gang isn't built yet
+-- a job is taken, unless something speaks against it, or its ports are bad
 abbrev pub take_job : State → QueuedJob → Option Refusal → State × Reply
 take_job s job (Some reason) = refused s reason
-take_job s job None = if is_gang job.ad then refused s why.NotBuilt else (record s { jobs = s.jobs ++ job ∷ [] }, reply.Submitted job.name)
+take_job s job None = if has_bad_ports job.ad then refused s why.BadPorts else (record s { jobs = s.jobs ++ job ∷ [] }, reply.Submitted job.name)
 
 -- `submit JOB USER` and a block of so many bytes, by what its text is
 abbrev pub submit : State → List ℕ → List ℕ → ℕ → Result Inline ParseFault → State × Reply
@@ -190,6 +187,7 @@ step s (command.Query block) = (s, query s.moment s.ads (ad_outcome block))
 step s (command.Submit job user block) = submit s job user (length block) (ad_outcome block)
 step s (command.Remove job) = remove s job
 step s (command.Priority user n) = set_priority s user n
+step s (command.Gang block) = (s, gang s.moment s.ads s.jobs (ad_outcome block))
 step s command.Negotiate = negotiate s
 step s (command.Claim job) = claim s job
 step s (command.Release job) = release s job
@@ -199,6 +197,7 @@ step s other = refused s why.NotBuilt
 -- how many docks a command meets in a state that literal attributes leave undecided
 unfoldable pub undecided : State → Command → ℕ
 undecided s (command.Query block) = undecided_docks s.ads (ad_outcome block)
+undecided s (command.Gang block) = undecided_for_gang s.moment s.ads s.jobs (ad_outcome block)
 undecided s command.Negotiate = undecided_for_jobs s
 undecided s (command.Claim job) = undecided_for_claim s job
 undecided s other = 0
@@ -217,6 +216,7 @@ looks s (command.Withdraw name) = 1
 looks s (command.Show name) = 1
 looks s (command.EvalIn name expr) = 1
 looks s (command.Query block) = narrowest s.ads (ad_outcome block)
+looks s (command.Gang block) = narrowest_for_gang s.ads (ad_outcome block)
 looks s command.Negotiate = 9 * narrowest_for_jobs s
 looks s (command.Claim job) = 9 * offered_for_claim s job
 looks s other = 0

@@ -9,6 +9,7 @@ ghost use Rattle.negotiator.specs.Priorities.{Setting};
 ghost use Rattle.negotiator.specs.Settings.{settings_of};
 ghost use Rattle.pool_replies.specs.declared.rows.SpinRow.{SpinRow};
 ghost use Rattle.pool_engine.specs.Negotiation as steps;
+ghost use Rattle.pool_engine.specs.Ports.{HasOwnPorts};
 ghost use Rattle.pool_engine.specs.Queue.{claim_names, has_job, job_refusal, names_of, offer_names, without_job, without_resources};
 ghost use Rattle.pool_engine.specs.State.{idle};
 ghost use Rattle.pool_engine.specs.Step.{has_expired, live_ads};
@@ -16,7 +17,7 @@ ghost use Rattle.pool_engine.specs.Stored.{are_stored};
 
 use crate::indexed::IndexedStore;
 use ad_store::{Put, PutFault};
-use ad_tree::{Ad, Ports, Request};
+use ad_tree::{Ad, Request};
 use claim_table::{ClaimFault, ClaimTable, FreedList, JobFault};
 use negotiator::{Cycle, Priorities, cycle};
 use pool_replies::Reply;
@@ -25,13 +26,14 @@ use pool_text::{OutOfMemory, Slots};
 use std::alloc::Global;
 use std::sync::ledger::Ledger;
 
-/// The ads, and the jobs with what is offered to them and claimed by them. What a job has is held.
+/// The ads, and the jobs with what is offered to them and claimed by them. What a job has is held, and its ports are those that
+/// its ad lists.
 #[derive(Drop)]
 pub(crate) struct Books {
     pub(crate) ads: IndexedStore,
     pub(crate) claims: ClaimTable,
     ghost listed: { IsTrue (are_stored (stock_of ads.store).slots (jobs_of claims)) },
-    ghost single: { All (λ job. job.request.ports ≡ []) (jobs_of claims) },
+    ghost owned: { All (λ job. HasOwnPorts job.request) (jobs_of claims) },
 }
 
 impl Books {
@@ -168,25 +170,20 @@ impl Books {
         Ok(())
     }
 
-    /// Takes a job without ports, which is idle, behind those that are there; it isn't refused. Where memory is wanting nothing
-    /// changes.
+    /// Takes a job, which is idle, behind those that are there; it isn't refused. Where memory is wanting nothing changes.
     pub(crate) fn submit(
         &mut self,
-        alloc: Global,
         name: &[u8],
         user: &[u8],
-        ad: Ad,
+        request: Request,
         text_len: u64,
     ) -> Result<(), OutOfMemory>
-        requires { job_refusal name.now text_len (queue_of self.old) ≡ None }
+        requires room { job_refusal name.now text_len (queue_of self.old) ≡ None }
+        requires own { HasOwnPorts request }
         ensures jobs { OnOk result (queue_of self.new ≡ queue_of self.old
-            ++ (record { name = name.now; user = user.now; size = text_len; ad = ad_frames ad; standing = idle }) ∷ []) }
+            ++ (record { name = name.now; user = user.now; size = text_len; ad = ad_frames request.ad; standing = idle }) ∷ []) }
         ensures ads { self.new.ads ≡ self.old.ads }
     {
-        let request = Request {
-            ad,
-            ports: Ports::new(alloc),
-        };
         if self.claims.submit(name, user, request, text_len).is_err() {
             return Err(OutOfMemory);
         }

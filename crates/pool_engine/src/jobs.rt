@@ -1,6 +1,8 @@
 // The commands on the jobs of the pool and on the priorities of their users.
-ghost use Rattle.std.specs.Prelude.{◌≡◌, ◌≤◌, ◌^◌, ℕ, List, length, IfOk, IfSome, IsTrue};
+ghost use Rattle.std.specs.Prelude.{◌≡◌, ◌≤◌, ◌^◌, ℕ, List, length, is_none, IfOk, IfSome, IsTrue};
 ghost use Rattle.ad_parser.proofs.Outcomes.{ad_outcome};
+ghost use Rattle.ad_tree.specs.Ad.{ad_frames};
+ghost use Rattle.ad_tree.specs.Requests.{ArePorts};
 ghost use Rattle.negotiator.specs.Priorities.{Setting};
 ghost use Rattle.negotiator.specs.Settings.{settings_of};
 ghost use Rattle.pool_script.specs.Form.{is_block_text};
@@ -8,12 +10,15 @@ ghost use Rattle.pool_replies.specs.Refusals.{is_printable_refusal};
 ghost use Rattle.pool_replies.specs.Replies.{is_printable};
 ghost use Rattle.pool_engine.specs.Books.{queue_of};
 ghost use Rattle.pool_engine.specs.Pool.{state_with};
+ghost use Rattle.pool_engine.specs.Ports.{HasOwnPorts, has_bad_ports, ports_in};
 ghost use Rattle.pool_engine.specs.Queue.{job_refusal};
 ghost use Rattle.pool_engine.specs.Step as steps;
 
 use crate::books::Books;
+use crate::gangs::listed_ports;
 use crate::pool::told;
 use ad_parser::parse_ad;
+use ad_tree::{Ad, Ports, Request};
 use negotiator::{Priorities, PriorityFault};
 use pool_replies::{Refusal, Reply, Room};
 use pool_text::{OutOfMemory, Text};
@@ -23,7 +28,7 @@ const JOBS_LIMIT: usize = 10_000;
 
 const TEXT_LIMIT: u64 = 33_554_432;
 
-/// `submit`: the job of the block goes last into the queue. A gang isn't built yet.
+/// `submit`: the job of the block goes last into the queue, a gang with the ports that its ad lists.
 #[tactic(auto, unfolding(pool_replies::specs::Replies::is_printable, pool_replies::specs::Refusals::is_printable_refusal))]
 pub(crate) fn submit(
     alloc: Global,
@@ -46,12 +51,35 @@ pub(crate) fn submit(
     if let Some(reason) = refusal(books, job.bytes(), size) {
         return Ok(Reply::Refused(reason));
     }
-    if ad.position(0, b"Ports").is_some() {
-        return Ok(Reply::Refused(Refusal::NotBuilt));
-    }
+    let Some(request) = request_of(alloc, ad)? else {
+        return Ok(Reply::Refused(Refusal::BadPorts));
+    };
     let named = job.copy()?;
-    books.submit(alloc, job.bytes(), user.bytes(), ad, size)?;
+    books.submit(job.bytes(), user.bytes(), request, size)?;
     Ok(Reply::Submitted(named))
+}
+
+// The request of a job's ad, with the ports that the ad lists; none where these are bad.
+fn request_of(alloc: Global, ad: Ad) -> Result<Option<Request>, OutOfMemory>
+    ensures good { IfOk result (λ request. is_none request ≡ has_bad_ports (ad_frames ad)) }
+    ensures own { IfOk result (λ request. IfSome request (λ r. (ad_frames r.ad ≡ ad_frames ad) × HasOwnPorts r)) }
+{
+    let Some(ports) = own_ports(alloc, &ad)? else {
+        return Ok(None);
+    };
+    Ok(Some(Request { ad, ports }))
+}
+
+// The ports that a job's ad lists: none where it isn't a gang, and no list where they are bad.
+fn own_ports(alloc: Global, ad: &Ad) -> Result<Option<Ports>, OutOfMemory>
+    ensures good { IfOk result (λ ports. is_none ports ≡ has_bad_ports (ad_frames ad.now)) }
+    ensures own { IfOk result (λ ports. IfSome ports (λ list. list ≡ ports_in (ad_frames ad.now))) }
+    ensures are_ports { IfOk result (λ ports. IfSome ports (ArePorts (ad_frames ad.now))) }
+{
+    if ad.position(0, b"Ports").is_none() {
+        return Ok(Some(Ports::new(alloc)));
+    }
+    listed_ports(alloc, ad)
 }
 
 // Why a job of this name, with a text of so many bytes, is refused.

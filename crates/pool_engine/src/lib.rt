@@ -6,6 +6,7 @@ mod books;
 mod claiming;
 mod command_line;
 mod eval;
+mod gangs;
 mod indexed;
 mod jobs;
 mod laws;

@@ -12,6 +12,7 @@ use crate::ads::{advertise, rows, show, withdraw};
 use crate::books::Books;
 use crate::claiming::{claim, release};
 use crate::eval::{eval, eval_in};
+use crate::gangs::gang;
 use crate::jobs::{remove, set_priority, submit};
 use crate::negotiation::negotiate;
 use crate::query::query;
@@ -202,6 +203,15 @@ impl Pool {
             Command::Query(block) => query(
                 alloc,
                 &self.books.ads,
+                self.moment,
+                block.bytes(),
+                tops,
+                entry,
+                touch,
+            ),
+            Command::Gang(block) => gang(
+                alloc,
+                &self.books,
                 self.moment,
                 block.bytes(),
                 tops,

@@ -4,6 +4,8 @@
 #[cfg(test)]
 mod crowds;
 #[cfg(test)]
+mod gangs;
+#[cfg(test)]
 mod jobs;
 #[cfg(test)]
 mod runs;

@@ -118,7 +118,7 @@ const SCRIPTS: [(&[u8], u64, &[u8]); 12] = [
     (
         b"gang\n# no comment\n.\ngang\neval 1\n",
         2,
-        b"refused 14 not built\nrefused 4 block not ended\n",
+        b"refused 6 lexical 1 at 0\nrefused 4 block not ended\n",
     ),
     (
         b"eval \"abc\neval 1 &&\neval \"abc\"\neval 0x1F\neval 1 && 1.5\neval { 1 + 2, x }",

@@ -12,7 +12,7 @@ pub names_of-requires : goal.names_of-requires
 names_of-requires c =
     let books = c.args.books.now in
     let slots = (stock_of books.ads.store).slots in
-    subst (λ (own : List ℕ). All (Contains slots) own) (sym c.slots.ensures) (given-held slots c.args.job.now (jobs_of books.claims) books.listed books.single)
+    subst (λ (own : List ℕ). All (Contains slots) own) (sym c.slots.ensures) (given-held slots c.args.job.now (jobs_of books.claims) books.listed books.owned)
 
 pub returns : goal.returns
 returns c =

@@ -8,8 +8,9 @@ use Rattle.pool_engine.specs.Rows.{IsSpinHeld}
 use Rattle.pool_engine.proofs.DockLemmas.{holders-stored}
 use Rattle.pool_engine.proofs.HitLemmas.{if_ok}
 use Rattle.pool_engine.proofs.MarketLemmas.{narrowest-seen, negotiated, undecided-seen}
-use Rattle.pool_engine.proofs.MatchedLemmas.{part-of, part-single, part-stored}
+use Rattle.pool_engine.proofs.MatchedLemmas.{part-of, part-owned, part-stored}
 use Rattle.pool_engine.proofs.NameLemmas.{AreBeside}
+use Rattle.pool_engine.proofs.PortLemmas.{all-own}
 use Rattle.pool_engine.proofs.SpinRowLemmas.{spins-held}
 use Rattle.pool_engine.proofs.books.Books.negotiate.Goals as goal
 
@@ -21,6 +22,9 @@ if_ok-both (Err e) P Q more a p = tt
 pub cycle-requires-clause-stored : goal.cycle-requires-clause-stored
 cycle-requires-clause-stored g c = holders-stored (stock_of c.args.self.now.ads.store) (jobs_of c.args.self.now.claims) c.args.self.now.listed
 
+pub cycle-requires-clause-ports : goal.cycle-requires-clause-ports
+cycle-requires-clause-ports g c = all-own (jobs_of c.args.self.now.claims) c.args.self.now.owned
+
 pub invariant_of-self : goal.invariant_of-self
 invariant_of-self g c =
     let books = c.args.self.now in
@@ -31,7 +35,7 @@ invariant_of-self g c =
     let part : IsPart offers jobs later = part-of c.cycle.result offers jobs later c.cycle.ensures.table c.cycle.ensures.part in
     record {
       listed = part-stored stock.slots offers jobs later part c.cycle.ensures.stored books.listed;
-      single = part-single offers jobs later part books.single;
+      owned = part-owned offers jobs later part books.owned;
     }
 
 pub returns-clause-cycle : goal.returns-clause-cycle
@@ -40,7 +44,7 @@ returns-clause-cycle g c =
     let stock = stock_of books.ads.store in
     let beside : AreBeside stock.ads stock.slots = record { long = sym c.len-len.ensures.ads ∙ c.len-len.ensures.slots; names = c.names_are_apart.ensures; apart = c.slots_are_apart.ensures } in
     if_ok-both c.cycle.result _ _
-    (λ table spins is. λ answered are. negotiated stock beside c.args.moment (settings_of c.args.priorities.now) (jobs_of books.claims) books.listed books.single (jobs_of c.cycle.new.claims) spins answered table is are)
+    (λ table spins is. λ answered are. negotiated stock beside c.args.moment (settings_of c.args.priorities.now) (jobs_of books.claims) books.listed books.owned (jobs_of c.cycle.new.claims) spins answered table is are)
     c.cycle.ensures.table c.cycle.ensures.cycle
 
 pub returns-clause-held : goal.returns-clause-held
@@ -57,7 +61,7 @@ returns-clause-cost g c =
     let stock = stock_of books.ads.store in
     let beside : AreBeside stock.ads stock.slots = record { long = sym c.len-len.ensures.ads ∙ c.len-len.ensures.slots; names = c.names_are_apart.ensures; apart = c.slots_are_apart.ensures } in
     subst (λ (n : ℕ). c.cycle.new.tops ≤ c.args.tops.now + 5 * n)
-    (sym (undecided-seen stock beside c.args.moment (settings_of c.args.priorities.now) (jobs_of books.claims) books.listed books.single)) c.cycle.ensures.evaluations
+    (sym (undecided-seen stock beside c.args.moment (settings_of c.args.priorities.now) (jobs_of books.claims) books.listed books.owned)) c.cycle.ensures.evaluations
 
 pub returns-clause-looks : goal.returns-clause-looks
 returns-clause-looks g c =
@@ -65,4 +69,4 @@ returns-clause-looks g c =
     let stock = stock_of books.ads.store in
     let beside : AreBeside stock.ads stock.slots = record { long = sym c.len-len.ensures.ads ∙ c.len-len.ensures.slots; names = c.names_are_apart.ensures; apart = c.slots_are_apart.ensures } in
     subst (λ (n : ℕ). c.cycle.new.touch ≤ c.args.touch.now + 9 * n)
-    (sym (narrowest-seen stock beside c.args.moment (settings_of c.args.priorities.now) (jobs_of books.claims) books.listed books.single)) c.cycle.ensures.looks
+    (sym (narrowest-seen stock beside c.args.moment (settings_of c.args.priorities.now) (jobs_of books.claims) books.listed books.owned)) c.cycle.ensures.looks

@@ -14,7 +14,7 @@ invariant_of-self g c =
     let advert : Advert = record { name = c.args.name.now; born = c.args.born; lifetime = c.args.lifetime; size = c.args.text_len; ad = ad_frames c.args.ad } in
     record {
       listed = stored-put c.in-Ok.put advert old new (stock-length books.ads.store) c.in-Ok.ensures.ads c.in-Ok.ensures.slots c.in-Ok.ensures.added (jobs_of books.claims) books.listed;
-      single = books.single;
+      owned = books.owned;
     }
 
 pub returns-in-Ok-clause-jobs : goal.returns-in-Ok-clause-jobs

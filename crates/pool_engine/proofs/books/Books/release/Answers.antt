@@ -8,8 +8,8 @@ use Rattle.pool_engine.proofs.books.Books.release.Goals as goal
 pub invariant_of-self : goal.invariant_of-self
 invariant_of-self c =
     let books = c.args.self.now in
-    let kept = either-released (stock_of books.ads.store).slots (numbered c.args.name.now (jobs_of books.claims)) (jobs_of books.claims) (jobs_of c.release.new.self) c.release.result c.release.ensures.ok c.release.ensures.err books.listed books.single in
-    record { listed = kept.0; single = kept.1 }
+    let kept = either-released (stock_of books.ads.store).slots (numbered c.args.name.now (jobs_of books.claims)) (jobs_of books.claims) (jobs_of c.release.new.self) c.release.result c.release.ensures.ok c.release.ensures.err books.listed books.owned in
+    record { listed = kept.0; owned = kept.1 }
 
 pub returns-clause-release : goal.returns-clause-release
 returns-clause-release c = λ moment priorities.

@@ -5,8 +5,9 @@ use Rattle.claim_table.specs.Answers.{no_job}
 use Rattle.claim_table.specs.Jobs.{numbered, slots_of}
 use Rattle.claim_table.specs.Table.{jobs_of}
 use Rattle.pool_engine.specs.Pool.{queued}
+use Rattle.pool_engine.specs.Ports.{HasOwnPorts}
 use Rattle.pool_engine.specs.Stored.{are_stored}
-use Rattle.pool_engine.proofs.JobLemmas.{queue-without, removed, single-without, stored-without}
+use Rattle.pool_engine.proofs.JobLemmas.{owned-without, queue-without, removed, stored-without}
 use Rattle.pool_engine.proofs.books.Books.remove.Goals as goal
 
 pub invariant_of-self : goal.invariant_of-self
@@ -16,7 +17,7 @@ invariant_of-self c =
     let slots = (stock_of old.ads.store).slots in
     record {
       listed = ap (are_stored slots) c.remove.ensures.jobs ∙ stored-without slots name (jobs_of old.claims) c.names_are_apart.ensures old.listed;
-      single = subst (λ (jobs : List Job). All (λ job. job.request.ports ≡ []) jobs) (sym c.remove.ensures.jobs) (single-without (numbered name (jobs_of old.claims)) (jobs_of old.claims) old.single);
+      owned = subst (λ (jobs : List Job). All (λ job. HasOwnPorts job.request) jobs) (sym c.remove.ensures.jobs) (owned-without (numbered name (jobs_of old.claims)) (jobs_of old.claims) old.owned);
     }
 
 pub returns-clause-held : goal.returns-clause-held

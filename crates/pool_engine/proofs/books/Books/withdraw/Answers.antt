@@ -5,11 +5,12 @@ use Rattle.ad_store.proofs.HeldLemmas.{without-absent}
 use Rattle.claim_table.specs.declared.job.Job.{Job}
 use Rattle.claim_table.specs.Table.{jobs_of}
 use Rattle.pool_engine.specs.Pool.{queued}
+use Rattle.pool_engine.specs.Ports.{HasOwnPorts}
 use Rattle.pool_engine.specs.Stored.{are_stored}
 use Rattle.pool_engine.proofs.AdLemmas.{has_at, named, slot_beside-found, slot_beside-none, stock-length, withdrawn}
 use Rattle.pool_engine.proofs.JobLemmas.{found-any, queue-freed, stays}
 use Rattle.pool_engine.proofs.NameLemmas.{AreBeside}
-use Rattle.pool_engine.proofs.QueueLemmas.{freed-single, freed-stored, lost-each}
+use Rattle.pool_engine.proofs.QueueLemmas.{freed-owned, freed-stored, lost-each}
 use Rattle.pool_engine.proofs.books.Books.withdraw.Goals as goal
 
 pub returns-in_default-clause-held : goal.returns-in_default-clause-held
@@ -41,7 +42,7 @@ invariant_of-self-2 g c =
     let lost = c.in_ok-_freed.ensures.ok ∙ lost-each slot jobs c.resources_are_apart.ensures.offers c.resources_are_apart.ensures.claims in
     record {
       listed = ap (are_stored new.slots) lost ∙ freed-stored old.slots new.slots slot (stays name old new beside slot found.place found.advert found.at found.slot_at called (sym c.in-Some.ensures.slot) ads slots) jobs books.listed;
-      single = subst (λ (l : List Job). All (λ job. job.request.ports ≡ []) l) (sym lost) (freed-single slot jobs books.single);
+      owned = subst (λ (l : List Job). All (λ job. HasOwnPorts job.request) l) (sym lost) (freed-owned slot jobs books.owned);
     }
 
 pub returns-clause-held : goal.returns-clause-held

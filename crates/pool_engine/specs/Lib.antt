@@ -1,3 +1,4 @@
+pub mod Apart
 pub mod Books
 pub mod Changes
 pub mod ClaimAnswers

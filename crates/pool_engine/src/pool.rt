@@ -3,6 +3,7 @@ ghost use Rattle.std.specs.Prelude.{◌≡◌, ◌+◌, ◌≤◌, true, false, 
 ghost use Rattle.pool_script.specs.Form.{is_within_form};
 ghost use Rattle.pool_replies.specs.Refusals.{is_fault_of_text};
 ghost use Rattle.pool_replies.specs.Replies.{is_printable};
+ghost use Rattle.pool_engine.specs.Apart.{AreGivenApart};
 ghost use Rattle.pool_engine.specs.Changes.{changes_nothing, keeps_ads};
 ghost use Rattle.pool_engine.specs.State.{opening};
 ghost use Rattle.pool_engine.specs.Step as steps;
@@ -76,6 +77,15 @@ impl Pool {
         let answered = self.answer(command, tops, entry, touch);
         self.spent = answered.is_err();
         answered
+    }
+
+    /// Law: each resource is offered to one job at most and claimed by one at most, and each resource of a job is an ad that is
+    /// held. It is so after any list of commands, since it is so of every pool.
+    #[tactic(auto, unfolding(crate::specs::Pool::state_of))]
+    pub fn resources_are_apart(&self)
+        ensures { AreGivenApart (state_of self.now) }
+    {
+        self.books.resources_are_apart();
     }
 
     #[tactic(auto, unfolding(crate::specs::Pool::state_of, crate::specs::Step::step, crate::specs::Step::allowance, crate::specs::Step::undecided, crate::specs::Step::looks, pool_script::specs::Form::is_within_form, pool_replies::specs::Replies::is_printable, pool_replies::specs::Refusals::is_printable_refusal))]

@@ -5,7 +5,6 @@ The manual has to name every command, refusal and status; the page on the langua
 are read off the sources. An example in a page is a block that begins with `$ ./pool <<'END'`; its lines up to END are run,
 and what follows in the block must be what is printed.
 """
-import glob
 import os
 import re
 import subprocess
@@ -27,10 +26,14 @@ def commands():
 def refusals():
     """The lines of refusals, without the numbers and names that some of them end with."""
     texts = []
-    for path in ("pool_replies/specs/Refusals.antt", "claim_wire/specs/*.antt"):
-        for found in sorted(glob.glob(os.path.join(TOP, "crates", path))):
-            texts += re.findall(r'codes "(refused \d+ [a-z ]+?)(?: ?\\n| )?"', read(found))
+    for path in ("pool_replies/specs/Refusals.antt", "pool_engine/specs/WireReplies.antt"):
+        texts += re.findall(r'codes "(refused \d+ [a-z ]+?)(?: ?\\n| )?"', read("crates/" + path))
     return texts
+
+
+def events():
+    """The first words of a schedule's lines."""
+    return re.findall(r'codes "([a-z]+)"', read("crates/claim_wire/specs/Lines.antt"))
 
 
 def statuses():
@@ -55,6 +58,9 @@ def missing():
     for word in commands():
         if not re.search(rf"`{word}[ `]", manual):
             yield f"docs/MANUAL.md doesn't name the command `{word}`"
+    for word in events():
+        if not re.search(rf"`[^`]*\b{word}\b[^`]*`", manual):
+            yield f"docs/MANUAL.md doesn't name `{word}` of a schedule"
     for text in refusals():
         if f"`{text}" not in manual:
             yield f"docs/MANUAL.md doesn't name the refusal `{text}`"

@@ -1,5 +1,5 @@
 -- What searches stand on stays, through a mark and through an offer.
-use Rattle.std.proofs.Common.{◌≡◌, ◌≤◌, ℕ, Bool, true, false, List, [], All, length, replicate, set, None, ap, sym, ◌∙◌, subst, ◌⊎◌, inl, inr, get_or-set_other}
+use Rattle.std.proofs.Common.{◌≡◌, ◌≤◌, ℕ, Bool, true, false, List, All, length, replicate, set, None, ap, sym, ◌∙◌, subst, ◌⊎◌, inl, inr, get_or-set_other}
 use Rattle.std.proofs.lemmas.Bool.{cases_eq}
 use Rattle.std.proofs.lemmas.List.{length-replicate, length-set}
 use Rattle.ad_tree.specs.Ad.{ad_frames}

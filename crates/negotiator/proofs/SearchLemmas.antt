@@ -1,12 +1,9 @@
 -- A job by its place and by its name, and what a search for it gives.
-use Rattle.std.proofs.Common.{◌≡◌, ◌≢◌, ◌<◌, ◌≤◌, ◌+◌, ◌*◌, ℕ, Bool, true, false, All, AllPairs, List, [], ◌∷◌, length, map, max, slice_get, Option, None, Some, Result, IfOk, is_some, refl, ap, sym, ◌∙◌, subst, arith}
+use Rattle.std.proofs.Common.{◌≡◌, ◌≢◌, ◌<◌, ◌≤◌, ◌+◌, ◌*◌, ℕ, Bool, true, false, AllPairs, List, [], ◌∷◌, length, map, max, slice_get, Option, None, Some, is_some, refl, ap, sym, ◌∙◌, subst, arith}
 use Rattle.std.specs.Prelude.{IfSome, option_and_then, option_map}
 use Rattle.std.specs.Option.{option_map_or}
 use Rattle.std.proofs.Math.Nat.{max-eq_right}
 use Rattle.std.proofs.lemmas.List.Elements.{All-cons, All-nil}
-use Rattle.std.proofs.lemmas.Option.{IfSome_then}
-use Rattle.std.proofs.lemmas.Result.{IfOk-weaker}
-use Rattle.pool_text.specs.declared.memory.OutOfMemory.{OutOfMemory}
 use Rattle.ad_tree.specs.Ad.{ad_frames}
 use Rattle.ad_tree.specs.Frames.{Frame}
 use Rattle.ad_tree.specs.declared.request.Port.{Port}
@@ -19,13 +16,11 @@ use Rattle.claim_table.specs.declared.answers.JobState.{JobState}
 use Rattle.claim_table.specs.declared.job.Job.{Job}
 use Rattle.claim_table.specs.declared.job.Standing.{Standing}
 use Rattle.claim_table.specs.Jobs.{AreFree, AreNamedApart, job_named, numbered, offered_to, state_of, wanted}
-use Rattle.claim_table.proofs.HolderLemmas.{All-found}
 use Rattle.conjunct_plan.specs.Tests.{tests_of}
 use Rattle.gang_ports.specs.Gangs.{attributes_open, docks_open, gang, looks_most}
-use Rattle.gang_ports.specs.Ports.{ports_of}
 use Rattle.negotiator.specs.declared.answers.Offered.{Offered}
-use Rattle.negotiator.specs.Budget.{Counts, IsSearched, entries_by, entries_for, evaluations_by, evaluations_for, is_idle_at, looks_by, looks_for}
-use Rattle.negotiator.specs.Markets.{AreOwn, found, found_by, found_for, is_idle, name_at, offer_named, pool_for}
+use Rattle.negotiator.specs.Budget.{entries_by, entries_for, evaluations_by, evaluations_for, is_idle_at, looks_by, looks_for}
+use Rattle.negotiator.specs.Markets.{found_by, found_for, is_idle, name_at, offer_named, pool_for}
 use Rattle.negotiator.proofs.GangLemmas.{not-some}
 
 abbrev pub state_at : List Job → ℕ → Option JobState
@@ -72,8 +67,8 @@ module _ (moment : ℕ) (stock : Stock) (jobs : List Job) (request : Request) (n
   pub looks-one : (start now : ℕ) → now ≤ start + 9 * least_left stock.ads (tests_of (ad_frames request.ad) 0 []) → now ≤ start + looks_for stock jobs request
   looks-one start now rise = subst (λ ports. now ≤ start + looks_by stock.ads (ad_frames request.ad) ports) (sym none) rise
 
-  pub found-one : found_for moment stock jobs request ≡ option_map (λ slot. slot ∷ []) (best_slot stock (pool_for moment stock jobs) (ad_frames request.ad))
-  found-one = ap (found_by stock (pool_for moment stock jobs) (ad_frames request.ad)) none
+  pub found-one : (slot : Option ℕ) → slot ≡ best_slot stock (pool_for moment stock jobs) (ad_frames request.ad) → option_map (λ s. s ∷ []) slot ≡ found_for moment stock jobs request
+  found-one slot is = ap (option_map (λ s. s ∷ [])) is ∙ sym (ap (found_by stock (pool_for moment stock jobs) (ad_frames request.ad)) none)
 
 -- what holds of the slot in a list, where there is one
 pub one-all : (P : List ℕ → Type 0) (slot : Option ℕ) → IfSome slot (λ s. P (s ∷ [])) → (o : Option (List ℕ)) → o ≡ option_map (λ s. s ∷ []) slot → IfSome o P

@@ -16,11 +16,12 @@ use Rattle.negotiator.specs.Markets.{found, is_idle, pool_for}
 
 -- ---- one search
 
--- how many docks of a request are undecided, and how many ads its narrowest test leaves, or those of its ports together
+-- how many docks of a request no test decides
 abbrev pub open_by : Pool → List Frame → List Port → ℕ
 open_by pool request [] = open_count pool request
 open_by pool request (port ∷ ports) = docks_open pool request (port ∷ ports)
 
+-- how many ads the narrowest test of a request leaves, and with ports the sum over them
 abbrev pub narrowed_by : List Advert → List Frame → List Port → ℕ
 narrowed_by ads request [] = least_left ads (tests_of request 0 [])
 narrowed_by ads request (port ∷ ports) = looks_most ads request (port ∷ ports)

@@ -36,12 +36,13 @@ use std::sync::ledger::Ledger;
 /// that are neither claimed nor offered as the spin begins, by weight (10^12 divided by the priority, among those of all
 /// users of the spin), cut to a whole number, and at least one. The user's idle jobs are tried in the order of their
 /// submission, where the slice has as many left as a job wants or nothing was given in the turn yet; a job that finds
-/// resources, the best one or for its ports its gang, is given an offer. (Slices of a pie by priority and spins are those of the HTCondor negotiator; the numbers
-/// here are whole.) The answer has each spin with its turns that made an offer.
+/// resources, the best one or a gang for its ports, is given an offer. (Slices of a pie by priority and spins are those of
+/// the HTCondor negotiator; the numbers here are whole.) The answer has each spin with its turns that made an offer.
 ///
 /// The index is that of the ads of the store, what is claimed is in the store, and each request has no ports or those
-/// that its ad lists. Each job is searched for once at most, however many spins there are: `tops`, `entry` and `touch` count no more than one search for
-/// each job that is idle as the cycle begins. After want of memory the first offers of the cycle stand.
+/// that its ad lists. Each job is searched for once at most, however many spins there are: `tops`, `entry` and `touch`
+/// count no more than one search for each job that is idle as the cycle begins. After want of memory the first offers of
+/// the cycle stand.
 pub fn cycle<F: Ledger, E: Ledger, T: Ledger>(
     alloc: Global,
     store: &Store,

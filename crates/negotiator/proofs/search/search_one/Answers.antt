@@ -1,4 +1,4 @@
-use Rattle.std.proofs.Common.{◌≡◌, ◌≢◌, List, ℕ, [], ◌∷◌, AllPairs, Some, false, is_some, ap, length, sym, ◌∙◌}
+use Rattle.std.proofs.Common.{◌≡◌, ◌≢◌, ℕ, [], ◌∷◌, AllPairs, length, ◌∙◌}
 use Rattle.std.specs.Prelude.{IfSome, option_map}
 use Rattle.std.proofs.lemmas.Option.{IfSome_then}
 use Rattle.std.proofs.lemmas.Result.{IfOk-weaker}
@@ -35,9 +35,11 @@ returns-clause-looks g c =
 
 pub returns-clause-found : goal.returns-clause-found
 returns-clause-found g c =
-    let is = found-one c.args.scene.now.moment (stock_in c.args.scene.now) (jobs_of c.args.claims.now) c.args.request.now c.requires.single in
-    IfOk-weaker c.listed.result (λ slots. slots ≡ option_map (λ s. s ∷ []) c.in_ok-slot.slot) (λ slots. slots ≡ found_for c.args.scene.now.moment (stock_in c.args.scene.now) (jobs_of c.args.claims.now) c.args.request.now)
-    (λ slots e. e ∙ ap (option_map (λ s. s ∷ [])) c.in_ok-slot.ensures.best ∙ sym is) c.listed.ensures
+    let moment = c.args.scene.now.moment in
+    let stock = stock_in c.args.scene.now in
+    let jobs = jobs_of c.args.claims.now in
+    IfOk-weaker c.listed.result (λ slots. slots ≡ option_map (λ s. s ∷ []) c.in_ok-slot.slot) (λ slots. slots ≡ found_for moment stock jobs c.args.request.now)
+    (λ slots e. e ∙ found-one moment stock jobs c.args.request.now c.requires.single c.in_ok-slot.slot c.in_ok-slot.ensures.best) c.listed.ensures
 
 pub returns-clause-free : goal.returns-clause-free
 returns-clause-free g c =

@@ -12,11 +12,9 @@ use Rattle.claim_table.specs.Jobs.{AreExclusive, AreNamedApart, claim_of, idle_a
 use Rattle.claim_table.specs.declared.answers.ClaimFault.{ClaimFault}
 use Rattle.claim_table.specs.declared.answers.Freed.{Freed}
 use Rattle.claim_table.specs.declared.answers.JobFault.{JobFault}
-use Rattle.claim_table.specs.declared.answers.JobState.{JobState}
 use Rattle.claim_table.specs.declared.job.Job.{Job}
 use Rattle.claim_table.specs.declared.job.Standing.{Standing}
 use Rattle.negotiator.specs.Priorities.{Setting}
-use Rattle.pool_replies.specs.Refusals.{is_wrong_state}
 use Rattle.pool_replies.specs.declared.refusal.Refusal.TheVariants as why
 use Rattle.pool_replies.specs.declared.reply.Reply.{Reply}
 use Rattle.pool_replies.specs.declared.reply.Reply.TheVariants as reply

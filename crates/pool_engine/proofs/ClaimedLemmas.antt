@@ -1,5 +1,5 @@
 -- One resource of an offer, by its slot and by its name: the world of its dock, and whether the job wins it.
-use Rattle.std.proofs.Common.{◌≡◌, ℕ, suc, All, Bool, true, ◌&&◌, List, [], map, take, Option, None, Some, option_map, refl, sym, ◌∙◌, ap}
+use Rattle.std.proofs.Common.{◌≡◌, ℕ, suc, All, Bool, true, ◌&&◌, List, map, take, Option, None, Some, option_map, refl, sym, ◌∙◌, ap}
 use Rattle.std.specs.Prelude.{int_lt}
 use Rattle.std.specs.List.{list_all}
 use Rattle.std.specs.Option.{option_map_or}
@@ -8,7 +8,7 @@ use Rattle.ad_tree.specs.Ad.{ad_frames}
 use Rattle.ad_tree.specs.Frames.{Frame}
 use Rattle.ad_tree.specs.declared.request.Port.{Port}
 use Rattle.ad_eval.specs.Dock.{is_docked}
-use Rattle.ad_store.specs.Stock.{Advert, Stock}
+use Rattle.ad_store.specs.Stock.{Stock}
 use Rattle.bilateral_match.specs.Pool.{ad_in, holder_world, regard_in}
 use Rattle.claim_table.specs.Claims as claims
 use Rattle.claim_table.specs.Holders.{holder_of}

@@ -1,11 +1,11 @@
 -- The jobs of a state as ads that are no longer live leave one after another.
-use Rattle.std.proofs.Common.{◌≡◌, ℕ, zero, suc, ◌+◌, ◌<◌, ◌≤◌, Bool, true, false, not, ◌&&◌, ◌||◌, cond, List, [], ◌∷◌, filter, length, map, slice_get, Option, Some, bytes_eq, refl, sym, ◌∙◌, ap, arith}
+use Rattle.std.proofs.Common.{◌≡◌, ℕ, zero, suc, Bool, true, false, not, ◌&&◌, ◌||◌, cond, List, [], ◌∷◌, filter, length, slice_get, Option, Some, bytes_eq, refl, sym, ◌∙◌, ap, arith}
 use Rattle.std.specs.List.{list_any}
 use Rattle.std.specs.Cmp.Lexicographic.{bytes_decides}
 use Rattle.ad_store.specs.Stock.{Advert, is_live, is_named, without}
 use Rattle.pool_engine.specs.Queue.{names_of, without_resources}
-use Rattle.pool_engine.specs.State.{JobStanding, QueuedJob, idle}
-use Rattle.pool_engine.specs.Step.{has_expired, live_ads}
+use Rattle.pool_engine.specs.State.{QueuedJob, idle}
+use Rattle.pool_engine.specs.Step.{has_expired}
 use Rattle.pool_engine.proofs.NameLemmas.{same_truth}
 use Rattle.pool_engine.proofs.AdLemmas.{AreApart, apart_behind, live-le}
 

@@ -8,13 +8,13 @@ use Rattle.ad_store.specs.Stock.{Stock}
 use Rattle.ad_store.proofs.HeldLemmas.{both}
 use Rattle.bilateral_match.specs.Docks.{is_last_decided}
 use Rattle.claim_table.specs.Claims as claims
-use Rattle.claim_table.specs.Jobs.{is_named, job_named as job_there, lists, offer_of, slots_of}
+use Rattle.claim_table.specs.Jobs.{is_named, lists, offer_of, slots_of}
 use Rattle.claim_table.specs.declared.job.Job.{Job}
 use Rattle.claim_table.specs.declared.job.Standing.{Standing}
 use Rattle.negotiator.specs.Priorities.{Setting}
 use Rattle.pool_engine.specs.Claiming as seen
 use Rattle.pool_engine.specs.Pool.{name_in, named_standing, queued}
-use Rattle.pool_engine.specs.Queue.{is_job, names_of, offer_names}
+use Rattle.pool_engine.specs.Queue.{is_job, offer_names}
 use Rattle.pool_engine.specs.State.{QueuedJob, State}
 use Rattle.pool_engine.specs.Stored.{are_stored, is_stored}
 use Rattle.pool_engine.proofs.ClaimedLemmas.{passes-seen, world-seen}

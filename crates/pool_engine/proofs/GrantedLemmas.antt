@@ -1,19 +1,15 @@
 -- The jobs once one of them has another standing, by its number and by its name.
-use Rattle.std.proofs.Common.{◌≡◌, ℕ, zero, suc, All, Bool, true, false, bytes_eq, cond, List, [], ◌∷◌, length, map, position, slice_get, slice_set, Option, None, Some, option_map, refl, sym, ◌∙◌, ap, subst}
-use Rattle.std.specs.List.{list_all}
+use Rattle.std.proofs.Common.{◌≡◌, ℕ, zero, suc, Bool, true, false, bytes_eq, cond, List, [], ◌∷◌, map, position, slice_get, slice_set, Option, None, Some, refl, sym, ◌∙◌, ap}
 use Rattle.std.specs.Option.{option_map_or}
-use Rattle.std.proofs.lemmas.List.Elements.{All-cons, All-head, All-nil, All-tail}
 use Rattle.ad_store.specs.Stock.{Stock}
-use Rattle.ad_store.proofs.HeldLemmas.{both}
 use Rattle.claim_table.specs.Claims as claims
-use Rattle.claim_table.specs.Jobs.{AreNamedApart, idle_at, is_named, lists, numbered, slots_of, with_standing}
+use Rattle.claim_table.specs.Jobs.{AreNamedApart, idle_at, is_named, numbered, with_standing}
 use Rattle.claim_table.specs.declared.job.Job.{Job}
 use Rattle.claim_table.specs.declared.job.Standing.{Standing}
 use Rattle.claim_table.proofs.ListLemmas.{map-set_same, position-map}
 use Rattle.pool_engine.specs.Claiming as seen
 use Rattle.pool_engine.specs.Pool.{named_standing, queued}
-use Rattle.pool_engine.specs.Queue.{is_job}
-use Rattle.pool_engine.specs.State.{JobStanding, QueuedJob}
+use Rattle.pool_engine.specs.State.{JobStanding}
 use Rattle.pool_engine.proofs.JobLemmas.{named_once}
 use Rattle.pool_engine.proofs.MatchedLemmas.{standing_next}
 use Rattle.pool_engine.proofs.QueueLemmas.{AtMostOne, none_behind, once_behind}

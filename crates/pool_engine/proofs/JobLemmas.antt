@@ -1,6 +1,6 @@
 -- The jobs of a state behind the changes of a table.
-use Rattle.std.proofs.Common.{◌≡◌, ℕ, zero, suc, ◌≤◌, ◌<◌, All, Bool, true, false, not, ◌&&◌, ◌||◌, cond, eqb, List, [], ◌∷◌, ◌++◌, filter, find, length, map, position, slice_get, Option, None, Some, option_map, is_some, Result, Ok, Err, IfOk, OnOk, bytes_eq, sum_by, refl, sym, ◌∙◌, ap, arith}
-use Rattle.std.specs.List.{list_all, list_any, remove}
+use Rattle.std.proofs.Common.{◌≡◌, ℕ, suc, All, Bool, true, false, not, ◌||◌, cond, eqb, List, [], ◌∷◌, filter, find, length, map, position, slice_get, Option, None, Some, option_map, is_some, Result, Err, bytes_eq, refl, sym, ◌∙◌, ap}
+use Rattle.std.specs.List.{list_all, list_any}
 use Rattle.std.specs.Option.{option_and_then, option_map_or}
 use Rattle.std.specs.Result.{is_ok}
 use Rattle.std.specs.Cmp.Lexicographic.{bytes_decides}
@@ -8,11 +8,10 @@ use Rattle.ad_store.specs.Answers.{is_added, slots_put}
 use Rattle.ad_store.specs.declared.answers.Put.{Put}
 use Rattle.ad_store.specs.Stock.{Advert, Stock, has, is_named as is_advert, placed, slot_beside, slots_without, without}
 use Rattle.ad_store.proofs.HeldLemmas.{both, neither}
-use Rattle.claim_table.specs.declared.answers.NoJob.{NoJob}
 use Rattle.claim_table.specs.declared.job.Job.{Job}
 use Rattle.claim_table.specs.declared.job.Standing.{Standing}
-use Rattle.claim_table.specs.Answers.{no_job, without_at}
-use Rattle.claim_table.specs.Jobs.{AreExclusive, AreNamedApart, claim_of, claimed_by as claimer, is_named, job_named, lists, numbered, offer_of, offered_to as offeree, slots_of}
+use Rattle.claim_table.specs.Answers.{without_at}
+use Rattle.claim_table.specs.Jobs.{AreNamedApart, claim_of, claimed_by as claimer, is_named, job_named, lists, numbered, offer_of, offered_to as offeree, slots_of}
 use Rattle.claim_table.proofs.ListLemmas.{All-remove}
 use Rattle.pool_engine.specs.Pool.{name_in, named_standing, queued}
 use Rattle.pool_engine.specs.Ports.{HasOwnPorts}
@@ -20,7 +19,7 @@ use Rattle.pool_engine.specs.Queue.{claim_names, claimed_by, has_job, is_job, is
 use Rattle.pool_engine.specs.State.{JobStanding, QueuedJob, idle}
 use Rattle.pool_engine.specs.Stored.{are_stored, is_stored}
 use Rattle.pool_engine.proofs.NameLemmas.{AreBeside, beside-is, beside-put, beside-without, listed-named, lists-put, lists-without, named_beside}
-use Rattle.pool_engine.proofs.QueueLemmas.{AtMostOne, all_kept, all_more, any-map, filter-map, freed, idle_job, map-where, names-mapped, once_behind, none_behind, position-cons, queue-same, standing-same}
+use Rattle.pool_engine.proofs.QueueLemmas.{AtMostOne, all_kept, all_more, any-map, filter-map, freed, idle_job, names-mapped, once_behind, none_behind, position-cons, queue-same}
 
 -- ---- an ad that is put
 

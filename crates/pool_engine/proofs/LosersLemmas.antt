@@ -1,7 +1,7 @@
 -- Who loses resources to a claim: the jobs that are made idle, by numbers and by names.
-use Rattle.std.proofs.Common.{◌≡◌, ℕ, zero, suc, All, Bool, true, false, not, ◌||◌, cond, eqb, List, [], ◌∷◌, ◌++◌, fold, map, position, slice_get, slice_set, Option, None, Some, option_map, bytes_eq, refl, sym, ◌∙◌, ap, arith}
+use Rattle.std.proofs.Common.{◌≡◌, ℕ, zero, suc, Bool, true, false, ◌||◌, cond, eqb, List, [], ◌∷◌, ◌++◌, fold, map, slice_get, slice_set, Option, None, Some, option_map, bytes_eq, refl, sym, ◌∙◌, ap, arith}
 use Rattle.std.specs.Prelude.{flat_map}
-use Rattle.std.specs.List.{find, list_all, list_any}
+use Rattle.std.specs.List.{list_all, list_any}
 use Rattle.std.specs.Option.{option_and_then, option_map_or, option_to_list}
 use Rattle.std.specs.Cmp.Lexicographic.{bytes_decides}
 use Rattle.std.proofs.lemmas.Bool.Decides.{nat_tests}

@@ -1,13 +1,13 @@
 -- The names of resources in place of their slots.
-use Rattle.std.proofs.Common.{◌≡◌, ℕ, zero, suc, ◌+◌, Bool, true, false, not, ◌&&◌, ◌||◌, cond, eqb, List, [], ◌∷◌, ◌++◌, length, map, slice_get, Option, None, Some, bytes_eq, refl, sym, ◌∙◌, ap, arith}
+use Rattle.std.proofs.Common.{◌≡◌, ℕ, suc, ◌+◌, Bool, true, false, not, ◌||◌, cond, eqb, List, [], ◌∷◌, ◌++◌, length, map, slice_get, Option, Some, bytes_eq, refl, sym, ◌∙◌, ap, arith}
 use Rattle.std.specs.List.{list_all, list_any, position_or_len}
 use Rattle.std.specs.Option.{option_map_or}
 use Rattle.std.specs.Cmp.Lexicographic.{bytes_decides}
 use Rattle.std.proofs.lemmas.Bool.Decides.{nat_tests}
 use Rattle.ad_store.specs.Answers.{is_added, slots_put}
 use Rattle.ad_store.specs.declared.answers.Put.{Put}
-use Rattle.ad_store.specs.Stock.{Advert, Stock, has, is_named, placed, slot_beside, slots_without, without}
-use Rattle.ad_store.proofs.HeldLemmas.{both, neither, placed-new}
+use Rattle.ad_store.specs.Stock.{Advert, has, is_named, placed, slot_beside, slots_without, without}
+use Rattle.ad_store.proofs.HeldLemmas.{both, placed-new}
 use Rattle.claim_table.specs.Jobs.{lists}
 use Rattle.pool_engine.specs.Pool.{name_in}
 

@@ -1,5 +1,5 @@
 -- The pool of a state, by the names of its resources, and that of a table of jobs, by their slots: they say the same of each place.
-use Rattle.std.proofs.Common.{◌≡◌, ℕ, zero, suc, ◌+◌, ◌<◌, All, Bool, true, cond, eqb, Contains, List, [], ◌∷◌, count_by, length, map, slice_get, Option, None, Some, option_map, is_some, IfSome, refl, sym, ◌∙◌, ap, arith}
+use Rattle.std.proofs.Common.{◌≡◌, ℕ, zero, suc, ◌<◌, All, Bool, true, cond, eqb, Contains, List, [], ◌∷◌, count_by, length, map, slice_get, Option, None, Some, option_map, is_some, IfSome, refl, sym, ◌∙◌, ap, arith}
 use Rattle.std.specs.List.{position_or_len}
 use Rattle.std.specs.Option.{option_map_or}
 use Rattle.std.proofs.lemmas.List.Elements.{All-head, All-tail}
@@ -24,7 +24,6 @@ use Rattle.pool_engine.specs.Gangs.{gang_names}
 use Rattle.pool_engine.specs.Negotiation as seen
 use Rattle.pool_engine.specs.Pool.{name_in, queued}
 use Rattle.pool_engine.specs.Queue.{claimed_by, offered_to}
-use Rattle.pool_engine.specs.State.{QueuedJob}
 use Rattle.pool_engine.specs.Stored.{are_stored}
 use Rattle.pool_engine.proofs.DockLemmas.{free-same, holder-same, offered-same}
 use Rattle.pool_engine.proofs.MatchedLemmas.{IsOwned}

@@ -1,22 +1,19 @@
 -- The jobs of a table, and the jobs of a state, as resources and jobs come and go.
-use Rattle.std.proofs.Common.{◌≡◌, ℕ, zero, suc, ◌+◌, ◌<◌, All, Bool, true, false, not, ◌&&◌, ◌||◌, cond, eqb, ltb, List, [], ◌∷◌, ◌++◌, filter, find, get_or, length, map, position, slice_get, slice_set, Option, None, Some, option_map, is_some, bytes_eq, refl, sym, ◌∙◌, ap, arith}
-use Rattle.std.specs.List.{list_all, list_any, position_or_len, remove}
-use Rattle.std.specs.Option.{option_and_then, option_map_or}
+use Rattle.std.proofs.Common.{◌≡◌, ℕ, suc, ◌+◌, All, Bool, true, false, not, ◌&&◌, ◌||◌, cond, eqb, ltb, List, [], ◌∷◌, ◌++◌, filter, get_or, length, map, position, slice_get, slice_set, Option, None, Some, option_map, refl, sym, ◌∙◌, ap, arith}
+use Rattle.std.specs.List.{list_all, list_any, position_or_len}
+use Rattle.std.specs.Option.{option_map_or}
 use Rattle.std.proofs.lemmas.Bool.Decides.{nat_tests}
 use Rattle.std.proofs.lemmas.List.Elements.{All-map}
-use Rattle.std.specs.Cmp.Lexicographic.{bytes_decides}
-use Rattle.ad_store.specs.Stock.{Advert, Stock, is_named as is_advert, slot_beside, slots_without, without}
+use Rattle.ad_store.specs.Stock.{Stock}
 use Rattle.ad_store.proofs.HeldLemmas.{both, neither}
 use Rattle.claim_table.specs.declared.job.Job.{Job}
 use Rattle.claim_table.specs.declared.job.Standing.{Standing}
-use Rattle.claim_table.specs.Answers.{without_at}
-use Rattle.claim_table.specs.Jobs.{AreExclusive, AreNamedApart, claim_of, claimed_by as claimer, idle_at, is_named, job_named, lists, lost, numbered, offer_of, offered_to as offeree, slots_of, with_standing}
+use Rattle.claim_table.specs.Jobs.{AreExclusive, claim_of, claimed_by as claimer, idle_at, lists, lost, offer_of, offered_to as offeree, slots_of}
 use Rattle.pool_engine.specs.Pool.{name_in, named_standing, queued}
 use Rattle.pool_engine.specs.Ports.{HasOwnPorts}
-use Rattle.pool_engine.specs.Queue.{claim_names, claimed_by, has_job, is_job, is_listed, names_of, offer_names, offered_to, without_job, without_resources}
-use Rattle.pool_engine.specs.State.{JobStanding, QueuedJob, idle}
+use Rattle.pool_engine.specs.Queue.{names_of}
+use Rattle.pool_engine.specs.State.{JobStanding}
 use Rattle.pool_engine.specs.Stored.{are_stored, is_stored}
-use Rattle.pool_engine.proofs.NameLemmas.{AreBeside, beside-is, beside-without, equal_numbers, listed-named, lists-without, named_beside}
 
 -- ---- lists
 

@@ -1,6 +1,5 @@
 -- Jobs that are submitted and removed, as steps of the pool.
-use Rattle.std.proofs.Common.{◌≡◌, ℕ, ◌+◌, ◌≤◌, ◌<◌, Bool, true, false, not, ◌||◌, cond, leb, ltb, List, [], ◌∷◌, ◌++◌, length, map, sum_by, Option, None, Some, is_some, option_map, Result, Ok, Err, refl, sym, ◌∙◌, ap, inl, inr, arith}
-use Rattle.std.specs.List.{list_any}
+use Rattle.std.proofs.Common.{◌≡◌, ℕ, ◌+◌, ◌≤◌, ◌<◌, true, false, not, cond, leb, ltb, List, [], ◌∷◌, ◌++◌, length, map, Option, None, Some, is_some, option_map, Result, Ok, Err, refl, sym, ◌∙◌, ap, inl, inr, arith}
 use Rattle.std.proofs.lemmas.Bool.Decides.{nat_tests}
 use Rattle.std.proofs.lemmas.List.Sums.{sum_by-cons}
 use Rattle.ad_tree.specs.declared.ad.Ad.{Ad}
@@ -12,8 +11,7 @@ use Rattle.ad_parser.specs.Outcomes.{IsAdAnswer}
 use Rattle.ad_store.specs.Stock.{Advert, Stock}
 use Rattle.ad_store.proofs.HeldLemmas.{neither}
 use Rattle.claim_table.specs.declared.job.Job.{Job}
-use Rattle.claim_table.specs.declared.answers.SubmitFault.{SubmitFault}
-use Rattle.claim_table.specs.Jobs.{is_named, job_named, numbered, state_of as standing_state, text_of}
+use Rattle.claim_table.specs.Jobs.{is_named, job_named, text_of}
 use Rattle.negotiator.specs.Priorities.{Setting, lacks_place, with_setting}
 use Rattle.pool_replies.specs.Refusals.{is_fault_of_text}
 use Rattle.pool_replies.specs.declared.refusal.Refusal.{Refusal}

@@ -9,7 +9,7 @@ use Rattle.ad_parser.specs.declared.fault.ParseFault.{ParseFault}
 use Rattle.ad_parser.specs.declared.fault.ParseFault.TheVariants as faults
 use Rattle.ad_parser.specs.Outcomes.{HasAdOutcome, HasExprOutcome}
 use Rattle.ad_parser.proofs.Outcomes.{ad_outcome, ad_outcome-has, expr_outcome, expr_outcome-has}
-use Rattle.ad_store.specs.Stock.{Advert, has, lack, placed, without}
+use Rattle.ad_store.specs.Stock.{Advert, has, lack}
 use Rattle.std.specs.Option.{option_map_or}
 use Rattle.ad_store.specs.declared.answers.PutFault.{PutFault}
 use Rattle.gang_ports.specs.Ports.{ports_of}
@@ -31,15 +31,15 @@ use Rattle.pool_replies.specs.Replies.{reply_text}
 use Rattle.pool_engine.specs.Ends.{AnswersFirst, Effects, IsWriteFault, before_last}
 use Rattle.pool_engine.specs.Events.{events_of, replies_text, state_after}
 use Rattle.ad_printer.specs.Values.{printed_frame}
-use Rattle.negotiator.specs.Priorities.{lacks_place, with_setting}
+use Rattle.negotiator.specs.Priorities.{lacks_place}
 use Rattle.pool_engine.specs.Gangs.{gang, gang_names, line}
 use Rattle.pool_engine.specs.Ports.{has_bad_ports}
-use Rattle.pool_engine.specs.Queue.{has_job, job_refusal, job_text, without_job}
+use Rattle.pool_engine.specs.Queue.{has_job, job_refusal, job_text}
 use Rattle.claim_table.specs.Jobs.{jobs_limit, text_limit}
 use Rattle.claim_table.specs.declared.answers.JobState.{JobState}
 use Rattle.pool_engine.specs.State.{JobStanding, QueuedJob, State, claimed, idle, matched, opening}
 use Rattle.pool_engine.specs.Claiming.{checked, claim, claim_as, first_failing, job_named, losers, release, release_as, restood, without_holders}
-use Rattle.pool_engine.specs.Step.{ad_named, advertise, clock, eval, eval_beside, eval_in, live_ads, put_ad, query, refused, remove, room_of, set_priority, show, step, submit, take_job, withdraw}
+use Rattle.pool_engine.specs.Step.{ad_named, advertise, clock, eval, eval_beside, eval_in, put_ad, query, refused, remove, room_of, set_priority, show, step, submit, take_job, withdraw}
 
 -- ---- no reply is empty
 

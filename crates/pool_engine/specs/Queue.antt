@@ -1,7 +1,6 @@
 -- The jobs of a state, and what is offered to them and claimed by them.
 use Rattle.std.specs.Prelude.{ℕ, ◌+◌, Bool, nat_le, nat_lt, List, [], find, filter, length, map, not, sum_by, Option, None, Some, bytes_eq, if◌then◌else◌}
 use Rattle.std.specs.List.{list_any}
-use Rattle.ad_tree.specs.Frames.{Frame}
 use Rattle.claim_table.specs.Jobs.{jobs_limit, text_limit}
 use Rattle.pool_replies.specs.declared.refusal.Refusal.{Refusal}
 use Rattle.pool_replies.specs.declared.refusal.Refusal.TheVariants as why

@@ -1,4 +1,4 @@
-use Rattle.std.proofs.Common.{◌≡◌, ℕ, List, sym, ◌∙◌, ap}
+use Rattle.std.proofs.Common.{ℕ, List, sym, ◌∙◌, ap}
 use Rattle.pool_engine.specs.Books.{queue_of}
 use Rattle.pool_engine.specs.Indexed.{ads_of}
 use Rattle.pool_engine.specs.Pool.{state_with}

@@ -1,8 +1,7 @@
-use Rattle.std.proofs.Common.{◌≡◌, ◌≤◌, ◌+◌, ◌*◌, ℕ, true, List, [], map, Contains, Err, refl, sym, ◌∙◌, ap, subst}
+use Rattle.std.proofs.Common.{◌≡◌, ◌≤◌, ◌+◌, ◌*◌, ℕ, true, List, [], Contains, Err, refl, sym, ◌∙◌, ap, subst}
 use Rattle.ad_store.specs.Store.{stock_of}
 use Rattle.claim_table.specs.declared.answers.ClaimFault.{ClaimFault}
 use Rattle.claim_table.specs.declared.answers.JobState.{JobState}
-use Rattle.negotiator.specs.Priorities.{Setting}
 use Rattle.pool_replies.specs.Refusals.{is_printable_refusal, is_wrong_state}
 use Rattle.pool_replies.specs.Replies.{is_printable}
 use Rattle.pool_replies.specs.declared.refusal.Refusal.TheVariants as why

@@ -1,4 +1,4 @@
-use Rattle.std.proofs.Common.{◌≡◌, true, is_some, sym, ◌∙◌, ap, arith}
+use Rattle.std.proofs.Common.{is_some, sym, ◌∙◌, ap, arith}
 use Rattle.ad_store.specs.Store.{stock_of}
 use Rattle.claim_table.specs.Jobs.{state_of}
 use Rattle.claim_table.specs.Table.{jobs_of}

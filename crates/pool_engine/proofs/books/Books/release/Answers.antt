@@ -1,4 +1,3 @@
-use Rattle.std.proofs.Common.{ℕ}
 use Rattle.ad_store.specs.Store.{stock_of}
 use Rattle.claim_table.specs.Jobs.{numbered}
 use Rattle.claim_table.specs.Table.{jobs_of}

@@ -1,4 +1,4 @@
-use Rattle.std.proofs.Common.{◌≡◌, All, List, [], Ok, map, refl, sym, ◌∙◌, ap, subst}
+use Rattle.std.proofs.Common.{All, List, Ok, map, refl, sym, ◌∙◌, ap, subst}
 use Rattle.ad_store.specs.Store.{stock_of}
 use Rattle.claim_table.specs.declared.job.Job.{Job}
 use Rattle.claim_table.specs.Answers.{no_job}

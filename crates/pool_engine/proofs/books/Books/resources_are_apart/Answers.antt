@@ -1,4 +1,3 @@
-use Rattle.std.proofs.Common.{◌≡◌}
 use Rattle.ad_store.specs.Stock.{Stock}
 use Rattle.ad_store.specs.Store.{stock_of}
 use Rattle.claim_table.specs.Table.{jobs_of}

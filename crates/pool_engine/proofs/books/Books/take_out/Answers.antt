@@ -1,5 +1,5 @@
-use Rattle.std.proofs.Common.{◌≡◌, ◌||◌, not, true, bytes_eq, List, Result, refl, sym, ◌∙◌, ap}
-use Rattle.ad_store.specs.Stock.{Advert, has, is_live, without}
+use Rattle.std.proofs.Common.{◌||◌, not, bytes_eq, List, sym, ◌∙◌, ap}
+use Rattle.ad_store.specs.Stock.{Advert, is_live, without}
 use Rattle.ad_store.specs.Store.{stock_of}
 use Rattle.pool_engine.specs.Books.{queue_of}
 use Rattle.pool_engine.specs.Indexed.{ads_of}

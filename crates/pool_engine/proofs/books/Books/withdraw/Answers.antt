@@ -1,4 +1,4 @@
-use Rattle.std.proofs.Common.{◌≡◌, All, List, [], is_some, map, sym, ◌∙◌, ap, subst}
+use Rattle.std.proofs.Common.{◌≡◌, All, List, is_some, map, sym, ◌∙◌, ap, subst}
 use Rattle.ad_store.specs.Stock.{Stock, has, is_named, slots_without, without}
 use Rattle.ad_store.specs.Store.{stock_of}
 use Rattle.ad_store.proofs.HeldLemmas.{without-absent}

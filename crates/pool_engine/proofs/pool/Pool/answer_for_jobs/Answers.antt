@@ -1,4 +1,4 @@
-use Rattle.std.proofs.Common.{◌≡◌, ◌≤◌, ◌+◌, ◌*◌, ℕ, List, length, sym, ◌∙◌, ap, arith, subst}
+use Rattle.std.proofs.Common.{◌≤◌, ◌+◌, ◌*◌, ℕ, List, length, sym, ◌∙◌, ap, arith, subst}
 use Rattle.ad_parser.proofs.Outcomes.{ad_outcome}
 use Rattle.negotiator.specs.Settings.{settings_of}
 use Rattle.pool_engine.specs.Pool.{state_of}

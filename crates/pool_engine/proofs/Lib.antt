@@ -34,5 +34,6 @@ mod WireAnswerLemmas
 mod WireEndLemmas
 mod WireReadingLemmas
 mod WireRunningLemmas
+mod WireTimeLemmas
 mod WireTookLemmas
 mod WroteLemmas

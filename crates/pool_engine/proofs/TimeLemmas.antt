@@ -328,7 +328,7 @@ empty (x ∷ l) none = absurd (omega arith)
 some_same : (xs known : List ℕ) → ◌≡◌ {A = Option (List ℕ)} (Some xs) (Some known) → xs ≡ known
 some_same xs known same = cc
 
-none_appended : (old new : Option (List ℕ)) (known text : List ℕ) → old ≡ Some known → new ≡ Some known → Appends old new text → length text ≡ 0
+pub none_appended : (old new : Option (List ℕ)) (known text : List ℕ) → old ≡ Some known → new ≡ Some known → Appends old new text → length text ≡ 0
 none_appended None new known text from to appends = absurd (cc)
 none_appended (Some xs) None known text from to appends = absurd (cc)
 none_appended (Some xs) (Some ys) known text from to appends =

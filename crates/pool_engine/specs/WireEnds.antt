@@ -44,6 +44,13 @@ pub record IsWireWriteFault (w : WireState) (s t : Supply) (k m : Intake) : Type
   pub in_time : length (ended_lines (before_last t bytes)) ≤ length front
   pub broke : Broke k m (wire_text w front) (answer (wire_after w front) cut).text
 
+-- a line that had no reply is passed over: the first reply with a byte was offered alone and whole, and none was due before the
+-- last read
+pub record WireAnswersFirst (w : WireState) (t : Supply) (m : Intake) (bytes : List ℕ) (front : List Line) (cut : Line) : Type 0 where
+  pub first : wire_text w front ≡ []
+  pub alone : m.offered ≡ length (answer (wire_after w front) cut).text
+  pub in_time : wire_text w (ended_lines (before_last t bytes)) ≡ []
+
 -- one byte past the limit was read: the replies to the lines that had ended before it were taken
 pub record IsWireTooLong (w : WireState) (s t : Supply) (k m : Intake) : Type 0 where
   pub bytes : List ℕ

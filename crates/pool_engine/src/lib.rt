@@ -1,4 +1,5 @@
-//! The pool: runs the commands of a script that a source gives, and offers the replies to a sink.
+//! The pool: runs the commands of a script that a source gives, and offers the replies to a sink. So it runs the lines of a
+//! schedule of the claiming protocol.
 #![tactic(auto)]
 
 mod ads;
@@ -17,6 +18,7 @@ mod query;
 mod run;
 mod session;
 mod wire;
+mod wire_laws;
 mod wire_session;
 
 pub use command_line::Asked;
@@ -24,3 +26,4 @@ pub use laws::the_first_reply_is_offered_at_once;
 pub use pool::Pool;
 pub use run::{RunEnd, run_pool};
 pub use wire::run_wire;
+pub use wire_laws::the_first_reply_of_a_wire_is_offered_at_once;

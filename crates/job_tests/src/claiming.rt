@@ -131,12 +131,7 @@ impl Pool {
         requires { AreStored self.old.store self.old.table }
         ensures { AreStored self.new.store self.new.table }
     {
-        self.claim_counted::<Brand, Brand, Brand>(
-            name,
-            Blank::new(1),
-            Blank::new(1),
-            Blank::new(1),
-        )
+        self.claim_counted::<Brand, Brand, Brand>(name, Blank::new(1), Blank::new(1), Blank::new(1))
     }
 
     // Why a job can't claim what is offered to it.
@@ -410,10 +405,7 @@ fn a_gang_takes_from_two_jobs(rt: HostRuntime) -> Result<(), Fail> {
     pool.submit(b"g", b"gil", gang(alloc, 2)?)?;
     pool.offer_two(2, 1, 0)?;
     let freed = pool.claim(b"g")?;
-    assert_eq!(rt;
-        told(alloc, &freed)?.as_str(),
-        "b of bob: 1; a of ann: 0; "
-    );
+    assert_eq!(rt; told(alloc, &freed)?.as_str(), "b of bob: 1; a of ann: 0; ");
     assert_eq!(rt; pool.table.state(b"a"), Some(JobState::Idle));
     assert_eq!(rt; pool.table.state(b"b"), Some(JobState::Idle));
     assert_eq!(rt; pool.table.slots(b"g"), [1, 0].as_slice());

@@ -1,4 +1,4 @@
-use Rattle.std.proofs.Common.{ℕ, All, Contains, List, [], ◌∷◌, subst, sym}
+use Rattle.std.proofs.Common.{ℕ, All, Contains, List, [], subst, sym}
 use Rattle.std.proofs.lemmas.List.Elements.{All-cons, All-nil}
 use Rattle.ad_store.specs.Store.{stock_of}
 use Rattle.claim_table.specs.declared.job.Job.{Job}

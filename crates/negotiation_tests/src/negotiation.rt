@@ -120,12 +120,7 @@ fn submit(
 }
 
 // Adds a job that wants two machines.
-fn submit_gang(
-    alloc: Global,
-    jobs: &mut ClaimTable,
-    name: &[u8],
-    user: &[u8],
-) -> Result<(), Fail>
+fn submit_gang(alloc: Global, jobs: &mut ClaimTable, name: &[u8], user: &[u8]) -> Result<(), Fail>
     requires { AreFresh (jobs_of jobs.old) }
     ensures { OnOk result (AreFresh (jobs_of jobs.new)) }
 {

@@ -16,6 +16,7 @@ mod LosersLemmas
 mod MarketLemmas
 mod MatchedLemmas
 mod NameLemmas
+mod PostingLemmas
 mod QueueLemmas
 mod ReadingLemmas
 mod RowLemmas

@@ -7,7 +7,9 @@ pub mod Events
 pub mod Indexed
 pub mod Limits
 pub mod Negotiation
+pub mod Notices
 pub mod Pool
+pub mod Posting
 pub mod Queue
 pub mod Rows
 pub mod Session

@@ -12,6 +12,7 @@ mod GrantedLemmas
 mod HitLemmas
 mod IndexLemmas
 mod JobLemmas
+mod LossLemmas
 mod LosersLemmas
 mod MarketLemmas
 mod MatchedLemmas

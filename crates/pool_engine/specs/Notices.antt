@@ -1,8 +1,9 @@
 -- What a command tells of jobs to their users and to the resources.
-use Rattle.std.specs.Prelude.{ℕ, ◌==◌, Bool, not, List, [], ◌∷◌, ◌++◌, codes, filter, fold, map, position, slice_get, Option, None, Some, if◌then◌else◌}
-use Rattle.std.specs.List.{flat_map, list_any}
+use Rattle.std.specs.Prelude.{ℕ, not, List, [], ◌∷◌, ◌++◌, codes, filter, fold, map, position, slice_get, Option, if◌then◌else◌}
+use Rattle.std.specs.List.{flat_map}
 use Rattle.std.specs.Option.{option_map_or}
 use Rattle.ad_store.specs.Stock.{Advert, has, is_live}
+use Rattle.claim_table.specs.Claims.{once}
 use Rattle.pool_script.specs.declared.command.Command.{Command}
 use Rattle.pool_script.specs.declared.command.Command.TheVariants as command
 use Rattle.pool_replies.specs.Cycles.{with_blanks}
@@ -53,18 +54,13 @@ claimed_at name jobs = position (λ job. is_listed name (claim_names job.standin
 abbrev pub offered_at : List ℕ → List QueuedJob → Option ℕ
 offered_at name jobs = position (λ job. is_listed name (offer_names job.standing)) jobs
 
--- places with one more at the end, where there is one and unless it is among them
-abbrev pub with_place : List ℕ → Option ℕ → List ℕ
-with_place places None = places
-with_place places (Some i) = if list_any (λ place. place == i) places then places else places ++ i ∷ []
-
 -- the places of the jobs that have claimed these resources, each once, resource by resource
 abbrev pub holders : List QueuedJob → List (List ℕ) → List ℕ
-holders jobs names = fold (λ places name. with_place places (claimed_at name jobs)) [] names
+holders jobs names = fold (λ places name. once places (claimed_at name jobs)) [] names
 
 -- the places of the jobs that have these resources: of each, first the job that has claimed it, then the one that it is offered to
 abbrev pub had_by : List QueuedJob → List (List ℕ) → List ℕ
-had_by jobs names = fold (λ places name. with_place (with_place places (claimed_at name jobs)) (offered_at name jobs)) [] names
+had_by jobs names = fold (λ places name. once (once places (claimed_at name jobs)) (offered_at name jobs)) [] names
 
 -- the job at each place loses what it has
 abbrev pub loss_at : List QueuedJob → ℕ → List Notice

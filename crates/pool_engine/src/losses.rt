@@ -1,19 +1,18 @@
 // The jobs that a command takes resources from, and the notices of that.
-ghost use Rattle.std.specs.Prelude.{◌≡◌, ◌<◌, ◌++◌, List, [], ℕ, All, Contains, codes, length, map, option_map, slice_get, IfNone, IfOk, IfSome, None, OnOk, Some};
-ghost use Rattle.std.specs.List.{list_any};
+ghost use Rattle.std.specs.Prelude.{◌≡◌, ◌<◌, ◌++◌, ℕ, All, Contains, length, map, option_map, slice_get, IfOk, IfSome, OnOk, Some};
 ghost use Rattle.ad_store.specs.Stock.{is_live};
 ghost use Rattle.ad_store.specs.Store.{stock_of};
+ghost use Rattle.claim_table.specs.Claims.{once};
 ghost use Rattle.claim_table.specs.Jobs.{numbered};
 ghost use Rattle.claim_table.specs.Table.{jobs_of};
 ghost use Rattle.pool_engine.specs.Books.{queue_of};
-ghost use Rattle.pool_engine.specs.Claiming.{job_named};
 ghost use Rattle.pool_engine.specs.Indexed.{ads_of};
 ghost use Rattle.pool_engine.specs.Notices as rules;
 ghost use Rattle.pool_engine.specs.Pool.{name_in};
 
 use crate::books::Books;
 use crate::claiming::names_given;
-use crate::notices::about;
+use crate::notices::{about, is_same};
 use crate::posting::{Notice, NoticeList};
 use ad_store::Store;
 use claim_table::ClaimTable;
@@ -98,7 +97,7 @@ fn place_of(claims: &ClaimTable, job: &[u8]) -> Option<usize>
     ensures place { result ≡ numbered job.now (jobs_of claims.now) }
 {
     for i in 0..claims.len() {
-        if claims.job(i).bytes() == job {
+        if is_same(claims.job(i), job) {
             return Some(i);
         }
     }
@@ -130,11 +129,12 @@ fn tell_loss(
     let claims = &books.claims;
     claims.names_are_apart();
     let job = claims.job(place);
+    let user = claims.user(place);
     let names = names_given(alloc, books, job.bytes())?;
     if names.len() == 0 {
         return Ok(());
     }
-    list.push(about(alloc, b"freed ", claims.user(place), job, &names)?)
+    list.push(about(alloc, b"freed ", user, job, &names)?)
 }
 
 // The notice of a word about the job at a place.
@@ -189,7 +189,7 @@ fn holders(alloc: Global, books: &Books, slots: &[usize]) -> Result<Slots, OutOf
 
 // Adds a place where there is one, unless it is among the others.
 fn add_place(places: &mut Slots, place: Option<usize>) -> Result<(), OutOfMemory>
-    ensures { OnOk result (places.new ≡ rules.with_place places.old place) }
+    ensures { OnOk result (places.new ≡ once places.old place) }
 {
     let Some(i) = place else {
         return Ok(());

@@ -1,5 +1,5 @@
 // Notices about jobs, and those of a step by its reply.
-ghost use Rattle.std.specs.Prelude.{◌≡◌, ◌++◌, ◌∷◌, IfOk, OnOk};
+ghost use Rattle.std.specs.Prelude.{◌≡◌, ◌++◌, ◌∷◌, bytes_eq, IfOk, OnOk};
 ghost use Rattle.pool_replies.specs.Cycles.{with_blanks};
 ghost use Rattle.pool_engine.specs.Notices as rules;
 ghost use Rattle.pool_engine.specs.Queue.{is_listed};
@@ -53,11 +53,18 @@ fn has_name(names: &Names, name: &[u8]) -> bool
     ensures { result ≡ is_listed name.now names.now }
 {
     for other in names.as_slice() {
-        if other.bytes() == name {
+        if is_same(other, name) {
             return true;
         }
     }
     false
+}
+
+/// Whether a text has these bytes.
+pub(crate) fn is_same(text: &Text, bytes: &[u8]) -> bool
+    ensures { result ≡ bytes_eq bytes.now text.now }
+{
+    bytes == text.bytes()
 }
 
 // The word, the job and the resources, with a blank before each of these.

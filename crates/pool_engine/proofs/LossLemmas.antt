@@ -16,7 +16,7 @@ use Rattle.claim_table.proofs.ListLemmas.{position-map}
 use Rattle.pool_engine.specs.declared.posting.Notice.{Notice}
 use Rattle.pool_engine.specs.ClaimAnswers.{names_given}
 use Rattle.pool_engine.specs.Claiming.{job_named}
-use Rattle.pool_engine.specs.Notices.{about, about_job, claimed_at, expired_names, had_by, holders, loss, loss_at, loss_of, offered_at}
+use Rattle.pool_engine.specs.Notices.{about, about_job, claimed_at, expired_names, granted_to, had_by, holders, loss, loss_at, loss_of, losses, offered_at}
 use Rattle.pool_engine.specs.Pool.{name_in, named_standing, queued}
 use Rattle.pool_engine.specs.Queue.{claim_names, is_job, is_listed, names_of, offer_names}
 use Rattle.pool_engine.specs.State.{QueuedJob}
@@ -194,34 +194,53 @@ module _ (stock : Stock) (beside : AreBeside stock.ads stock.slots) (jobs : List
 
 -- ---- ads that leave
 
--- an ad that is live, or not
-record Lived (now : ℕ) (o : Option Advert) (live : Bool) : Type 0 where
+-- the name in a slot is that of the ad at its place
+pub name-there : (stock : Stock) → ((i j slot : ℕ) → slice_get stock.slots i ≡ Some slot → slice_get stock.slots j ≡ Some slot → i ≡ j) → (place slot : ℕ) (advert : Advert) → slice_get stock.slots place ≡ Some slot → slice_get stock.ads place ≡ Some advert → name_in stock slot ≡ advert.name
+name-there stock apart place slot advert slot_at at =
+    ap (λ k. option_map_or (λ (a : Advert). a.name) (slice_get stock.ads k) []) (position-at stock.slots place slot slot_at (λ j at_j. apart j place slot at_j slot_at)) ∙ ap (λ o. option_map_or (λ (a : Advert). a.name) o []) at
+
+-- an ad that isn't live, or is
+record Lived (now : ℕ) (o : Option Advert) (ended : Bool) : Type 0 where
   advert : Advert
   at : o ≡ Some advert
-  is : is_live now advert ≡ live
+  is : not (is_live now advert) ≡ ended
 
-lived : (now : ℕ) (o : Option Advert) (live : Bool) → option_map (is_live now) o ≡ Some live → Lived now o live
-lived now None live is = absurd (cc)
-lived now (Some advert) live is = record { advert = advert; at = refl; is = cc }
+lived : (now : ℕ) (o : Option Advert) (ended : Bool) → option_map (λ a. not (is_live now a)) o ≡ Some ended → Lived now o ended
+lived now None ended is = absurd (cc)
+lived now (Some advert) ended is = record { advert = advert; at = refl; is = cc }
 
-module _ (stock : Stock) (apart : (i j slot : ℕ) → slice_get stock.slots i ≡ Some slot → slice_get stock.slots j ≡ Some slot → i ≡ j) (now i slot : ℕ) (at : slice_get stock.slots i ≡ Some slot) (live : Bool) (tested : option_map (is_live now) (slice_get stock.ads i) ≡ Some live) where
-  the : Lived now (slice_get stock.ads i) live
-  the = lived now (slice_get stock.ads i) live tested
+module _ (stock : Stock) (apart : (i j slot : ℕ) → slice_get stock.slots i ≡ Some slot → slice_get stock.slots j ≡ Some slot → i ≡ j) (now i slot : ℕ) (at : slice_get stock.slots i ≡ Some slot) (ended : Bool) (tested : option_map (λ a. not (is_live now a)) (slice_get stock.ads i) ≡ Some ended) where
+  the : Lived now (slice_get stock.ads i) ended
+  the = lived now (slice_get stock.ads i) ended tested
 
   own_name : name_in stock slot ≡ the.advert.name
-  own_name = ap (λ k. option_map_or (λ (a : Advert). a.name) (slice_get stock.ads k) []) (position-at stock.slots i slot at (λ j at_j. apart j i slot at_j at)) ∙ ap (λ o. option_map_or (λ (a : Advert). a.name) o []) the.at
+  own_name = name-there stock apart i slot the.advert at the.at
 
-  more : expired_names now (take (i + 1) stock.ads) ≡ expired_names now (take i stock.ads) ++ map (λ (a : Advert). a.name) (cond (not live) (the.advert ∷ []) [])
+  more : expired_names now (take (i + 1) stock.ads) ≡ expired_names now (take i stock.ads) ++ map (λ (a : Advert). a.name) (cond ended (the.advert ∷ []) [])
   more =
       ap (expired_names now) (take-next stock.ads i the.advert the.at)
       ∙ ap (map (λ (a : Advert). a.name)) (filter-append (λ (a : Advert). not (is_live now a)) (take i stock.ads) (the.advert ∷ []))
       ∙ map-append (λ (a : Advert). a.name) _ _
-      ∙ ap (λ b. expired_names now (take i stock.ads) ++ map (λ (a : Advert). a.name) (cond (not b) (the.advert ∷ []) [])) the.is
+      ∙ ap (λ b. expired_names now (take i stock.ads) ++ map (λ (a : Advert). a.name) (cond b (the.advert ∷ []) [])) the.is
 
-  pub expired-stays : (slots : List ℕ) → live ≡ true → map (name_in stock) slots ≡ expired_names now (take i stock.ads) → map (name_in stock) slots ≡ expired_names now (take (i + 1) stock.ads)
-  expired-stays slots is before = before ∙ sym (more ∙ ap (λ b. expired_names now (take i stock.ads) ++ map (λ (a : Advert). a.name) (cond (not b) (the.advert ∷ []) [])) is ∙ append-nil _)
+  pub expired-stays : (slots : List ℕ) → ended ≡ false → map (name_in stock) slots ≡ expired_names now (take i stock.ads) → map (name_in stock) slots ≡ expired_names now (take (i + 1) stock.ads)
+  expired-stays slots isnt before = before ∙ sym (more ∙ ap (λ b. expired_names now (take i stock.ads) ++ map (λ (a : Advert). a.name) (cond b (the.advert ∷ []) [])) isnt ∙ append-nil _)
 
-  pub expired-leaves : (slots : List ℕ) → live ≡ false → map (name_in stock) slots ≡ expired_names now (take i stock.ads) → map (name_in stock) (slots ++ slot ∷ []) ≡ expired_names now (take (i + 1) stock.ads)
-  expired-leaves slots isnt before =
+  pub expired-leaves : (slots : List ℕ) → ended ≡ true → map (name_in stock) slots ≡ expired_names now (take i stock.ads) → map (name_in stock) (slots ++ slot ∷ []) ≡ expired_names now (take (i + 1) stock.ads)
+  expired-leaves slots is before =
       map-append (name_in stock) slots (slot ∷ []) ∙ ap (λ l. l ++ name_in stock slot ∷ []) before ∙ ap (λ n. expired_names now (take i stock.ads) ++ n ∷ []) own_name
-      ∙ sym (more ∙ ap (λ b. expired_names now (take i stock.ads) ++ map (λ (a : Advert). a.name) (cond (not b) (the.advert ∷ []) [])) isnt)
+      ∙ sym (more ∙ ap (λ b. expired_names now (take i stock.ads) ++ map (λ (a : Advert). a.name) (cond b (the.advert ∷ []) [])) is)
+
+-- ---- a claim that is granted
+
+pub given-names : (stock : Stock) (name : List ℕ) (jobs : List Job) (slots : List ℕ) (q : QueuedJob) → slots ≡ option_map_or (λ job. slots_of job.standing) (job_numbered name jobs) [] → job_named name (map (queued stock) jobs) ≡ Some q → map (name_in stock) slots ≡ names_of q.standing
+given-names stock name jobs slots q are named =
+    ap (map (name_in stock)) are ∙ given-seen stock name jobs ∙ ap (λ o. option_map_or (λ (j : QueuedJob). names_of j.standing) o []) named
+
+-- by the job that is found
+pub granted-is : (queue : List QueuedJob) (found : Option QueuedJob) (names : List (List ℕ)) (notice : Notice) → ((q : QueuedJob) → found ≡ Some q → names ≡ names_of q.standing) → option_map (about_job (codes "claimed ")) found ≡ Some notice
+    → losses queue (holders queue names) ++ notice ∷ [] ≡ option_map_or (granted_to queue) found []
+granted-is queue None names notice have told = absurd (cc)
+granted-is queue (Some q) names notice have told =
+    let same : about_job (codes "claimed ") q ≡ notice = cc in
+    ap (λ ns. losses queue (holders queue ns) ++ notice ∷ []) (have q refl) ∙ ap (λ (n : Notice). losses queue (holders queue (names_of q.standing)) ++ n ∷ []) (sym same)

@@ -1,5 +1,5 @@
 // The jobs that a command takes resources from, and the notices of that.
-ghost use Rattle.std.specs.Prelude.{◌≡◌, ◌<◌, ◌++◌, ℕ, All, Contains, length, map, option_map, slice_get, IfOk, IfSome, OnOk, Some};
+ghost use Rattle.std.specs.Prelude.{◌≡◌, ◌<◌, ◌++◌, ℕ, All, Contains, length, map, not, option_map, slice_get, IfOk, IfSome, OnOk, Some};
 ghost use Rattle.ad_store.specs.Stock.{is_live};
 ghost use Rattle.ad_store.specs.Store.{stock_of};
 ghost use Rattle.claim_table.specs.Claims.{once};
@@ -59,6 +59,7 @@ fn losses_at(alloc: Global, books: &Books, now: u64) -> Result<NoticeList, OutOf
 fn losses_of(alloc: Global, books: &Books, name: &[u8]) -> Result<NoticeList, OutOfMemory>
     ensures { IfOk result (λ list. list ≡ rules.granted (ads_of books.now.ads) (queue_of books.now) (Command.Withdraw name.now)) }
 {
+    books.ads.store.slots_are_apart();
     let Some(slot) = books.ads.store.slot_of(name) else {
         return Ok(NoticeList::new(alloc));
     };
@@ -85,9 +86,10 @@ fn loss_named(alloc: Global, books: &Books, job: &[u8]) -> Result<NoticeList, Ou
     ensures { IfOk result (λ list. list ≡ rules.loss_named job.now (queue_of books.now)) }
 {
     let mut list = NoticeList::new(alloc);
-    if let Some(i) = place_of(&books.claims, job) {
-        tell_loss(alloc, books, i, &mut list)?;
-    }
+    let Some(i) = place_of(&books.claims, job) else {
+        return Ok(list);
+    };
+    tell_loss(alloc, books, i, &mut list)?;
     Ok(list)
 }
 
@@ -211,19 +213,19 @@ fn expired(alloc: Global, store: &Store, now: u64) -> Result<Slots, OutOfMemory>
     let mut slots = Slots::new(alloc);
     for i in 0..store.len() {
         let slot = store.at(i);
-        if !is_live_in(store, slot, now) {
+        if has_ended(store, slot, now) {
             slots.push(slot)?;
         }
     }
     Ok(slots)
 }
 
-// Whether the ad in a slot is live at a moment.
-fn is_live_in(store: &Store, slot: usize, now: u64) -> bool
+// Whether the ad in a slot isn't live at a moment.
+fn has_ended(store: &Store, slot: usize, now: u64) -> bool
     requires { Contains (stock_of store.now).slots slot }
     ensures { (i : ℕ) → slice_get (stock_of store.now).slots i ≡ Some slot
-        → option_map (is_live now) (slice_get (stock_of store.now).ads i) ≡ Some result }
+        → option_map (λ advert. not (is_live now advert)) (slice_get (stock_of store.now).ads i) ≡ Some result }
 {
     let born = store.born(slot);
-    now < born || now - born < store.lifetime(slot)
+    now >= born && now - born >= store.lifetime(slot)
 }

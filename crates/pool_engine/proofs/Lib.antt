@@ -9,6 +9,7 @@ mod ExpiryLemmas
 mod FailingLemmas
 mod FoundLemmas
 mod GrantedLemmas
+mod HeardLemmas
 mod HitLemmas
 mod IndexLemmas
 mod JobLemmas
@@ -18,6 +19,7 @@ mod MarketLemmas
 mod MatchedLemmas
 mod NameLemmas
 mod PostingLemmas
+mod OneJobLemmas
 mod QueueLemmas
 mod ReadingLemmas
 mod RowLemmas

@@ -1,9 +1,11 @@
+pub mod Apart
 pub mod Books
 pub mod Changes
 pub mod ClaimAnswers
 pub mod Claiming
 pub mod Ends
 pub mod Events
+pub mod Heard
 pub mod Indexed
 pub mod Limits
 pub mod Negotiation

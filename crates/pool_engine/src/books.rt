@@ -9,7 +9,7 @@ ghost use Rattle.negotiator.specs.Priorities.{Setting};
 ghost use Rattle.negotiator.specs.Settings.{settings_of};
 ghost use Rattle.pool_replies.specs.declared.rows.SpinRow.{SpinRow};
 ghost use Rattle.pool_engine.specs.Negotiation as steps;
-ghost use Rattle.pool_engine.specs.Queue.{has_job, job_refusal, without_job, without_resources};
+ghost use Rattle.pool_engine.specs.Queue.{claim_names, has_job, job_refusal, names_of, offer_names, without_job, without_resources};
 ghost use Rattle.pool_engine.specs.State.{idle};
 ghost use Rattle.pool_engine.specs.Step.{has_expired, live_ads};
 ghost use Rattle.pool_engine.specs.Stored.{are_stored};
@@ -36,6 +36,7 @@ pub(crate) struct Books {
 
 impl Books {
     ghost use Rattle.ad_store.specs.Stock.{Advert};
+    ghost use Rattle.pool_engine.specs.Apart.{AreExclusive};
     ghost use Rattle.pool_engine.specs.Books.{queue_of};
     ghost use Rattle.pool_engine.specs.ClaimAnswers.{IsClaimAnswer, IsReleaseAnswer};
     ghost use Rattle.pool_engine.specs.Claiming.{offered_for_claim, undecided_for_claim};
@@ -52,6 +53,18 @@ impl Books {
             ads: IndexedStore::new(alloc),
             claims: ClaimTable::new(alloc),
         }
+    }
+
+    /// Law: no two jobs list one resource in their offers, and none in their claims; and each resource of a job is an ad that is
+    /// held.
+    pub(crate) fn resources_are_apart(&self)
+        ensures offers { AreExclusive offer_names (queue_of self.now) }
+        ensures claims { AreExclusive claim_names (queue_of self.now) }
+        ensures held { All (λ job. All (λ name. has name (ads_of self.now.ads) ≡ true) (names_of job.standing)) (queue_of self.now) }
+    {
+        self.claims.resources_are_apart();
+        self.ads.store.names_are_apart();
+        self.ads.store.slots_are_apart();
     }
 
     /// Puts an ad under a name, as the store does, and counts at most two in `touch`. The jobs stay as they are, unless

@@ -1,10 +1,13 @@
 // Notices about jobs, and those of a step by its reply.
-ghost use Rattle.std.specs.Prelude.{◌≡◌, ◌++◌, ◌∷◌, bytes_eq, IfOk, OnOk};
+ghost use Rattle.std.specs.Prelude.{◌≡◌, ◌++◌, ◌∷◌, bytes_eq, IfOk, OnErr, OnOk};
+ghost use Rattle.std.specs.List.{AllZip};
 ghost use Rattle.pool_replies.specs.Cycles.{with_blanks};
 ghost use Rattle.pool_engine.specs.Notices as rules;
+ghost use Rattle.pool_engine.specs.Posting.{RowAfter, posts_of_all};
 ghost use Rattle.pool_engine.specs.Queue.{is_listed};
 
-use crate::posting::{Notice, NoticeList};
+use crate::posting::{Notice, NoticeList, post_all};
+use notice_desk::Notices;
 use pool_replies::{Refusal, Reply, SpinRow, SpinRows, TurnRow};
 use pool_text::{Names, OutOfMemory, Text};
 use std::alloc::Global;
@@ -80,8 +83,25 @@ fn line(alloc: Global, word: &[u8], job: &Text, names: &Names) -> Result<Text, O
     Ok(line)
 }
 
-/// The notices of a step that is answered so, from those of a command that isn't refused and those of a stale claim.
-pub(crate) fn told(
+/// Posts the notices of a step that is answered so to a desk. All memory is taken before the first post.
+pub(crate) fn tell<D: Notices>(
+    alloc: Global,
+    reply: &Reply,
+    granted: NoticeList,
+    stale: NoticeList,
+    desk: &mut D,
+) -> Result<(), OutOfMemory>
+    ensures posted { OnOk result (AllZip (RowAfter (posts_of_all (rules.told reply.now granted stale)))
+        (D.shows desk.old) (D.shows desk.new)) }
+    ensures none { OnErr result (D.shows desk.new ≡ D.shows desk.old) }
+{
+    let notices = told(alloc, reply, granted, stale)?;
+    post_all(desk, &notices);
+    Ok(())
+}
+
+// The notices of a step that is answered so, from those of a command that isn't refused and those of a stale claim.
+fn told(
     alloc: Global,
     reply: &Reply,
     granted: NoticeList,

@@ -13,7 +13,7 @@ pub returns-in-Submit-clause-step : goal.returns-in-Submit-clause-step
 unfolding step state_of
 returns-in-Submit-clause-step g c =
     let s : State = state_of c.args.self.now in
-    if_ok c.submit.result _ _ (λ reply is. ap (step s) c.in-Submit.is ∙ ap (λ (block : List ℕ). submit s c.in-Submit.job c.in-Submit.user (length block) (ad_outcome block)) (sym c.bytes-in-Submit.ensures) ∙ is c.args.self.now.moment (settings_of c.args.self.now.priorities)) c.submit.ensures.step
+    if_ok c.submit.result _ _ (λ reply is. ap (step s) c.in-Submit.is ∙ ap (λ (block : List ℕ). submit s c.in-Submit.job c.in-Submit.user (length block) (ad_outcome block)) (sym c.bytes.ensures) ∙ is c.args.self.now.moment (settings_of c.args.self.now.priorities)) c.submit.ensures.step
 
 pub returns-in-Remove-clause-step : goal.returns-in-Remove-clause-step
 unfolding step state_of

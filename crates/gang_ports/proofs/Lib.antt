@@ -1,8 +1,11 @@
+mod AlikeLemmas
 mod CandidateLemmas
 mod CountLemmas
 mod DockLemmas
+mod FreePortLemmas
 mod LawLemmas
 mod ListLemmas
+mod NearLemmas
 mod OrderLemmas
 mod PoolLemmas
 mod PortLemmas

@@ -1,14 +1,14 @@
 -- That the computed tuple is the first, and what is left to choose among where fewer places are free.
-use Rattle.std.proofs.Common.{◌≡◌, ◌≤◌, ℕ, zero, suc, Bool, true, false, cond, if◌then◌else◌, refl, List, [], ◌∷◌, ◌++◌, length, map, filter, get_or, sum_by, Option, None, Some, All, Contains, ap, sym, ◌∙◌, subst, arith, Less, Equal, Greater}
+use Rattle.std.proofs.Common.{◌≡◌, ◌≤◌, ℕ, zero, suc, Bool, true, false, cond, if◌then◌else◌, refl, List, [], ◌∷◌, ◌++◌, length, map, filter, get_or, sum_by, Option, None, Some, All, ap, sym, ◌∙◌, subst, arith, Less, Equal, Greater}
 use Rattle.std.specs.List.{flat_map}
 use Rattle.std.specs.Ordering.{is_lt, ordering_reverse, ordering_then}
 use Rattle.std.specs.declared.cmp.Ordering.{Ordering}
 use Rattle.std.proofs.lemmas.Cmp.{tied_itself}
-use Rattle.std.proofs.lemmas.List.Elements.{All-cons, All-filter, All-map, All-nil, Contains-get_or}
+use Rattle.std.proofs.lemmas.List.Elements.{All-cons, All-filter, All-map, All-nil}
 use Rattle.std.proofs.lemmas.List.Sums.{sum_by-cons}
-use Rattle.gang_ports.specs.Choice.{Choice, IsFirst, IsFirstOf, earlier, first_of, fits, next, place_order, tuple_order, tuples}
-use Rattle.gang_ports.proofs.CountLemmas.{tuples-by-next}
-use Rattle.gang_ports.proofs.ListLemmas.{All-flat_map, Contains-flat_map, Contains-map, flat_map-none}
+use Rattle.gang_ports.specs.Choice.{Choice, IsFirst, IsFirstOf, earlier, first_of, fits, next, over_prefixes, place_order, tuple_order, tuples}
+use Rattle.gang_ports.proofs.CountLemmas.{by-next}
+use Rattle.gang_ports.proofs.ListLemmas.{All-flat_map, flat_map-none}
 use Rattle.gang_ports.proofs.OrderLemmas.{first-is, first-none, place_total, tied-places}
 
 -- ---- the order of tuples
@@ -135,6 +135,14 @@ module _ {X : Type 0} (q : X → Bool) where
       by true rest = omega (arith, rest, below x, sum_by-cons f x (filter q xs), sum_by-cons g x xs)
       by false rest = omega (arith, rest, sum_by-cons g x xs)
 
+  pub length-fewer : (xs : List X) → length (filter q xs) ≤ length xs
+  length-fewer [] = omega arith
+  length-fewer (x ∷ xs) = by (q x) (length-fewer xs)
+    where
+      by : (b : Bool) → length (filter q xs) ≤ length xs → length (cond b (x ∷ filter q xs) (filter q xs)) ≤ length (x ∷ xs)
+      by true rest = omega (arith, rest)
+      by false rest = omega (arith, rest)
+
 -- lists of which none has an item
 all-none : {X Y : Type 0} (f : X → List Y) (xs : List X) → flat_map f xs ≡ [] → All (λ x. f x ≡ []) xs
 all-none f [] e = All-nil (λ x. f x ≡ [])
@@ -173,35 +181,11 @@ module _ (q : ℕ → Bool) (choice : Choice) where
       let none : map (λ t. p ∷ t) (tuples choice n (before ++ p ∷ [])) ≡ [] = all-none (λ p. map (λ t. p ∷ t) (tuples choice n (before ++ p ∷ []))) (next choice before) e k d within in
       ap (map (λ t. p ∷ t)) (none-fewer n (before ++ p ∷ []) (unmapped (λ t. p ∷ t) (tuples choice n (before ++ p ∷ [])) none))))
 
-  -- the tuples are among those of the whole choice
-  pub tuples-among : (n : ℕ) (before : List ℕ) → All (λ t. Contains (tuples choice n before) t) (tuples (fewer q choice) n before)
-  unfolding tuples
-  tuples-among zero before = All-cons (λ t. Contains (tuples choice 0 before) t) [] [] (zero, omega arith, refl) (All-nil (λ t. Contains (tuples choice 0 before) t))
-  tuples-among (suc n) before =
-      let Among = λ (t : List ℕ). Contains (tuples choice (suc n) before) t in
-      let behind = λ (p : ℕ). map (λ t. p ∷ t) (tuples (fewer q choice) n (before ++ p ∷ [])) in
-      All-flat_map Among behind (next (fewer q choice) before)
-      (subst (All (λ p. All Among (behind p))) (sym (next-fewer before))
-      (All-filter q (λ p. All Among (behind p)) (next choice before)
-      (λ k d within.
-      let p = get_or (next choice before) k d in
-      All-map Among (λ t. p ∷ t) (tuples (fewer q choice) n (before ++ p ∷ []))
-      (λ j e low.
-      let t = get_or (tuples (fewer q choice) n (before ++ p ∷ [])) j e in
-      Contains-flat_map (λ u. map (λ t. u ∷ t) (tuples choice n (before ++ u ∷ []))) (next choice before) p (p ∷ t) (Contains-get_or (next choice before) k d within)
-      (Contains-map (λ t. p ∷ t) (tuples choice n (before ++ p ∷ [])) t (tuples-among n (before ++ p ∷ []) j e low))))))
-
-  -- a count over them
-  pub sum-tuples-fewer : (few many : List ℕ → ℕ) → ((before : List ℕ) → few before ≤ many before) → (n : ℕ) (before : List ℕ)
-      → sum_by (λ t. few (before ++ t)) (tuples (fewer q choice) n before) ≤ sum_by (λ t. many (before ++ t)) (tuples choice n before)
-  sum-tuples-fewer few many below zero before = sum-none few many before (below (before ++ []))
-    where
-      sum-none : (f g : List ℕ → ℕ) (b : List ℕ) → f (b ++ []) ≤ g (b ++ []) → sum_by (λ t. f (b ++ t)) (tuples (fewer q choice) 0 b) ≤ sum_by (λ t. g (b ++ t)) (tuples choice 0 b)
-      unfolding tuples
-      sum-none f g b h = omega (arith, h, sum_by-cons (λ t. f (b ++ t)) [] [], sum_by-cons (λ t. g (b ++ t)) [] [])
-  sum-tuples-fewer few many below (suc n) before =
-      let few_behind = λ (p : ℕ). sum_by (λ t. few ((before ++ p ∷ []) ++ t)) (tuples (fewer q choice) n (before ++ p ∷ [])) in
-      let many_behind = λ (p : ℕ). sum_by (λ t. many ((before ++ p ∷ []) ++ t)) (tuples choice n (before ++ p ∷ [])) in
-      let next_sum : sum_by few_behind (next (fewer q choice) before) ≤ sum_by many_behind (next choice before) =
-      subst (λ ps. sum_by few_behind ps ≤ sum_by many_behind (next choice before)) (sym (next-fewer before)) (sum-fewer q few_behind many_behind (λ p. sum-tuples-fewer few many below n (before ++ p ∷ [])) (next choice before)) in
-      omega (arith, next_sum, tuples-by-next (fewer q choice) few n before, tuples-by-next choice many n before)
+  pub over-fewer : (few many : List ℕ → ℕ) → ((before : List ℕ) → few before ≤ many before) → (n : ℕ) (before : List ℕ) → over_prefixes (fewer q choice) few n before ≤ over_prefixes choice many n before
+  unfolding over_prefixes
+  over-fewer few many below zero before = omega arith
+  over-fewer few many below (suc n) before =
+      let next_sum : sum_by (λ p. over_prefixes (fewer q choice) few n (before ++ p ∷ [])) (next (fewer q choice) before) ≤ sum_by (λ p. over_prefixes choice many n (before ++ p ∷ [])) (next choice before) =
+      subst (λ ps. sum_by (λ p. over_prefixes (fewer q choice) few n (before ++ p ∷ [])) ps ≤ sum_by (λ p. over_prefixes choice many n (before ++ p ∷ [])) (next choice before)) (sym (next-fewer before))
+      (sum-fewer q (λ p. over_prefixes (fewer q choice) few n (before ++ p ∷ [])) (λ p. over_prefixes choice many n (before ++ p ∷ [])) (λ p. over-fewer few many below n (before ++ p ∷ [])) (next choice before)) in
+      omega (arith, next_sum, below before, by-next (fewer q choice) few n before, by-next choice many n before)

@@ -9,9 +9,5 @@ mod NearLemmas
 mod OrderLemmas
 mod PoolLemmas
 mod PortLemmas
-mod PrefixLemmas
 mod ReadingLemmas
-mod ReferenceLemmas
 mod SearchLemmas
-mod TakenLemmas
-mod WeighLemmas

@@ -1,5 +1,5 @@
 -- Gangs of a pool: what a search from nothing finds, and what more offers leave.
-use Rattle.std.proofs.Common.{◌≡◌, ◌<◌, ◌≤◌, ◌+◌, ◌*◌, ℕ, zero, suc, Bool, true, false, not, ◌&&◌, refl, List, [], ◌∷◌, ◌++◌, length, filter, Option, None, Some, slice_get, get_or, is_some, if◌then◌else◌, sum_by, All, ap, sym, ◌∙◌, subst, arith}
+use Rattle.std.proofs.Common.{◌≡◌, ◌<◌, ◌≤◌, ◌+◌, ◌*◌, ℕ, zero, suc, Bool, true, false, not, ◌&&◌, refl, List, [], ◌∷◌, ◌++◌, length, filter, Option, None, Some, slice_get, is_some, sum_by, All, ap, sym, ◌∙◌, subst, arith}
 use Rattle.std.specs.List.{range_with_len}
 use Rattle.std.specs.Option.{option_map_or}
 use Rattle.std.proofs.lemmas.List.Elements.{All-cons, All-contains, All-filter, All-nil, filter_agree}
@@ -7,17 +7,15 @@ use Rattle.ad_tree.specs.Frames.{Frame}
 use Rattle.ad_tree.specs.declared.request.Port.{Port}
 use Rattle.ad_store.specs.Stock.{is_live}
 use Rattle.bilateral_match.specs.Pool.{Pool}
-use Rattle.eval_scope.specs.World.{PlainWorld, port_frame}
-use Rattle.gang_ports.specs.Choice.{Choice, IsFirstOf, first_of, tuples}
-use Rattle.gang_ports.specs.FreePorts.{is_free_port}
-use Rattle.gang_ports.specs.Gangs.{attributes_open, choice_of, dock_attributes, dock_count, docks_open, free_places, gang, gang_world, greatest_of, is_free, is_open, open_places, taken, taken_at}
+use Rattle.eval_scope.specs.World.{PlainWorld, attribute_count, port_frame}
+use Rattle.gang_ports.specs.Choice.{Choice, IsFirstOf, first_of, is_among, over_prefixes, tuples}
+use Rattle.gang_ports.specs.Gangs.{attributes_behind, attributes_open, choice_of, docks_open, evaluations_behind, free_places, gang, gang_world, is_free, is_open, open_docks, open_places}
 use Rattle.gang_ports.specs.declared.searching.Side.{Side}
-use Rattle.gang_ports.specs.Search.{AreSides, IsBehind, Outcome, attributes_in, choice_in, dock_evaluations, left_to_take}
-use Rattle.gang_ports.proofs.LawLemmas.{all-tuples, fewer, filter-turned, first-are, none-fewer, sum-fewer, sum-tuples-fewer, tuples-among}
+use Rattle.gang_ports.specs.Search.{AreSides, IsBehind, Outcome, attributes_from, choice_in, evaluations_from}
+use Rattle.gang_ports.proofs.CountLemmas.{over-multiple}
+use Rattle.gang_ports.proofs.LawLemmas.{all-tuples, fewer, filter-turned, first-are, length-fewer, none-fewer, over-fewer, sum-fewer}
 use Rattle.gang_ports.proofs.ListLemmas.{filter-both}
 use Rattle.gang_ports.proofs.OrderLemmas.{first-is, first-none}
-use Rattle.gang_ports.proofs.PrefixLemmas.{greatest-of, greatest-within, prefix-none}
-use Rattle.gang_ports.proofs.TakenLemmas.{left-taken, sum_by-below, taken-three}
 
 module _ (pool : Pool) (request : List Frame) (ports : List Port) where
   -- ---- from nothing on
@@ -43,6 +41,9 @@ module _ (pool : Pool) (request : List Frame) (ports : List Port) where
       (all-tuples (choice_of pool request ports) (λ p. p < m) (All-filter (is_free pool) (λ p. p < m) (range_with_len 0 (length pool.ads)) (range-below 0 (length pool.ads) m (omega (arith, fits)))) n [])
       o.2.among)
 
+  pub evaluations-total : over_prefixes (choice_of pool request ports) (evaluations_behind pool request ports) (length ports) [] ≡ 3 * docks_open pool request ports
+  evaluations-total = over-multiple (choice_of pool request ports) 3 (λ before. length (open_docks pool request ports before)) (length ports) []
+
   -- ---- as the code has it: a world, the places before and the sides, of which there is another list
 
   module _ (w : PlainWorld) (same : w ≡ gang_world pool request ports []) (before : List ℕ) (none : before ≡ []) where
@@ -50,7 +51,7 @@ module _ (pool : Pool) (request : List Frame) (ports : List Port) where
     starts sides others is are =
         subst (λ (u : PlainWorld). IsBehind pool u before sides) (sym same)
         (subst (λ (b : List ℕ). IsBehind pool (gang_world pool request ports []) b sides) (sym none)
-        (record { world = refl; valid = prefix-none (choice_of pool request ports); sides = subst (AreSides pool request ports 0) (sym is) are }))
+        (record { world = refl; sides = subst (AreSides pool request ports 0) (sym is) are }))
 
     outcome-of : (n : ℕ) (after : List ℕ) (b : Bool) → Outcome (choice_in pool w) n before after b → Outcome (choice_of pool request ports) n [] after b
     outcome-of n after b o =
@@ -66,21 +67,22 @@ module _ (pool : Pool) (request : List Frame) (ports : List Port) where
     pub within-whole : (n m : ℕ) (after : List ℕ) → length pool.ads ≤ m → Outcome (choice_in pool w) n before after true → All (λ p. p < m) after
     within-whole n m after fits o = gang-within n m after fits (outcome-of n after true o)
 
-    module _ (sides others : List Side) (is : sides ≡ others) (are : AreSides pool request ports 0 others) (many : length sides ≡ length ports) (start now : ℕ) where
-      left-whole : (cost : List ℕ → ℕ → ℕ) → left_to_take pool w cost before sides ≤ taken pool request ports cost
-      left-whole cost =
-          subst (λ n. n ≤ taken pool request ports cost)
-          (sym (ap (λ (u : PlainWorld). left_to_take pool u cost before sides) same ∙ ap (λ b. left_to_take pool (gang_world pool request ports []) cost b sides) none))
-          (left-taken pool request ports cost sides (subst (AreSides pool request ports 0) (sym is) are) many)
+    pub evaluations-whole : (n start tops : ℕ) → n ≡ length ports → tops ≤ start + evaluations_from pool w n before → tops ≤ start + 3 * docks_open pool request ports
+    evaluations-whole n start tops many step =
+        let total : evaluations_from pool w n before ≡ 3 * docks_open pool request ports =
+        ap (λ (u : PlainWorld). evaluations_from pool u n before) same
+        ∙ ap (over_prefixes (choice_of pool request ports) (evaluations_behind pool request ports) n) none
+        ∙ ap (λ (k : ℕ). over_prefixes (choice_of pool request ports) (evaluations_behind pool request ports) k []) many
+        ∙ evaluations-total in
+        subst (λ (k : ℕ). tops ≤ start + k) total step
 
-      pub evaluations-whole : now ≤ start + left_to_take pool w dock_evaluations before sides → now ≤ start + 3 * docks_open pool request ports
-      evaluations-whole step = omega (arith, step, left-whole dock_evaluations, taken-three pool request ports dock_count)
-
-      pub attributes-whole : now ≤ start + left_to_take pool w (attributes_in pool w) before sides → now ≤ start + attributes_open pool request ports
-      attributes-whole step =
-          let moved : left_to_take pool w (attributes_in pool w) before sides ≡ left_to_take pool w (dock_attributes pool request ports) before sides =
-          ap (λ (u : PlainWorld). left_to_take pool w (attributes_in pool u) before sides) same in
-          omega (arith, step, moved, left-whole (dock_attributes pool request ports))
+    pub attributes-whole : (n start entry : ℕ) → n ≡ length ports → entry ≤ start + attributes_from pool w n before → entry ≤ start + attributes_open pool request ports
+    attributes-whole n start entry many step =
+        let total : attributes_from pool w n before ≡ attributes_open pool request ports =
+        ap (λ (u : PlainWorld). attributes_from pool u n before) same
+        ∙ ap (over_prefixes (choice_of pool request ports) (attributes_behind pool request ports) n) none
+        ∙ ap (λ (k : ℕ). over_prefixes (choice_of pool request ports) (attributes_behind pool request ports) k []) many in
+        subst (λ (k : ℕ). entry ≤ start + k) total step
 
   -- ---- more offers
 
@@ -117,11 +119,13 @@ module _ (pool : Pool) (request : List Frame) (ports : List Port) where
     choice-fewer : choice_of later request ports ≡ fewer unoffered (choice_of pool request ports)
     choice-fewer = ap (λ (free : List ℕ). let c : Choice = record { free = free; dock = (choice_of pool request ports).dock; rank = (choice_of pool request ports).rank } in c) free-fewer
 
-    places-fewer : (frame : ℕ) → open_places later request ports frame ≡ filter unoffered (open_places pool request ports frame)
-    unfolding open_places
-    places-fewer frame =
-        let asked = is_open pool request ports frame in
-        ap (filter asked) free-fewer ∙ filter-turned unoffered asked (free_places pool)
+    docks-fewer : (before : List ℕ) → open_docks later request ports before ≡ filter unoffered (open_docks pool request ports before)
+    unfolding open_docks open_places
+    docks-fewer before =
+        let asked = is_open pool request ports (port_frame ports (suc (length before))) in
+        ap (λ ps. filter (λ p. not (is_among before p)) (filter asked ps)) free-fewer
+        ∙ ap (filter (λ p. not (is_among before p))) (filter-turned unoffered asked (free_places pool))
+        ∙ filter-turned unoffered (λ p. not (is_among before p)) (filter asked (free_places pool))
 
     pub gang-later : gang pool request ports ≡ None → gang later request ports ≡ None
     gang-later none =
@@ -134,42 +138,19 @@ module _ (pool : Pool) (request : List Frame) (ports : List Port) where
         no-tuples None e h = h
         no-tuples (Some t) e h = absurd (cc)
 
-    module _ (cost : List ℕ → ℕ → ℕ) where
-      -- where a dock takes as much as before
-      taken_at-later : (k : ℕ) → taken_at later request ports cost k ≤ taken_at pool request ports cost k
-      unfolding taken_at
-      taken_at-later k =
-          subst (λ c. at_most (tuples c k []) (open_places later request ports (port_frame ports (suc k)))) (sym choice-fewer)
-          (subst (λ places. at_most (tuples (fewer unoffered (choice_of pool request ports)) k []) places) (sym (places-fewer (port_frame ports (suc k)))) (by (is_free_port request ports k)))
-        where
-          all_places : List ℕ
-          all_places = open_places pool request ports (port_frame ports (suc k))
-
-          all_prefixes : List (List ℕ)
-          all_prefixes = tuples (choice_of pool request ports) k []
-
-          abbrev amount : Bool → List (List ℕ) → List ℕ → ℕ
-          amount b prefixes places = if b then sum_by (λ place. greatest_of (λ before. cost before place) prefixes) places else sum_by (λ before. sum_by (cost before) places) prefixes
-
-          abbrev at_most : List (List ℕ) → List ℕ → Type 0
-          at_most prefixes places = amount (is_free_port request ports k) prefixes places ≤ amount (is_free_port request ports k) all_prefixes all_places
-
-          by : (b : Bool) → amount b (tuples (fewer unoffered (choice_of pool request ports)) k []) (filter unoffered all_places) ≤ amount b all_prefixes all_places
-          by true =
-              sum-fewer unoffered (λ place. greatest_of (λ before. cost before place) (tuples (fewer unoffered (choice_of pool request ports)) k [])) (λ place. greatest_of (λ before. cost before place) all_prefixes)
-              (λ place.
-              greatest-within (λ before. cost before place) (greatest_of (λ before. cost before place) all_prefixes) (tuples (fewer unoffered (choice_of pool request ports)) k [])
-              (λ j e low. greatest-of (λ before. cost before place) all_prefixes (get_or (tuples (fewer unoffered (choice_of pool request ports)) k []) j e) (tuples-among unoffered (choice_of pool request ports) k [] j e low)))
-              all_places
-          by false =
-              sum-tuples-fewer unoffered (choice_of pool request ports) (λ before. sum_by (cost before) (filter unoffered all_places)) (λ before. sum_by (cost before) all_places)
-              (λ before. sum-fewer unoffered (cost before) (cost before) (λ place. let same : cost before place ≤ cost before place = omega arith in same) all_places) k []
-
-      pub taken-later : taken later request ports cost ≤ taken pool request ports cost
-      taken-later = sum_by-below (taken_at later request ports cost) (taken_at pool request ports cost) taken_at-later (range_with_len 0 (length ports))
-
     pub docks-later : docks_open later request ports ≤ docks_open pool request ports
-    docks-later = taken-later dock_count
+    docks-later =
+        let few = λ (before : List ℕ). length (open_docks later request ports before) in
+        let many = λ (before : List ℕ). length (open_docks pool request ports before) in
+        subst (λ c. over_prefixes c few (length ports) [] ≤ docks_open pool request ports) (sym choice-fewer)
+        (over-fewer unoffered (choice_of pool request ports) few many
+        (λ before. subst (λ ps. length ps ≤ length (open_docks pool request ports before)) (sym (docks-fewer before)) (length-fewer unoffered (open_docks pool request ports before))) (length ports) [])
 
     pub attributes-later : attributes_open later request ports ≤ attributes_open pool request ports
-    attributes-later = taken-later (dock_attributes pool request ports)
+    attributes-later =
+        subst (λ c. over_prefixes c (attributes_behind later request ports) (length ports) [] ≤ attributes_open pool request ports) (sym choice-fewer)
+        (over-fewer unoffered (choice_of pool request ports) (attributes_behind later request ports) (attributes_behind pool request ports)
+        (λ before.
+        let count = λ (p : ℕ). 3 * attribute_count (gang_world pool request ports (before ++ p ∷ [])) in
+        let same : (p : ℕ) → count p ≤ count p = λ p. omega arith in
+        subst (λ ps. sum_by count ps ≤ sum_by count (open_docks pool request ports before)) (sym (docks-fewer before)) (sum-fewer unoffered count count same (open_docks pool request ports before))) (length ports) [])

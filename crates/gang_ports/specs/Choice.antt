@@ -66,7 +66,3 @@ first_of choice (t ∷ ts) = Some (earlier choice t (first_of choice ts))
 unfoldable pub over_prefixes : Choice → (List ℕ → ℕ) → ℕ → List ℕ → ℕ
 over_prefixes choice count zero before = 0
 over_prefixes choice count (suc n) before = over_prefixes choice count n before + sum_by (λ tuple. count (before ++ tuple)) (tuples choice n before)
-
--- the same behind each of some next places
-unfoldable pub behind : Choice → (List ℕ → ℕ) → ℕ → List ℕ → List ℕ → ℕ
-behind choice count n before places = sum_by (λ place. over_prefixes choice count n (before ++ place ∷ [])) places

@@ -1,5 +1,5 @@
 -- Gangs: which resources of a pool the ports of a request are given.
-use Rattle.std.specs.Prelude.{ℕ, suc, ◌*◌, Bool, ◌&&◌, not, false, List, [], ◌∷◌, ◌++◌, filter, length, map, max, slice_get, sum_by, Option, is_some, if◌then◌else◌}
+use Rattle.std.specs.Prelude.{ℕ, suc, ◌*◌, Bool, ◌&&◌, not, false, List, [], ◌∷◌, ◌++◌, filter, length, map, slice_get, sum_by, Option, is_some}
 use Rattle.std.specs.List.{range_with_len}
 use Rattle.std.specs.Option.{option_map_or}
 use Rattle.ad_tree.specs.Frames.{Frame}
@@ -11,8 +11,7 @@ use Rattle.conjunct_plan.specs.Tests.{labels_of, tests_of}
 use Rattle.bilateral_match.specs.Counts.{least_left}
 use Rattle.bilateral_match.specs.Pool.{Pool}
 use Rattle.eval_scope.specs.World.{PlainWorld, attribute_count, port_frame, request_side}
-use Rattle.gang_ports.specs.Choice.{Choice, first_of, is_among, tuples}
-use Rattle.gang_ports.specs.FreePorts.{is_free_port}
+use Rattle.gang_ports.specs.Choice.{Choice, first_of, is_among, over_prefixes, tuples}
 
 -- ---- the choice
 
@@ -53,38 +52,25 @@ is_open pool request ports frame place = not (is_dock_decided request frame (lab
 unfoldable pub open_places : Pool → List Frame → List Port → ℕ → List ℕ
 open_places pool request ports frame = filter (is_open pool request ports frame) (free_places pool)
 
--- the greatest of the counts of a list's items, 0 where there are none
-abbrev pub greatest_of : {X : Type 0} → (X → ℕ) → List X → ℕ
-greatest_of count [] = 0
-greatest_of count (x ∷ xs) = max (count x) (greatest_of count xs)
+-- those of them that aren't docked, for the next port once resources are docked to the ports before it
+unfoldable pub open_docks : Pool → List Frame → List Port → List ℕ → List ℕ
+open_docks pool request ports before = filter (λ place. not (is_among before place)) (open_places pool request ports (port_frame ports (suc (length before))))
 
--- what port i takes, where each dock of a resource behind the valid prefixes for the ports before takes so much: at a free port each resource counts once, as behind the prefix where it takes most; at any other port behind each
-unfoldable pub taken_at : Pool → List Frame → List Port → (List ℕ → ℕ → ℕ) → ℕ → ℕ
-taken_at pool request ports cost i =
-    let prefixes = tuples (choice_of pool request ports) i [] in
-    let places = open_places pool request ports (port_frame ports (suc i)) in
-    if is_free_port request ports i then sum_by (λ place. greatest_of (λ before. cost before place) prefixes) places else sum_by (λ before. sum_by (cost before) places) prefixes
-
--- what all ports take
-abbrev pub taken : Pool → List Frame → List Port → (List ℕ → ℕ → ℕ) → ℕ
-taken pool request ports cost = sum_by (taken_at pool request ports cost) (range_with_len 0 (length ports))
-
--- a dock, unless the resource is docked already
-abbrev pub dock_count : List ℕ → ℕ → ℕ
-dock_count before place = if is_among before place then 0 else 1
-
--- how many docks are undecided
+-- how many docks are undecided, over all valid prefixes
 abbrev pub docks_open : Pool → List Frame → List Port → ℕ
-docks_open pool request ports = taken pool request ports dock_count
+docks_open pool request ports = over_prefixes (choice_of pool request ports) (λ before. length (open_docks pool request ports before)) (length ports) []
 
--- in each of three evaluations for a dock each attribute of the request and of the docked ads is entered once at most
-abbrev pub dock_attributes : Pool → List Frame → List Port → List ℕ → ℕ → ℕ
-dock_attributes pool request ports before place =
-    if is_among before place then 0 else 3 * attribute_count (gang_world pool request ports (before ++ place ∷ []))
+-- three evaluations for each of these docks: the requirements of both sides, and the rank
+abbrev pub evaluations_behind : Pool → List Frame → List Port → List ℕ → ℕ
+evaluations_behind pool request ports before = 3 * length (open_docks pool request ports before)
 
--- how many attributes may be entered for these docks
+-- in each of which each attribute of the request and of the docked ads is entered once at most
+abbrev pub attributes_behind : Pool → List Frame → List Port → List ℕ → ℕ
+attributes_behind pool request ports before =
+    sum_by (λ place. 3 * attribute_count (gang_world pool request ports (before ++ place ∷ []))) (open_docks pool request ports before)
+
 abbrev pub attributes_open : Pool → List Frame → List Port → ℕ
-attributes_open pool request ports = taken pool request ports (dock_attributes pool request ports)
+attributes_open pool request ports = over_prefixes (choice_of pool request ports) (attributes_behind pool request ports) (length ports) []
 
 -- the sum over the ports of the least number of ads that one of a port's tests leaves
 abbrev pub looks_most : List Advert → List Frame → List Port → ℕ

@@ -27,10 +27,8 @@ use std::sync::ledger::Ledger;
 /// and the request has the ports that its ad lists.
 ///
 /// Of the tests of a port the one that leaves the fewest ads says which ads it looks at; without one it looks at all. It
-/// counts each of them once in `touch`. In `tops` and `entry` it counts what evaluations count: three at most for a dock
-/// with a resource that may be taken, and that no test of either side decides. Where no bare name in the request is the label
-/// of a port before a port, its docks don't depend on the resources before it, and each of its resources is evaluated once; at
-/// any other port each is evaluated once for each way to dock the ports before it.
+/// counts each of them once in `touch`. In `tops` and `entry` it counts what evaluations count: for each port and each way
+/// to dock the ports before it, three at most for another free resource whose dock no test of either side decides.
 pub fn first_gang<H: Holdings, F: Ledger, E: Ledger, T: Ledger>(
     alloc: Global,
     store: &Store,
@@ -52,10 +50,10 @@ pub fn first_gang<H: Holdings, F: Ledger, E: Ledger, T: Ledger>(
         + attributes_open (pool_of moment (stock_of store.now) (H.is_offered held.now) (H.holding held.now)) (ad_frames request.now.ad) request.now.ports }
     ensures looks { touch.new ≤ touch.old + looks_most (stock_of store.now).ads (ad_frames request.now.ad) request.now.ports }
 {
-    let mut sides = read_sides(alloc, store, index, held, request, moment, touch)?;
+    let sides = read_sides(alloc, store, index, held, request, moment, touch)?;
     let world = World::new(moment, &request.ad, &request.ports);
     let mut places = Vec::new(alloc);
-    if !search(alloc, &world, &mut places, sides.as_mut_slice(), tops, entry)? {
+    if !search(alloc, &world, &mut places, sides.as_slice(), tops, entry)? {
         return Ok(None);
     }
     Ok(Some(slots_at(alloc, store, places.as_slice())?))

@@ -1,7 +1,6 @@
 //! Gangs: the ports of a request, and the resources that they are given.
 #![tactic(auto)]
 
-mod free_ports;
 mod gangs;
 mod laws;
 mod ports;

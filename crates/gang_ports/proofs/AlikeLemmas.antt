@@ -1,10 +1,10 @@
 -- Two worlds with one request and one ad docked last: what names no ad docked before has the same value in both.
-use Rattle.std.proofs.Common.{◌≡◌, ◌<◌, ◌≤◌, ◌+◌, ◌⊎◌, inl, inr, ℕ, zero, suc, Bool, true, false, ◌||◌, ◌&&◌, cond, refl, List, [], ◌∷◌, ◌++◌, length, map, Option, None, Some, option_map, slice_get, unwrap_or, nat_eq, pos, codes, if◌then◌else◌, ap, sym, ◌∙◌, subst, arith}
+use Rattle.std.proofs.Common.{◌≡◌, ◌<◌, ◌+◌, inl, inr, ℕ, zero, suc, Bool, true, false, ◌||◌, ◌&&◌, cond, refl, List, [], ◌∷◌, ◌++◌, length, map, Option, None, Some, option_map, slice_get, unwrap_or, nat_eq, pos, codes, if◌then◌else◌, ap, sym, ◌∙◌, subst, arith}
 use Rattle.std.specs.Option.{option_and_then, option_map_or}
 use Rattle.std.proofs.lemmas.Bool.Decides.{nat_tests}
 use Rattle.pool_text.specs.declared.language.AdPlace.{AdPlace}
 use Rattle.pool_text.specs.declared.language.Pos.{Pos}
-use Rattle.ad_value.specs.Demands.{all_demanded, conjunction, disjunction, list_value, selected, subscripted}
+use Rattle.ad_value.specs.Demands.{all_demanded, list_value, selected, subscripted}
 use Rattle.ad_value.specs.Demands.{chosen}
 use Rattle.ad_value.specs.Logic.{is_true}
 use Rattle.ad_value.specs.Operators.{binary_value, unary_value}
@@ -19,14 +19,14 @@ use Rattle.ad_tree.specs.Tree.{list as list_node}
 use Rattle.ad_tree.specs.declared.request.Port.{Port}
 use Rattle.ad_tree.specs.declared.tree.Scope.{Scope}
 use Rattle.eval_scope.specs.declared.found.Found.{Found}
-use Rattle.eval_scope.specs.Look.{Candidate, in_frame, label_of, attribute_in, candidates, enclosing, enclosing_any, find, first_found, found_at, found_attribute, labels, labels_from, or_else, targets}
+use Rattle.eval_scope.specs.Look.{Candidate, in_frame, label_of, attribute_in, enclosing, enclosing_any, find, first_found, found_at, found_attribute, labels, labels_from, or_else, targets}
 use Rattle.eval_scope.specs.World.{PlainWorld, expr_of, frame_of_attribute, frames_of_ad, port_frame, request_side, resource_side, size_at, target}
 use Rattle.eval_scope.proofs.LookLemmas.{first_found-append}
 use Rattle.ad_eval.specs.Dock.{attribute_of, is_docked, meets_requirement, rank_by, rank_number}
 use Rattle.ad_eval.specs.Node.{attribute_value, called, conditional, function_value, named, node_value, only_ad, sized_ad}
 use Rattle.ad_eval.specs.Value.{evaluation_at, results_by, value_at, value_by}
 use Rattle.gang_ports.specs.FreePorts.{any_refers, is_reference, refers}
-use Rattle.gang_ports.proofs.NearLemmas.{AllNear, AllNearOption, IsNear, NearOption, NearValue, NearValues, binary-near, call-near, chosen-near, conjunction-near, demanded-near, disjunction-near, element-near, list-near, literal-near, unary-near}
+use Rattle.gang_ports.proofs.NearLemmas.{AllNear, AllNearOption, IsNear, NearOption, NearValue, binary-near, call-near, chosen-near, conjunction-near, demanded-near, disjunction-near, element-near, list-near, literal-near, unary-near}
 
 neither : (a b : Bool) → (a || b) ≡ false → (a ≡ false) × (b ≡ false)
 neither true b e = absurd (cc)
@@ -376,9 +376,10 @@ module _ (moment : ℕ) (request : List Frame) (ports : List Port) (i : ℕ) (xs
 
           trees-near : (ts : Trees) → (p.ad ≡ 0 → AllUnnamed ts) → AllNearOption (suc i) (results_by at w p ts)
           trees-near none quiet = tt
-          trees-near (more t ts) quiet =
-              (tree-near t (λ e j port low is. (neither (refers port.label t) (any_refers port.label ts) (quiet e j port low is)).0),
-              trees-near ts (λ e j port low is. (neither (refers port.label t) (any_refers port.label ts) (quiet e j port low is)).1))
+          trees-near (more t ts) quiet = (
+            tree-near t (λ e j port low is. (neither (refers port.label t) (any_refers port.label ts) (quiet e j port low is)).0),
+            trees-near ts (λ e j port low is. (neither (refers port.label t) (any_refers port.label ts) (quiet e j port low is)).1),
+          )
 
     -- ---- attributes, by the number of references
 
@@ -400,9 +401,10 @@ module _ (moment : ℕ) (request : List Frame) (ports : List Port) (i : ℕ) (xs
               → AreAlike (option_and_then (value_by (value_at m w) w (frame_of_attribute s)) o) (option_and_then (value_by (value_at m v) v (frame_of_attribute s)) o)
           by rest None e = (refl, tt)
           by rest (Some t) e =
-              let own : s.ad ≡ 0 → Unnamed t = λ root. quiet s.frame s.attr t (sym (ap (λ (k : ℕ). expr_at (frames_of_ad w k) s.frame s.attr) root) ∙ e) in
-              (tree-same (value_at m w) (value_at m v) (λ u k. (rest u k).0) (λ u k. (rest u k).1) (frame_of_attribute s) h t own,
-              tree-near (value_at m w) (value_at m v) (λ u k. (rest u k).0) (λ u k. (rest u k).1) (frame_of_attribute s) h t own)
+              let own : s.ad ≡ 0 → Unnamed t = λ root. quiet s.frame s.attr t (sym (ap (λ (k : ℕ). expr_at (frames_of_ad w k) s.frame s.attr) root) ∙ e) in (
+                tree-same (value_at m w) (value_at m v) (λ u k. (rest u k).0) (λ u k. (rest u k).1) (frame_of_attribute s) h t own,
+                tree-near (value_at m w) (value_at m v) (λ u k. (rest u k).0) (λ u k. (rest u k).1) (frame_of_attribute s) h t own,
+              )
 
       -- ---- requirements, ranks and docks
 

@@ -23,7 +23,7 @@ use Rattle.builtin_funcs.specs.Kinds.{is_error, is_scalar, is_undefined}
 use Rattle.builtin_funcs.specs.Lists.{all_compare_value, any_compare_value, comparison_named, compares, identical_member_value, member_value}
 use Rattle.builtin_funcs.specs.Rows.{chosen as chosen_value}
 use Rattle.builtin_funcs.specs.Rows.{row_of, size_value}
-use Rattle.builtin_funcs.specs.Texts.{bool_value, boolean_in, int_value, integer_in, on_text, part_value, strcat_value, strcmp_value, stricmp_value, string_list_member_value, string_list_size_value, string_value, tail_value, written}
+use Rattle.builtin_funcs.specs.Texts.{bool_value, int_value, on_text, part_value, strcat_value, strcmp_value, stricmp_value, string_list_member_value, string_list_size_value, tail_value, written}
 
 -- the request, or the ad that was docked last of n
 abbrev pub IsNear : ℕ → ℕ → Type 0
@@ -332,36 +332,91 @@ module _ (n : ℕ) where
     looked-up value h (Some f) k = h f k
 
   rows-are : AreRows row_of function_names
-  rows-are =
-      (row-is _ (λ m. tt) (λ x m. aggregate-near total (λ zs. number-near (fold ◌+ℤ◌ (pos 0) zs)) x) (λ x y m. tt) (λ x y z m h k. tt) (λ x y z u rest m. tt),
-      (row-is _ (λ m. tt) (λ x m. aggregate-near least least-near x) (λ x y m. tt) (λ x y z m h k. tt) (λ x y z u rest m. tt),
-      (row-is _ (λ m. tt) (λ x m. aggregate-near greatest greatest-near x) (λ x y m. tt) (λ x y z m h k. tt) (λ x y z u rest m. tt),
-      (row-is _ (λ m. tt) (λ x m. int-near x) (λ x y m. tt) (λ x y z m h k. tt) (λ x y z u rest m. tt),
-      (row-is _ (λ m. tt) (λ x m. size-near x) (λ x y m. tt) (λ x y z m h k. tt) (λ x y z u rest m. tt),
-      (row-is _ (λ m. tt) (λ x m. bool-near x) (λ x y m. tt) (λ x y z m h k. tt) (λ x y z u rest m. tt),
-      (row-is _ (λ m. number-near (pos m)) (λ x m. tt) (λ x y m. tt) (λ x y z m h k. tt) (λ x y z u rest m. tt),
-      (row-is _ (λ m. tt) (λ x m. tt) (λ x y m. tt) (λ x y z m h k. tt) (λ x y z u rest m. tt),
-      (row-is _ (λ m. tt) (λ x m. tt) (λ x y m. member-near x y) (λ x y z m h k. tt) (λ x y z u rest m. tt),
-      (strcat-near,
-      (row-is _ (λ m. tt) (λ x m. tt) (λ x y m. tail-near x y) (λ x y z m h k. part-near x y z) (λ x y z u rest m. tt),
-      (row-is _ (λ m. tt) (λ x m. tt) (λ x y m. strcmp-near x y) (λ x y z m h k. tt) (λ x y z u rest m. tt),
-      (row-is _ (λ m. tt) (λ x m. if-near (is_scalar x) (text (written x)) error tt tt) (λ x y m. tt) (λ x y z m h k. tt) (λ x y z u rest m. tt),
-      (row-is _ (λ m. tt) (λ x m. tt) (λ x y m. tt) (λ x y z m h k. tt) (λ x y z u rest m. tt),
-      (row-is _ (λ m. tt) (λ x m. tt) (λ x y m. stricmp-near x y) (λ x y z m h k. tt) (λ x y z u rest m. tt),
-      (row-is _ (λ m. tt) (λ x m. on_text-near _ (λ bytes. tt) x) (λ x y m. tt) (λ x y z m h k. tt) (λ x y z u rest m. tt),
-      (row-is _ (λ m. tt) (λ x m. on_text-near _ (λ bytes. tt) x) (λ x y m. tt) (λ x y z m h k. tt) (λ x y z u rest m. tt),
-      (row-is _ (λ m. tt) (λ x m. tt) (λ x y m. tt) (λ x y z m h k. tt) (λ x y z u rest m. tt),
-      (row-is _ (λ m. tt) (λ x m. tt) (λ x y m. tt) (λ x y z m h k. tt) (λ x y z u rest m. tt),
-      (row-is _ (λ m. tt) (λ x m. tt) (λ x y m. tt) (λ x y z m h k. tt) (λ x y z u rest m. tt),
-      (row-is _ (λ m. tt) (λ x m. tt) (λ x y m. tt) (λ x y z m h k. tt) (λ x y z u rest m. tt),
-      (row-is _ (λ m. tt) (λ x m. tt) (λ x y m. tt) (λ x y z m h k. picked-near x y z h k) (λ x y z u rest m. tt),
-      (row-is _ (λ m. tt) (λ x m. tt) (λ x y m. tt) (λ x y z m h k. any-near x y z) (λ x y z u rest m. tt),
-      (row-is _ (λ m. tt) (λ x m. tt) (λ x y m. tt) (λ x y z m h k. all-near x y z) (λ x y z u rest m. tt),
-      (row-is _ (λ m. tt) (λ x m. tt) (λ x y m. tt) (λ x y z m h k. tt) (λ x y z u rest m. tt),
-      (row-is _ (λ m. tt) (λ x m. items-near x _) (λ x y m. items-near x y) (λ x y z m h k. tt) (λ x y z u rest m. tt),
-      (row-is _ (λ m. tt) (λ x m. tt) (λ x y m. identical-near x y) (λ x y z m h k. tt) (λ x y z u rest m. tt),
-      (row-is _ (λ m. tt) (λ x m. tt) (λ x y m. item-near x y _) (λ x y z m h k. item-near x y z) (λ x y z u rest m. tt),
-      tt))))))))))))))))))))))))))))
+  rows-are = (
+    row-is _ (λ m. tt) (λ x m. aggregate-near total (λ zs. number-near (fold ◌+ℤ◌ (pos 0) zs)) x) (λ x y m. tt) (λ x y z m h k. tt) (λ x y z u rest m. tt),
+    (
+      row-is _ (λ m. tt) (λ x m. aggregate-near least least-near x) (λ x y m. tt) (λ x y z m h k. tt) (λ x y z u rest m. tt),
+      (
+        row-is _ (λ m. tt) (λ x m. aggregate-near greatest greatest-near x) (λ x y m. tt) (λ x y z m h k. tt) (λ x y z u rest m. tt),
+        (
+          row-is _ (λ m. tt) (λ x m. int-near x) (λ x y m. tt) (λ x y z m h k. tt) (λ x y z u rest m. tt),
+          (
+            row-is _ (λ m. tt) (λ x m. size-near x) (λ x y m. tt) (λ x y z m h k. tt) (λ x y z u rest m. tt),
+            (
+              row-is _ (λ m. tt) (λ x m. bool-near x) (λ x y m. tt) (λ x y z m h k. tt) (λ x y z u rest m. tt),
+              (
+                row-is _ (λ m. number-near (pos m)) (λ x m. tt) (λ x y m. tt) (λ x y z m h k. tt) (λ x y z u rest m. tt),
+                (
+                  row-is _ (λ m. tt) (λ x m. tt) (λ x y m. tt) (λ x y z m h k. tt) (λ x y z u rest m. tt),
+                  (
+                    row-is _ (λ m. tt) (λ x m. tt) (λ x y m. member-near x y) (λ x y z m h k. tt) (λ x y z u rest m. tt),
+                    (
+                      strcat-near,
+                      (
+                        row-is _ (λ m. tt) (λ x m. tt) (λ x y m. tail-near x y) (λ x y z m h k. part-near x y z) (λ x y z u rest m. tt),
+                        (
+                          row-is _ (λ m. tt) (λ x m. tt) (λ x y m. strcmp-near x y) (λ x y z m h k. tt) (λ x y z u rest m. tt),
+                          (
+                            row-is _ (λ m. tt) (λ x m. if-near (is_scalar x) (text (written x)) error tt tt) (λ x y m. tt) (λ x y z m h k. tt) (λ x y z u rest m. tt),
+                            (
+                              row-is _ (λ m. tt) (λ x m. tt) (λ x y m. tt) (λ x y z m h k. tt) (λ x y z u rest m. tt),
+                              (
+                                row-is _ (λ m. tt) (λ x m. tt) (λ x y m. stricmp-near x y) (λ x y z m h k. tt) (λ x y z u rest m. tt),
+                                (
+                                  row-is _ (λ m. tt) (λ x m. on_text-near _ (λ bytes. tt) x) (λ x y m. tt) (λ x y z m h k. tt) (λ x y z u rest m. tt),
+                                  (
+                                    row-is _ (λ m. tt) (λ x m. on_text-near _ (λ bytes. tt) x) (λ x y m. tt) (λ x y z m h k. tt) (λ x y z u rest m. tt),
+                                    (
+                                      row-is _ (λ m. tt) (λ x m. tt) (λ x y m. tt) (λ x y z m h k. tt) (λ x y z u rest m. tt),
+                                      (
+                                        row-is _ (λ m. tt) (λ x m. tt) (λ x y m. tt) (λ x y z m h k. tt) (λ x y z u rest m. tt),
+                                        (
+                                          row-is _ (λ m. tt) (λ x m. tt) (λ x y m. tt) (λ x y z m h k. tt) (λ x y z u rest m. tt),
+                                          (
+                                            row-is _ (λ m. tt) (λ x m. tt) (λ x y m. tt) (λ x y z m h k. tt) (λ x y z u rest m. tt),
+                                            (
+                                              row-is _ (λ m. tt) (λ x m. tt) (λ x y m. tt) (λ x y z m h k. picked-near x y z h k) (λ x y z u rest m. tt),
+                                              (
+                                                row-is _ (λ m. tt) (λ x m. tt) (λ x y m. tt) (λ x y z m h k. any-near x y z) (λ x y z u rest m. tt),
+                                                (
+                                                  row-is _ (λ m. tt) (λ x m. tt) (λ x y m. tt) (λ x y z m h k. all-near x y z) (λ x y z u rest m. tt),
+                                                  (
+                                                    row-is _ (λ m. tt) (λ x m. tt) (λ x y m. tt) (λ x y z m h k. tt) (λ x y z u rest m. tt),
+                                                    (
+                                                      row-is _ (λ m. tt) (λ x m. items-near x _) (λ x y m. items-near x y) (λ x y z m h k. tt) (λ x y z u rest m. tt),
+                                                      (
+                                                        row-is _ (λ m. tt) (λ x m. tt) (λ x y m. identical-near x y) (λ x y z m h k. tt) (λ x y z u rest m. tt),
+                                                        (
+                                                          row-is _ (λ m. tt) (λ x m. tt) (λ x y m. item-near x y _) (λ x y z m h k. item-near x y z) (λ x y z u rest m. tt),
+                                                          tt,
+                                                        ),
+                                                      ),
+                                                    ),
+                                                  ),
+                                                ),
+                                              ),
+                                            ),
+                                          ),
+                                        ),
+                                      ),
+                                    ),
+                                  ),
+                                ),
+                              ),
+                            ),
+                          ),
+                        ),
+                      ),
+                    ),
+                  ),
+                ),
+              ),
+            ),
+          ),
+        ),
+      ),
+    ),
+  )
 
   strict_in-near : (args : List Plain) (v : Plain) → NearValue n v → NearValue n (strict_in args v)
   strict_in-near args v h = if-near (list_any is_error args) error (if list_any is_undefined args then undefined else v) tt (if-near (list_any is_undefined args) undefined v tt h)

@@ -15,3 +15,4 @@ pub mod State
 pub mod Step
 pub mod Stocks
 pub mod Stored
+pub mod Workload

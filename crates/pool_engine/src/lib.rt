@@ -13,7 +13,9 @@ mod pool;
 mod query;
 mod run;
 mod session;
+mod workload;
 
 pub use laws::the_first_reply_is_offered_at_once;
 pub use pool::Pool;
 pub use run::{RunEnd, run_pool};
+pub use workload::workload;

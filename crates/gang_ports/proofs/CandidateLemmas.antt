@@ -1,16 +1,14 @@
 -- The order of candidates, and loops over resources.
-use Rattle.std.proofs.Common.{◌≡◌, ◌<◌, ◌≤◌, ◌+◌, ℕ, List, [], ◌++◌, ◌∷◌, length, take, get_or, Option, ap, sym, ◌∙◌}
+use Rattle.std.proofs.Common.{◌≡◌, ◌<◌, ◌≤◌, ◌+◌, ℕ, zero, suc, refl, List, [], ◌++◌, ◌∷◌, length, map, take, drop, get_or, Option, ap, sym, ◌∙◌}
 use Rattle.std.specs.Cmp.{IsStrictWeakOrder, IsTotalOrder}
 use Rattle.std.specs.List.{cons_option, filter_map}
 use Rattle.std.specs.Ordering.{is_lt}
 use Rattle.std.proofs.lemmas.Cmp.{back_total, int_cmp_total, nat_cmp_total, on_total, then_total}
-use Rattle.std.proofs.lemmas.List.{take_all, take_more}
+use Rattle.std.proofs.lemmas.List.{append-nil, drop_all, take_all, take_more}
 use Rattle.std.proofs.lemmas.List.Elements.{filter_map-append}
 use Rattle.std.proofs.lemmas.List.Sorted.{ranks_by}
-use Rattle.eval_scope.specs.World.{PlainWorld}
 use Rattle.gang_ports.specs.declared.weighing.Candidate.{Candidate}
-use Rattle.gang_ports.specs.declared.weighing.Resource.{Resource}
-use Rattle.gang_ports.specs.Search.{candidate_of, candidate_order, weighed}
+use Rattle.gang_ports.specs.Search.{candidate_order}
 
 candidate_total : IsTotalOrder candidate_order
 candidate_total = then_total (back_total (on_total (λ (c : Candidate). c.rank) int_cmp_total)) (on_total (λ (c : Candidate). c.place) nat_cmp_total)
@@ -20,17 +18,28 @@ candidate_weak = ranks_by candidate_total (λ (c : Candidate). c)
 
 -- ---- resources, one after another
 
-module _ (w : PlainWorld) (before : List ℕ) (rs : List Resource) (i : ℕ) (r : Resource) where
-  pub weighed-next : (tries new : List Candidate) (o : Option Candidate) → i < length rs → r ≡ get_or rs i r → tries ≡ weighed w before (take i rs)
-      → o ≡ candidate_of w before r → new ≡ tries ++ cons_option o [] → new ≡ weighed w before (take (i + 1) rs)
-  unfolding weighed
-  weighed-next tries new o within is so_far found added =
-      added
-      ∙ ap (λ ts. ts ++ cons_option o []) so_far
-      ∙ ap (λ p. filter_map (candidate_of w before) (take i rs) ++ cons_option p []) found
-      ∙ sym (filter_map-append (candidate_of w before) (take i rs) (r ∷ []))
-      ∙ ap (λ (q : Resource). filter_map (candidate_of w before) (take i rs ++ q ∷ [])) is
-      ∙ ap (filter_map (candidate_of w before)) (sym (take_more rs i r within))
+-- the item that a loop is at, where those before it are mapped already
+front-at : {X : Type 0} (f : X → X) (xs : List X) (i : ℕ) (d : X) → get_or (map f (take i xs) ++ drop i xs) i d ≡ get_or xs i d
+front-at f [] zero d = refl
+front-at f [] (suc i) d = refl
+front-at f (x ∷ xs) zero d = refl
+front-at f (x ∷ xs) (suc i) d = front-at f xs i d
 
-  pub weighed-all : (tries : List Candidate) → length rs ≤ i → tries ≡ weighed w before (take i rs) → tries ≡ weighed w before rs
-  weighed-all tries past so_far = so_far ∙ ap (weighed w before) (take_all i rs past)
+pub item-at : {X : Type 0} (f : X → X) (xs now : List X) (i : ℕ) (x : X) → x ≡ get_or now i x → now ≡ map f (take i xs) ++ drop i xs → x ≡ get_or xs i x
+item-at f xs now i x is so_far = is ∙ ap (λ ys. get_or ys i x) so_far ∙ front-at f xs i x
+
+pub front-all : {X : Type 0} (f : X → X) (xs : List X) (i : ℕ) → length xs ≤ i → map f (take i xs) ++ drop i xs ≡ map f xs
+front-all f xs i past = ap (λ ys. map f (take i xs) ++ ys) (drop_all i xs past) ∙ append-nil (map f (take i xs)) ∙ ap (map f) (take_all i xs past)
+
+module _ {X Y : Type 0} (f : X → Option Y) (xs : List X) (i : ℕ) where
+  pub found-next : (x : X) (ys new : List Y) (o : Option Y) → i < length xs → x ≡ get_or xs i x → ys ≡ filter_map f (take i xs) → o ≡ f x → new ≡ ys ++ cons_option o [] → new ≡ filter_map f (take (i + 1) xs)
+  found-next x ys new o within is so_far found added =
+      added
+      ∙ ap (λ zs. zs ++ cons_option o []) so_far
+      ∙ ap (λ p. filter_map f (take i xs) ++ cons_option p []) found
+      ∙ sym (filter_map-append f (take i xs) (x ∷ []))
+      ∙ ap (λ q. filter_map f (take i xs ++ q ∷ [])) is
+      ∙ ap (filter_map f) (sym (take_more xs i x within))
+
+  pub found-all : (ys : List Y) → length xs ≤ i → ys ≡ filter_map f (take i xs) → ys ≡ filter_map f xs
+  found-all ys past so_far = so_far ∙ ap (filter_map f) (take_all i xs past)

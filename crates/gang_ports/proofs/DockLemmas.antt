@@ -15,7 +15,7 @@ use Rattle.gang_ports.proofs.ListLemmas.{filter-narrow, length-mapped, length-mo
 
 -- ---- the ad docked last
 
-get-last : {X : Type 0} (xs : List X) (x : X) → slice_get (xs ++ x ∷ []) (length xs) ≡ Some x
+pub get-last : {X : Type 0} (xs : List X) (x : X) → slice_get (xs ++ x ∷ []) (length xs) ≡ Some x
 get-last [] x = refl
 get-last (y ∷ xs) x = get-last xs x
 

@@ -1,11 +1,18 @@
+mod AlikeLemmas
 mod CandidateLemmas
 mod CountLemmas
 mod DockLemmas
+mod FreePortLemmas
 pub mod LawLemmas
 pub mod ListLemmas
+mod NearLemmas
+mod OnceLemmas
 mod OrderLemmas
 pub mod PoolLemmas
 mod PortLemmas
 mod ReadingLemmas
+mod ReferenceLemmas
 pub mod SameLemmas
 mod SearchLemmas
+mod SideLemmas
+mod WeighLemmas

@@ -10,7 +10,7 @@ use Rattle.bilateral_match.specs.Pool.{Pool}
 use Rattle.eval_scope.specs.World.{PlainWorld, attribute_count, port_frame}
 use Rattle.gang_ports.specs.Choice.{Choice, IsFirstOf, first_of, is_among, over_prefixes, tuples}
 use Rattle.gang_ports.specs.Gangs.{attributes_behind, attributes_open, choice_of, docks_open, evaluations_behind, free_places, gang, gang_world, is_free, is_open, open_docks, open_places}
-use Rattle.gang_ports.specs.declared.searching.Side.{Side}
+use Rattle.gang_ports.specs.declared.weighing.Side.{Side}
 use Rattle.gang_ports.specs.Search.{AreSides, IsBehind, Outcome, attributes_from, choice_in, evaluations_from}
 use Rattle.gang_ports.proofs.CountLemmas.{over-multiple}
 use Rattle.gang_ports.proofs.LawLemmas.{all-tuples, fewer, filter-turned, first-are, length-fewer, none-fewer, over-fewer, sum-fewer}

@@ -11,13 +11,15 @@ use Rattle.ad_tree.specs.declared.request.Port.{Port}
 use Rattle.ad_store.specs.Stock.{Advert}
 use Rattle.conjunct_plan.specs.Decided.{is_dock_decided}
 use Rattle.conjunct_plan.specs.Tests.{labels_of}
-use Rattle.eval_scope.specs.World.{port_frame}
+use Rattle.eval_scope.specs.World.{PlainWorld, port_frame}
 use Rattle.bilateral_match.specs.Candidates.{AreCandidatesAt, places_where}
 use Rattle.bilateral_match.specs.Pool.{Pool}
-use Rattle.gang_ports.specs.declared.searching.Side.{Side}
+use Rattle.gang_ports.specs.declared.weighing.Kept.{Kept}
 use Rattle.gang_ports.specs.declared.weighing.Resource.{Resource}
-use Rattle.gang_ports.specs.Gangs.{ad_at, free_places, is_free, is_open, open_places}
-use Rattle.gang_ports.specs.Search.{AreResources, AreSides}
+use Rattle.gang_ports.specs.declared.weighing.Side.{Side}
+use Rattle.gang_ports.specs.FreePorts.{is_free_port}
+use Rattle.gang_ports.specs.Gangs.{ad_at, free_places, gang_world, is_free, is_open, open_places}
+use Rattle.gang_ports.specs.Search.{AreResources, AreSides, IsWorth, IsSide, is_unknown}
 use Rattle.gang_ports.proofs.ListLemmas.{IsPermutation-filter, filter-both, map-more}
 
 -- ---- places that a test leaves
@@ -95,15 +97,27 @@ module _ (pool : Pool) (request : List Frame) (ports : List Port) (frame : ℕ) 
         by None h = subst (All (λ (r : Resource). ad_frames r.ad.now ≡ ad_at pool r.place)) (sym (append-nil rs)) so_far
         by (Some r) h = All-push (λ (r : Resource). ad_frames r.ad.now ≡ ad_at pool r.place) rs r so_far h
 
+pub unknown-next : (rs new : List Resource) (o : Option Resource) → new ≡ rs ++ cons_option o [] → All (λ (r : Resource). is_unknown r.kept ≡ true) rs → IfSome o (λ r. is_unknown r.kept ≡ true)
+    → All (λ (r : Resource). is_unknown r.kept ≡ true) new
+unknown-next rs new o added so_far has = subst (All (λ (r : Resource). is_unknown r.kept ≡ true)) (sym added) (by o has)
+  where
+    by : (p : Option Resource) → IfSome p (λ r. is_unknown r.kept ≡ true) → All (λ (r : Resource). is_unknown r.kept ≡ true) (rs ++ cons_option p [])
+    by None h = subst (All (λ (r : Resource). is_unknown r.kept ≡ true)) (sym (append-nil rs)) so_far
+    by (Some r) h = All-push (λ (q : Resource). is_unknown q.kept ≡ true) rs r so_far h
+
 -- ---- the sides of all ports
 
 module _ (pool : Pool) (request : List Frame) (ports : List Port) where
-  sides-push : (i : ℕ) (sides : List Side) (side : Side) → AreSides pool request ports i sides
-      → AreResources pool (open_places pool request ports (port_frame ports (suc (i + length sides)))) side.resources.items → AreSides pool request ports i (sides ++ side ∷ [])
-  sides-push i [] side h one = let start : i + 0 ≡ i = omega arith in (subst (λ (n : ℕ). AreResources pool (open_places pool request ports (port_frame ports (suc n))) side.resources.items) start one, tt)
+  sides-push : (i : ℕ) (sides : List Side) (side : Side) → AreSides pool request ports i sides → IsSide pool request ports (i + length sides) side → AreSides pool request ports i (sides ++ side ∷ [])
+  sides-push i [] side h one = let start : i + 0 ≡ i = omega arith in (subst (λ (n : ℕ). IsSide pool request ports n side) start one, tt)
   sides-push i (s ∷ sides) side h one =
       let moved : i + suc (length sides) ≡ suc i + length sides = omega arith in
-      (h.0, sides-push (suc i) sides side h.1 (subst (λ (n : ℕ). AreResources pool (open_places pool request ports (port_frame ports (suc n))) side.resources.items) moved one))
+      (h.0, sides-push (suc i) sides side h.1 (subst (λ (n : ℕ). IsSide pool request ports n side) moved one))
+
+  -- what nothing is known of is right in every world
+  unknown-right : (w : PlainWorld) (ad : List Frame) (kept : Kept) → is_unknown kept ≡ true → IsWorth w ad kept
+  unknown-right w ad Kept.Unknown e = tt
+  unknown-right w ad (Kept.Weighed rank) e = absurd (cc)
 
   frame-at : (i : ℕ) (port : Port) → slice_get ports i ≡ Some port → port_frame ports (suc i) ≡ port.frame
   frame-at i port at =
@@ -111,7 +125,16 @@ module _ (pool : Pool) (request : List Frame) (ports : List Port) where
       ap (λ (k : ℕ). unwrap_or (option_map (λ (p : Port). p.frame) (slice_get ports k)) 0) back ∙ ap (λ (o : Option Port). unwrap_or (option_map (λ (p : Port). p.frame) o) 0) at
 
   pub sides-next : (sides new : List Side) (side : Side) (i : ℕ) (port : Port) → new ≡ sides ++ side ∷ [] → AreSides pool request ports 0 sides → length sides ≡ i → slice_get ports i ≡ Some port
-      → AreResources pool (open_places pool request ports port.frame) side.resources.items → AreSides pool request ports 0 new
-  sides-next sides new side i port added so_far many at one =
-      let here : port_frame ports (suc (0 + length sides)) ≡ port.frame = ap (λ (n : ℕ). port_frame ports (suc n)) (let start : 0 + length sides ≡ i = omega (arith, many) in start) ∙ frame-at i port at in
-      subst (AreSides pool request ports 0) (sym added) (sides-push 0 sides side so_far (subst (λ (f : ℕ). AreResources pool (open_places pool request ports f) side.resources.items) (sym here) one))
+      → side.is_free ≡ is_free_port request ports (length sides) → AreResources pool (open_places pool request ports port.frame) side.resources.items → All (λ (r : Resource). is_unknown r.kept ≡ true) side.resources.items
+      → AreSides pool request ports 0 new
+  sides-next sides new side i port added so_far many at free resources unknown =
+      let start : 0 + length sides ≡ length sides = omega arith in
+      let here : port_frame ports (suc (length sides)) ≡ port.frame = ap (λ (n : ℕ). port_frame ports (suc n)) many ∙ frame-at i port at in
+      subst (AreSides pool request ports 0) (sym added)
+      (sides-push 0 sides side so_far
+      (subst (λ (n : ℕ). IsSide pool request ports n side) (sym start)
+      (record {
+        free = free;
+        resources = subst (λ (f : ℕ). AreResources pool (open_places pool request ports f) side.resources.items) (sym here) resources;
+        kept = λ e k d within. λ before long. let r = get_or side.resources.items k d in unknown-right (gang_world pool request ports before) (ad_frames r.ad.now) r.kept (unknown k d within);
+      })))

@@ -1,11 +1,13 @@
 -- A search behind a prefix: what its candidates are, what they take, and what is found behind each.
-use Rattle.std.proofs.Common.{◌≡◌, ◌<◌, ◌≤◌, ◌+◌, ◌-◌, ◌*◌, ℕ, zero, suc, Bool, true, false, not, ◌&&◌, cond, if◌then◌else◌, refl, List, [], ◌∷◌, ◌++◌, length, map, filter, get_or, take, sum_by, below_more, None, Some, option_map, All, ap, sym, ◌∙◌, subst, arith, append_assoc, ℤ, IsSorted}
+use Rattle.std.proofs.Common.{◌≡◌, ◌<◌, ◌≤◌, ◌+◌, ◌-◌, ◌*◌, ℕ, zero, suc, Bool, true, false, not, ◌&&◌, cond, if◌then◌else◌, refl, List, [], ◌∷◌, ◌++◌, length, map, filter, get_or, take, drop, set, sum_by, below_more, None, Some, option_map, All, ap, sym, ◌∙◌, subst, arith, append_assoc, nat_eq, ℤ, IsSorted}
 use Rattle.std.specs.List.{cons_option, filter_map}
 use Rattle.std.specs.List.Sorted.{IsPermutation}
 use Rattle.std.specs.Ordering.{int_cmp, is_lt, nat_cmp, ordering_then}
 use Rattle.std.proofs.Math.Seq.{take-append_seam}
-use Rattle.std.proofs.lemmas.List.{append-nil}
+use borrow.Rule.Slice.PartMut.{put_mid}
+use Rattle.std.proofs.lemmas.List.{append-nil, drop_all, take_all}
 use Rattle.std.proofs.lemmas.List.Elements.{All-cons, All-from_get_or, All-head, All-nil, All-tail}
+use Rattle.std.proofs.lemmas.List.Sums.{sum_by-cons}
 use Rattle.std.proofs.lemmas.List.Sorted.{All-permutation, IsPermutation-map, IsPermutation-trans, sum_by-IsPermutation}
 use Rattle.ad_tree.specs.Ad.{ad_frames}
 use Rattle.ad_tree.specs.Frames.{Frame}
@@ -13,16 +15,18 @@ use Rattle.ad_tree.specs.declared.request.Port.{Port}
 use Rattle.ad_eval.specs.Dock.{is_docked, rank_by}
 use Rattle.eval_scope.specs.World.{PlainWorld, attribute_count, port_frame, request_side, with_docked}
 use Rattle.bilateral_match.specs.Pool.{Pool}
-use Rattle.gang_ports.specs.declared.searching.Side.{Side}
 use Rattle.gang_ports.specs.declared.weighing.Candidate.{Candidate}
 use Rattle.gang_ports.specs.declared.weighing.Resource.{Resource}
+use Rattle.gang_ports.specs.declared.weighing.Side.{Side}
 use Rattle.gang_ports.specs.Choice.{Choice, fits, is_among, next, over_prefixes, place_order, tuple_order, tuples}
 use Rattle.gang_ports.specs.Gangs.{ad_at, attributes_behind, evaluations_behind, gang_world, open_docks, open_places}
-use Rattle.gang_ports.specs.Search.{AreResources, AreSides, IsBehind, Outcome, attributes_from, attributes_of, candidate_of, candidate_order, choice_in, evaluations_from, evaluations_of, weighed}
+use Rattle.gang_ports.specs.Search.{AreResources, AreSides, IsBehind, IsSide, IsWorth, Outcome, attributes_from, attributes_of, candidate_in, candidate_of, candidate_order, choice_in, evaluations_anew, evaluations_from, evaluations_in, evaluations_of, evaluations_once, remembered, side_ahead, sides_ahead, weighed, weighed_in}
 use Rattle.gang_ports.proofs.CountLemmas.{at-deeper, at-first, at-next, at-place, behind}
 use Rattle.gang_ports.proofs.DockLemmas.{gang-with, next-open}
 use Rattle.gang_ports.proofs.ListLemmas.{IsPermutation-filter, length-mapped, length-more, mapped-at, sum_by-agree, sum_by-constant, sum_by-map, sum_by-passing}
 use Rattle.gang_ports.proofs.OrderLemmas.{first-behind, none-behind}
+use Rattle.gang_ports.proofs.SideLemmas.{side-once, side-spent, side-weighed}
+use Rattle.gang_ports.proofs.WeighLemmas.{remembered-attributes, remembered-evaluations, remembered-weighed}
 
 abbrev pub place_of : Candidate → ℕ
 place_of c = c.place
@@ -179,6 +183,9 @@ module _ (pool : Pool) (w : PlainWorld) (before : List ℕ) (same : w ≡ gang_w
     pub attributes-same : (n : ℕ) (b : List ℕ) → attributes_from pool deeper n b ≡ attributes_from pool w n b
     attributes-same n b = ap (λ (u : PlainWorld). attributes_from pool u n b) new
 
+    pub anew-same : (n : ℕ) (b : List ℕ) → over_prefixes (choice_in pool deeper) (evaluations_anew pool deeper) n b ≡ over_prefixes choice (evaluations_anew pool w) n b
+    anew-same n b = ap (λ (u : PlainWorld). over_prefixes (choice_in pool u) (evaluations_anew pool u) n b) new
+
 -- ---- what is found
 
 module _ (choice : Choice) (n : ℕ) (before cs : List ℕ) (all : IsPermutation (next choice before) cs) where
@@ -201,14 +208,40 @@ outcome-whole choice before after same = (
   },
 )
 
+pub ahead-cons : (side : Side) (sides : List Side) → sides_ahead (side ∷ sides) ≡ side_ahead side + sides_ahead sides
+unfolding sides_ahead
+ahead-cons side sides = sum_by-cons side_ahead side sides
+
 -- ---- a turn of the search: the next port, and the candidates for it one after another
 
--- the candidates, of which there is another list
-pub tries-all : (w : PlainWorld) (b before : List ℕ) (rs others : List Resource) (found tries : List Candidate) → b ≡ before → rs ≡ others → tries ≡ found
-    → IsPermutation (weighed w b rs) found → IsPermutation (weighed w before others) tries
-tries-all w b before rs others found tries same whole is all =
-    subst (λ (ts : List Candidate). IsPermutation (weighed w before others) ts) (sym is)
-    (subst (λ (xs : List Candidate). IsPermutation xs found) (ap (λ (c : List ℕ). weighed w c rs) same ∙ ap (weighed w before) whole) all)
+pub some-first : (sides : List Side) (none : Bool) → none ≡ nat_eq (length sides) 0 → none ≡ false → 0 < length sides
+some-first [] none is e = absurd (cc)
+some-first (side ∷ sides) none is e = omega arith
+
+-- the sides behind the first one, once that one is another
+abbrev pub rest_of : List Side → Side → List Side
+rest_of sides new = take (length (set sides 0 new) - 1) (drop 1 (set sides 0 new))
+
+rest-is : (side new : Side) (sides : List Side) → rest_of (side ∷ sides) new ≡ sides
+rest-is side new sides = let one : length (new ∷ sides) - 1 ≡ length sides = omega arith in ap (λ n. take n sides) one ∙ take_all (length sides) sides (omega arith)
+
+pub first-cut : (sides : List Side) (new d : Side) → 0 < length sides → sides ≡ get_or sides 0 d ∷ rest_of sides new
+first-cut [] new d some = absurd (omega (arith, some))
+first-cut (side ∷ sides) new d some = ap (λ rest. side ∷ rest) (sym (rest-is side new sides))
+
+pub rest-fewer : (sides : List Side) (new : Side) (left : List Side) → 0 < length sides → length left ≡ length (rest_of sides new) → suc (length left) ≡ length sides
+rest-fewer [] new left some long = absurd (omega (arith, some))
+rest-fewer (side ∷ sides) new left some long = ap suc (long ∙ ap length (rest-is side new sides))
+
+-- all sides, once the first one is another, and those behind it are others
+pub first-whole : (sides : List Side) (new : Side) (left : List Side) → 0 < length sides → length left ≡ length (rest_of sides new) → put_mid 1 (length (set sides 0 new) - 1) (set sides 0 new) left ≡ new ∷ left
+first-whole [] new left some long = absurd (omega (arith, some))
+first-whole (side ∷ sides) new left some long =
+    let one : length (new ∷ sides) - 1 ≡ length sides = omega arith in
+    ap (λ n. new ∷ (left ++ drop n sides)) one ∙ ap (λ rest. new ∷ (left ++ rest)) (drop_all (length sides) sides (omega arith)) ∙ ap (λ rest. new ∷ rest) (append-nil left)
+
+pub pushed : (longer now before : List ℕ) (p : ℕ) → longer ≡ now ++ p ∷ [] → now ≡ before → longer ≡ before ++ p ∷ []
+pushed longer now before p added same = added ∙ ap (λ (b : List ℕ). b ++ p ∷ []) same
 
 -- the places before the one that was added last
 pub popped : (xs ys new : List ℕ) (p n : ℕ) → xs ≡ ys ++ p ∷ [] → n ≡ length xs → new ≡ take (n - 1) xs → new ≡ ys
@@ -218,25 +251,66 @@ popped xs ys new p n added many cut =
     cut ∙ ap (λ (k : ℕ). take k xs) fewer ∙ ap (take (length ys)) added ∙ take-append_seam ys (p ∷ [])
 
 module _ (pool : Pool) (w : PlainWorld) (before : List ℕ) (side : Side) (sides others : List Side) (cut : sides ≡ side ∷ others) (h : IsBehind pool w before sides) where
+  next_side : IsSide pool w.request w.ports (length before) side
+  next_side = (subst (AreSides pool w.request w.ports (length before)) cut h.sides).0
+
   next_port : AreResources pool (open_places pool w.request w.ports (port_frame w.ports (suc (length before)))) side.resources.items
-  next_port = (subst (AreSides pool w.request w.ports (length before)) cut h.sides).0
+  next_port = next_side.resources
 
-  ports_left : AreSides pool w.request w.ports (suc (length before)) others
-  ports_left = (subst (AreSides pool w.request w.ports (length before)) cut h.sides).1
+  pub ports-left : AreSides pool w.request w.ports (suc (length before)) others
+  ports-left = (subst (AreSides pool w.request w.ports (length before)) cut h.sides).1
 
-  -- what weighing the resources takes
-  module _ (b : List ℕ) (rs : List Resource) (same : b ≡ before) (whole : rs ≡ side.resources.items) (start weighed : ℕ) where
-    pub first-evaluations : weighed ≤ start + sum_by (evaluations_of b) rs → weighed ≤ start + evaluations_behind pool w.request w.ports before
-    first-evaluations step =
-        let total : sum_by (evaluations_of b) rs ≡ evaluations_behind pool w.request w.ports before =
-        ap (λ (c : List ℕ). sum_by (evaluations_of c) rs) same ∙ ap (sum_by (evaluations_of before)) whole ∙ evaluations-are pool w before h.world side.resources.items next_port in
-        subst (λ n. weighed ≤ start + n) total step
+  abbrev asked_now : List Resource
+  asked_now = remembered side.is_free side.resources.items
 
-    pub first-attributes : weighed ≤ start + sum_by (attributes_of w b) rs → weighed ≤ start + attributes_behind pool w.request w.ports before
-    first-attributes step =
-        let total : sum_by (attributes_of w b) rs ≡ attributes_behind pool w.request w.ports before =
-        ap (λ (c : List ℕ). sum_by (attributes_of w c) rs) same ∙ ap (sum_by (attributes_of w before)) whole ∙ attributes-are pool w before h.world side.resources.items next_port in
-        subst (λ n. weighed ≤ start + n) total step
+  ahead-cut : sides_ahead sides ≡ side_ahead side + sides_ahead others
+  ahead-cut = ap sides_ahead cut ∙ ahead-cons side others
+
+  -- the places before, of which there is another list
+  module _ (b : List ℕ) (same : b ≡ before) where
+    pub tries-all : (found tries : List Candidate) → tries ≡ found → IsPermutation (filter_map (candidate_in w b) asked_now) found → IsPermutation (weighed w before side.resources.items) tries
+    tries-all found tries is all =
+        let kept : filter_map (candidate_in w b) asked_now ≡ weighed w before side.resources.items =
+        ap (λ (c : List ℕ). filter_map (candidate_in w c) asked_now) same ∙ remembered-weighed w before side.is_free side.resources.items (λ e k d within. is-right e k d within) in
+        subst (λ (ts : List Candidate). IsPermutation (weighed w before side.resources.items) ts) (sym is) (subst (λ (xs : List Candidate). IsPermutation xs found) kept all)
+      where
+        is-right : side.is_free ≡ true → (k : ℕ) (d : Resource) → k < length side.resources.items → IsWorth w (ad_frames (get_or side.resources.items k d).ad.now) (get_or side.resources.items k d).kept
+        is-right e k d within =
+            let r = get_or side.resources.items k d in
+            subst (λ (u : PlainWorld). IsWorth u (ad_frames r.ad.now) r.kept) (sym h.world) (next_side.kept e k d within before refl)
+
+    -- what weighing the resources takes
+    module _ (start weighed : ℕ) where
+      pub first-evaluations : weighed ≤ start + sum_by (evaluations_in b) asked_now → weighed ≤ start + evaluations_behind pool w.request w.ports before
+      first-evaluations step =
+          let here : weighed ≤ start + sum_by (evaluations_in before) asked_now = subst (λ (c : List ℕ). weighed ≤ start + sum_by (evaluations_in c) asked_now) same step in
+          omega (arith, here, remembered-evaluations w before side.is_free side.resources.items, evaluations-are pool w before h.world side.resources.items next_port)
+
+      pub first-attributes : weighed ≤ start + sum_by (attributes_of w b) asked_now → weighed ≤ start + attributes_behind pool w.request w.ports before
+      first-attributes step =
+          let total : sum_by (attributes_of w b) asked_now ≡ attributes_behind pool w.request w.ports before =
+          ap (λ (c : List ℕ). sum_by (attributes_of w c) asked_now) same
+          ∙ remembered-attributes w before side.is_free side.resources.items
+          ∙ attributes-are pool w before h.world side.resources.items next_port in
+          subst (λ n. weighed ≤ start + n) total step
+
+      -- what is ahead by then, where no memory was left, and where it was
+      pub first-spent : weighed ≤ start + sum_by (evaluations_in b) asked_now → weighed ≤ start + sides_ahead sides + evaluations_anew pool w before
+      first-spent step =
+          let here : weighed ≤ start + sum_by (evaluations_in before) asked_now = subst (λ (c : List ℕ). weighed ≤ start + sum_by (evaluations_in c) asked_now) same step in
+          omega (arith, side-spent pool w before h.world side next_side start weighed (evaluations-are pool w before h.world side.resources.items next_port) here, ahead-cut)
+
+      module _ (new : Side) (free : new.is_free ≡ side.is_free) (kept : new.resources.items ≡ map (weighed_in w b) asked_now) where
+        kept-here : new.resources.items ≡ map (weighed_in w before) asked_now
+        kept-here = kept ∙ ap (λ (c : List ℕ). map (weighed_in w c) asked_now) same
+
+        pub first-once : weighed ≤ start + sum_by (evaluations_in b) asked_now → weighed + side_ahead new + sides_ahead others ≤ start + sides_ahead sides + evaluations_anew pool w before
+        first-once step =
+            let here : weighed ≤ start + sum_by (evaluations_in before) asked_now = subst (λ (c : List ℕ). weighed ≤ start + sum_by (evaluations_in c) asked_now) same step in
+            omega (arith, side-once pool w before h.world side new next_side free kept-here start weighed (evaluations-are pool w before h.world side.resources.items next_port) here, ahead-cut)
+
+    pub side-after : (new : Side) → new.is_free ≡ side.is_free → new.resources.items ≡ map (weighed_in w b) asked_now → IsSide pool w.request w.ports (length before) new
+    side-after new free kept = side-weighed pool w before h.world side new next_side free (kept ∙ ap (λ (c : List ℕ). map (weighed_in w c) asked_now) same)
 
   module _ (count : List ℕ → ℕ) (start weighed : ℕ) (first : weighed ≤ start + count before) where
     pub turn-first : weighed ≤ start + over_prefixes (choice_in pool w) count (length sides) before
@@ -270,48 +344,88 @@ module _ (pool : Pool) (w : PlainWorld) (before : List ℕ) (side : Side) (sides
         pub turn-next : after ≤ weighed + behind (choice_in pool w) count (length others) before (take (i + 1) cs)
         turn-next = at-next (choice_in pool w) count (length others) before start weighed first cs in-order i now so_far 0 after inside here
 
-    -- behind a candidate
-    module _ (i : ℕ) (c : Candidate) (within : i < length tries) (at : c ≡ get_or tries i c) (deeper : PlainWorld) (new : deeper ≡ with_docked w (ad_frames c.ad.now)) where
+    -- the same of the evaluations that are ahead, once the port's own resources are weighed
+    module _ (new : Side) (start weighed : ℕ) (first : weighed + side_ahead new + sides_ahead others ≤ start + sides_ahead sides + evaluations_anew pool w before) (left : List Side) (i now : ℕ) (so_far : now + sides_ahead left ≤ weighed + sides_ahead others + behind (choice_in pool w) (evaluations_anew pool w) (length others) before (take i cs)) where
+      abbrev began : ℕ
+      began = weighed + side_ahead new + sides_ahead others
+
+      with_own : now + side_ahead new + sides_ahead left ≤ began + behind (choice_in pool w) (evaluations_anew pool w) (length others) before (take i cs)
+      with_own = omega (arith, so_far)
+
+      pub once-place : now + sides_ahead (new ∷ left) ≤ start + evaluations_once pool w before sides
+      once-place = omega (arith, turn-place (evaluations_anew pool w) (start + sides_ahead sides) began first i (now + side_ahead new + sides_ahead left) with_own, ahead-cons new left)
+
+      module _ (c : Candidate) (within : i < length tries) (at : c ≡ get_or tries i c) (after : ℕ) (step : after ≤ now + sides_ahead left + over_prefixes (choice_in pool w) (evaluations_anew pool w) (length others) (before ++ c.place ∷ [])) where
+        step_with_own : after + side_ahead new ≤ now + side_ahead new + sides_ahead left + over_prefixes (choice_in pool w) (evaluations_anew pool w) (length others) (before ++ c.place ∷ [])
+        step_with_own = omega (arith, step)
+
+        pub once-deeper : after + side_ahead new ≤ start + evaluations_once pool w before sides
+        once-deeper = omega (arith, turn-deeper (evaluations_anew pool w) (start + sides_ahead sides) began first i (now + side_ahead new + sides_ahead left) with_own c within at (after + side_ahead new) step_with_own)
+
+        pub once-next : after ≤ weighed + sides_ahead others + behind (choice_in pool w) (evaluations_anew pool w) (length others) before (take (i + 1) cs)
+        once-next = omega (arith, turn-next (evaluations_anew pool w) (start + sides_ahead sides) began first i (now + side_ahead new + sides_ahead left) with_own c within at (after + side_ahead new) step_with_own)
+
+    -- behind a candidate, with what is known by then of the ports that are left
+    module _ (left : List Side) (long : length left ≡ length others) (are : AreSides pool w.request w.ports (suc (length before)) left) (i : ℕ) (c : Candidate) (within : i < length tries) (at : c ≡ get_or tries i c) (deeper : PlainWorld) (new : deeper ≡ with_docked w (ad_frames c.ad.now)) (longer : List ℕ) (is : longer ≡ before ++ c.place ∷ []) where
       is-candidate : IsCandidate pool w before h.world c
       is-candidate = subst (IsCandidate pool w before h.world) (sym at) (tries-are pool w before h.world side.resources.items next_port tries all i c within)
 
-      pub turn-behind : (longer : List ℕ) → longer ≡ before ++ c.place ∷ [] → IsBehind pool deeper longer others
-      turn-behind longer is = subst (λ b. IsBehind pool deeper b others) (sym is) (behind-candidate pool w before h.world c is-candidate deeper new others ports_left)
+      pub turn-behind : IsBehind pool deeper longer left
+      turn-behind = subst (λ b. IsBehind pool deeper b left) (sym is) (behind-candidate pool w before h.world c is-candidate deeper new left are)
+
+      -- the ports that are left once more is known of them
+      pub turn-left : (after : List Side) → AreSides pool deeper.request deeper.ports (length longer) after → AreSides pool w.request w.ports (suc (length before)) after
+      turn-left after sides_are =
+          let many : length longer ≡ suc (length before) = ap length is ∙ length-more before c.place in
+          subst (λ (n : ℕ). AreSides pool w.request w.ports n after) many (subst (λ (u : PlainWorld). AreSides pool u.request u.ports (length longer) after) new sides_are)
 
       -- a count behind it, in the world of the prefix
-      pub turn-evaluations : (longer : List ℕ) → longer ≡ before ++ c.place ∷ [] → (now after : ℕ) → after ≤ now + evaluations_from pool deeper (length others) longer
-          → after ≤ now + evaluations_from pool w (length others) (before ++ c.place ∷ [])
-      turn-evaluations longer is now after step =
-          subst (λ m. after ≤ now + m) (ap (evaluations_from pool deeper (length others)) is ∙ evaluations-same pool w before h.world c is-candidate deeper new (length others) (before ++ c.place ∷ [])) step
+      pub turn-evaluations : (now after : ℕ) → after ≤ now + evaluations_from pool deeper (length left) longer → after ≤ now + evaluations_from pool w (length others) (before ++ c.place ∷ [])
+      turn-evaluations now after step =
+          subst (λ m. after ≤ now + m)
+          (ap (λ n. evaluations_from pool deeper n longer) long ∙ ap (evaluations_from pool deeper (length others)) is ∙ evaluations-same pool w before h.world c is-candidate deeper new (length others) (before ++ c.place ∷ []))
+          step
 
-      pub turn-attributes : (longer : List ℕ) → longer ≡ before ++ c.place ∷ [] → (now after : ℕ) → after ≤ now + attributes_from pool deeper (length others) longer
-          → after ≤ now + attributes_from pool w (length others) (before ++ c.place ∷ [])
-      turn-attributes longer is now after step =
-          subst (λ m. after ≤ now + m) (ap (attributes_from pool deeper (length others)) is ∙ attributes-same pool w before h.world c is-candidate deeper new (length others) (before ++ c.place ∷ [])) step
+      pub turn-attributes : (now after : ℕ) → after ≤ now + attributes_from pool deeper (length left) longer → after ≤ now + attributes_from pool w (length others) (before ++ c.place ∷ [])
+      turn-attributes now after step =
+          subst (λ m. after ≤ now + m)
+          (ap (λ n. attributes_from pool deeper n longer) long ∙ ap (attributes_from pool deeper (length others)) is ∙ attributes-same pool w before h.world c is-candidate deeper new (length others) (before ++ c.place ∷ []))
+          step
+
+      pub turn-once : (now after : ℕ) → after ≤ now + evaluations_once pool deeper longer left
+          → after ≤ now + sides_ahead left + over_prefixes (choice_in pool w) (evaluations_anew pool w) (length others) (before ++ c.place ∷ [])
+      turn-once now after step =
+          let total : over_prefixes (choice_in pool deeper) (evaluations_anew pool deeper) (length left) longer ≡ over_prefixes (choice_in pool w) (evaluations_anew pool w) (length others) (before ++ c.place ∷ []) =
+          ap (λ n. over_prefixes (choice_in pool deeper) (evaluations_anew pool deeper) n longer) long
+          ∙ ap (over_prefixes (choice_in pool deeper) (evaluations_anew pool deeper) (length others)) is
+          ∙ anew-same pool w before h.world c is-candidate deeper new (length others) (before ++ c.place ∷ []) in
+          omega (arith, step, total)
 
       -- what is found behind it, and what is not
       module _ (ordered : IsSorted candidate_order tries) (passed : (j : ℕ) → j < i → tuples (choice_in pool w) (length others) (before ++ get_or cs j 0 ∷ []) ≡ []) where
         place-is : c.place ≡ get_or cs i 0
         place-is = ap place_of at ∙ sym (mapped-at place_of tries i 0 c within)
 
-        pub turn-found : (longer after : List ℕ) → longer ≡ before ++ c.place ∷ [] → Outcome (choice_in pool deeper) (length others) longer after true → Outcome (choice_in pool w) (length sides) before after true
-        turn-found longer after is o =
+        pub turn-found : (after : List ℕ) → Outcome (choice_in pool deeper) (length left) longer after true → Outcome (choice_in pool w) (length sides) before after true
+        turn-found after o =
             let ranked : IsSorted (place_order (choice_in pool w) before) cs = tries-ordered pool w before h.world tries (tries-are pool w before h.world side.resources.items next_port tries all) ordered in
             let same : longer ≡ before ++ get_or cs i 0 ∷ [] = is ∙ ap (λ p. before ++ p ∷ []) place-is in
             let behind_it : Outcome (choice_in pool w) (length others) (before ++ get_or cs i 0 ∷ []) after true =
-            subst (λ b. Outcome (choice_in pool w) (length others) b after true) same (subst (λ k. Outcome k (length others) longer after true) (choice-same pool w before h.world c is-candidate deeper new) o) in
+            subst (λ b. Outcome (choice_in pool w) (length others) b after true) same
+            (subst (λ n. Outcome (choice_in pool w) n longer after true) long (subst (λ k. Outcome k (length left) longer after true) (choice-same pool w before h.world c is-candidate deeper new) o)) in
             subst (λ n. Outcome (choice_in pool w) n before after true) (sym (ap length cut))
             (outcome-found (choice_in pool w) (length others) before cs in-order ranked i (omega (arith, within, length-mapped place_of tries)) passed after behind_it)
 
-        pub turn-passed : (longer after : List ℕ) → longer ≡ before ++ c.place ∷ [] → Outcome (choice_in pool deeper) (length others) longer after false
+        pub turn-passed : (after : List ℕ) → Outcome (choice_in pool deeper) (length left) longer after false
             → (j : ℕ) → j < i + 1 → tuples (choice_in pool w) (length others) (before ++ get_or cs j 0 ∷ []) ≡ []
-        turn-passed longer after is o = below_more (λ j. tuples (choice_in pool w) (length others) (before ++ get_or cs j 0 ∷ []) ≡ []) i passed here
+        turn-passed after o = below_more (λ j. tuples (choice_in pool w) (length others) (before ++ get_or cs j 0 ∷ []) ≡ []) i passed here
           where
             here : tuples (choice_in pool w) (length others) (before ++ get_or cs i 0 ∷ []) ≡ []
             here =
                 ap (λ p. tuples (choice_in pool w) (length others) (before ++ p ∷ [])) (sym place-is)
                 ∙ ap (tuples (choice_in pool w) (length others)) (sym is)
-                ∙ ap (λ k. tuples k (length others) longer) (sym (choice-same pool w before h.world c is-candidate deeper new))
+                ∙ ap (λ n. tuples (choice_in pool w) n longer) (sym long)
+                ∙ ap (λ k. tuples k (length left) longer) (sym (choice-same pool w before h.world c is-candidate deeper new))
                 ∙ o.1
 
     pub turn-none : (i : ℕ) → length tries ≤ i → ((j : ℕ) → j < i → tuples (choice_in pool w) (length others) (before ++ get_or cs j 0 ∷ []) ≡ []) → (after : List ℕ) → after ≡ before

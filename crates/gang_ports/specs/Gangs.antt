@@ -1,5 +1,5 @@
 -- Gangs: which resources of a pool the ports of a request are given.
-use Rattle.std.specs.Prelude.{ℕ, suc, ◌*◌, Bool, ◌&&◌, not, false, List, [], ◌∷◌, ◌++◌, filter, length, map, slice_get, sum_by, Option, is_some}
+use Rattle.std.specs.Prelude.{ℕ, suc, ◌*◌, Bool, ◌&&◌, not, false, List, [], ◌∷◌, ◌++◌, filter, length, map, slice_get, sum_by, Option, is_some, if◌then◌else◌}
 use Rattle.std.specs.List.{range_with_len}
 use Rattle.std.specs.Option.{option_map_or}
 use Rattle.ad_tree.specs.Frames.{Frame}
@@ -12,6 +12,7 @@ use Rattle.bilateral_match.specs.Counts.{least_left}
 use Rattle.bilateral_match.specs.Pool.{Pool}
 use Rattle.eval_scope.specs.World.{PlainWorld, attribute_count, port_frame, request_side}
 use Rattle.gang_ports.specs.Choice.{Choice, first_of, is_among, over_prefixes, tuples}
+use Rattle.gang_ports.specs.FreePorts.{is_free_port}
 
 -- ---- the choice
 
@@ -71,6 +72,18 @@ attributes_behind pool request ports before =
 
 abbrev pub attributes_open : Pool → List Frame → List Port → ℕ
 attributes_open pool request ports = over_prefixes (choice_of pool request ports) (attributes_behind pool request ports) (length ports) []
+
+-- how often the docks of port i are weighed: once where it is free, else behind each valid prefix
+abbrev pub times_weighed : Pool → List Frame → List Port → ℕ → ℕ
+times_weighed pool request ports i = if is_free_port request ports i then 1 else length (tuples (choice_of pool request ports) i [])
+
+-- the undecided docks of port i, each as often as it is weighed
+unfoldable pub weighed_at : Pool → List Frame → List Port → ℕ → ℕ
+weighed_at pool request ports i = length (open_places pool request ports (port_frame ports (suc i))) * times_weighed pool request ports i
+
+-- those of all ports
+abbrev pub docks_weighed : Pool → List Frame → List Port → ℕ
+docks_weighed pool request ports = sum_by (weighed_at pool request ports) (range_with_len 0 (length ports))
 
 -- the sum over the ports of the least number of ads that one of a port's tests leaves
 abbrev pub looks_most : List Advert → List Frame → List Port → ℕ

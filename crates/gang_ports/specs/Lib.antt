@@ -1,4 +1,5 @@
 pub mod Choice
+pub mod FreePorts
 pub mod Gangs
 pub mod Ports
 pub mod Search

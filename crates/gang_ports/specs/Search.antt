@@ -1,5 +1,5 @@
 -- What a search for a gang goes through, and what it makes of a prefix.
-use Rattle.std.specs.Prelude.{◌≡◌, ℕ, suc, ◌*◌, ℤ, Bool, true, false, List, [], ◌∷◌, ◌++◌, length, map, Option, None, Some, option_map, All, if◌then◌else◌}
+use Rattle.std.specs.Prelude.{◌≡◌, ℕ, suc, ◌+◌, ◌*◌, ℤ, Bool, true, false, List, [], ◌∷◌, ◌++◌, length, map, sum_by, Option, None, Some, option_map, All, if◌then◌else◌}
 use Rattle.std.specs.List.{filter_map}
 use Rattle.std.specs.List.Sorted.{IsPermutation}
 use Rattle.std.specs.Ordering.{int_cmp, nat_cmp, ordering_then}
@@ -10,10 +10,12 @@ use Rattle.ad_tree.specs.declared.request.Port.{Port}
 use Rattle.eval_scope.specs.World.{PlainWorld, attribute_count, port_frame, request_side, with_docked}
 use Rattle.ad_eval.specs.Dock.{is_docked, rank_by}
 use Rattle.bilateral_match.specs.Pool.{Pool}
-use Rattle.gang_ports.specs.declared.searching.Side.{Side}
 use Rattle.gang_ports.specs.declared.weighing.Candidate.{Candidate}
+use Rattle.gang_ports.specs.declared.weighing.Kept.{Kept}
 use Rattle.gang_ports.specs.declared.weighing.Resource.{Resource}
+use Rattle.gang_ports.specs.declared.weighing.Side.{Side}
 use Rattle.gang_ports.specs.Choice.{Choice, IsFirst, is_among, over_prefixes, tuples}
+use Rattle.gang_ports.specs.FreePorts.{is_free_port}
 use Rattle.gang_ports.specs.Gangs.{ad_at, attributes_behind, choice_of, evaluations_behind, gang_world, open_places}
 
 -- ---- a port's resources
@@ -41,6 +43,59 @@ evaluations_of before r = if is_among before r.place then 0 else 3
 abbrev pub attributes_of : PlainWorld → List ℕ → Resource → ℕ
 attributes_of w before r = if is_among before r.place then 0 else 3 * attribute_count (with_docked w (ad_frames r.ad.now))
 
+-- ---- what is kept of a port's resources
+
+-- nothing is known of a resource
+abbrev pub is_unknown : Kept → Bool
+is_unknown Kept.Unknown = true
+is_unknown (Kept.Weighed rank) = false
+
+-- what is kept of a resource with this ad is what its dock is worth in a world
+abbrev pub IsWorth : PlainWorld → List Frame → Kept → Type 0
+IsWorth w ad Kept.Unknown = Unit {0}
+IsWorth w ad (Kept.Weighed rank) = rank ≡ worth (with_docked w ad)
+
+-- what is kept once it is weighed
+abbrev pub kept_in : PlainWorld → List Frame → Kept → Kept
+kept_in w ad Kept.Unknown = Kept.Weighed (worth (with_docked w ad))
+kept_in w ad (Kept.Weighed rank) = Kept.Weighed rank
+
+abbrev pub rank_kept : Kept → Option ℤ
+rank_kept Kept.Unknown = None
+rank_kept (Kept.Weighed rank) = rank
+
+-- a resource is weighed where it isn't docked yet and nothing is known of it
+abbrev pub weighed_in : PlainWorld → List ℕ → Resource → Resource
+weighed_in w before r = if is_among before r.place then r else record { place = r.place; ad = r.ad; kept = kept_in w (ad_frames r.ad.now) r.kept }
+
+-- the candidate that it then is
+abbrev pub candidate_in : PlainWorld → List ℕ → Resource → Option Candidate
+candidate_in w before r =
+    if is_among before r.place then None
+    else option_map (λ rank. record { place = r.place; rank = rank; ad = r.ad }) (rank_kept (kept_in w (ad_frames r.ad.now) r.kept))
+
+-- how many evaluations that may take
+abbrev pub evaluations_in : List ℕ → Resource → ℕ
+evaluations_in before r = if is_among before r.place then 0 else if is_unknown r.kept then 3 else 0
+
+abbrev pub forgotten : Resource → Resource
+forgotten r = record { place = r.place; ad = r.ad; kept = Kept.Unknown }
+
+-- the resources of a port as they are when they are weighed again: what is kept of them stays at a free port alone
+abbrev pub remembered : Bool → List Resource → List Resource
+remembered true resources = resources
+remembered false resources = map forgotten resources
+
+-- how many evaluations a resource may still take at a free port, and all resources of a port, if it is free
+abbrev pub evaluations_ahead : Resource → ℕ
+evaluations_ahead r = if is_unknown r.kept then 3 else 0
+
+abbrev pub side_ahead : Side → ℕ
+side_ahead side = if side.is_free then sum_by evaluations_ahead side.resources.items else 0
+
+unfoldable pub sides_ahead : List Side → ℕ
+sides_ahead sides = sum_by side_ahead sides
+
 -- ---- the resources of all ports
 
 -- the resources at these places of a pool, in any order
@@ -48,10 +103,20 @@ pub record AreResources (pool : Pool) (places : List ℕ) (resources : List Reso
   pub all : IsPermutation places (map (λ r. r.place) resources)
   pub ads : All (λ r. ad_frames r.ad.now ≡ ad_at pool r.place) resources
 
--- for the ports from i on, the resources with which the dock may be true
+-- what is kept of a resource is its worth to port i behind each prefix
+abbrev pub IsKept : Pool → List Frame → List Port → ℕ → Resource → Type 0
+IsKept pool request ports i r = (before : List ℕ) → length before ≡ i → IsWorth (gang_world pool request ports before) (ad_frames r.ad.now) r.kept
+
+-- port i has the resources with which its dock may be true, and if it is free, what is kept of them is so
+pub record IsSide (pool : Pool) (request : List Frame) (ports : List Port) (i : ℕ) (side : Side) : Type 0 where
+  pub free : side.is_free ≡ is_free_port request ports i
+  pub resources : AreResources pool (open_places pool request ports (port_frame ports (suc i))) side.resources.items
+  pub kept : side.is_free ≡ true → All (IsKept pool request ports i) side.resources.items
+
+-- the ports from i on
 abbrev pub AreSides : Pool → List Frame → List Port → ℕ → List Side → Type 0
 AreSides pool request ports i [] = Unit {0}
-AreSides pool request ports i (side ∷ sides) = AreResources pool (open_places pool request ports (port_frame ports (suc i))) side.resources.items × AreSides pool request ports (suc i) sides
+AreSides pool request ports i (side ∷ sides) = IsSide pool request ports i side × AreSides pool request ports (suc i) sides
 
 -- ---- behind a prefix
 
@@ -74,3 +139,11 @@ evaluations_from pool w n before = over_prefixes (choice_in pool w) (evaluations
 
 abbrev pub attributes_from : Pool → PlainWorld → ℕ → List ℕ → ℕ
 attributes_from pool w n before = over_prefixes (choice_in pool w) (attributes_behind pool w.request w.ports) n before
+
+-- those behind a prefix for a port that isn't free
+abbrev pub evaluations_anew : Pool → PlainWorld → List ℕ → ℕ
+evaluations_anew pool w before = if is_free_port w.request w.ports (length before) then 0 else evaluations_behind pool w.request w.ports before
+
+-- the evaluations that are ahead: of each unknown resource of a free port once, and at any other port behind each prefix
+abbrev pub evaluations_once : Pool → PlainWorld → List ℕ → List Side → ℕ
+evaluations_once pool w before sides = sides_ahead sides + over_prefixes (choice_in pool w) (evaluations_anew pool w) (length sides) before

@@ -5,7 +5,7 @@ ghost use Rattle.ad_store.specs.Store.{stock_of};
 ghost use Rattle.literal_index.specs.Shown.{IsIndex};
 ghost use Rattle.bilateral_match.specs.Pool.{pool_of, slot_at};
 ghost use Rattle.bilateral_match.specs.Rows.{rows_of};
-ghost use Rattle.gang_ports.specs.Gangs.{attributes_open, docks_open, gang, looks_most};
+ghost use Rattle.gang_ports.specs.Gangs.{attributes_open, docks_open, docks_weighed, gang, looks_most};
 ghost use Rattle.gang_ports.specs.Ports.{ports_of};
 
 use crate::reading::read_sides;
@@ -28,7 +28,9 @@ use std::sync::ledger::Ledger;
 ///
 /// Of the tests of a port the one that leaves the fewest ads says which ads it looks at; without one it looks at all. It
 /// counts each of them once in `touch`. In `tops` and `entry` it counts what evaluations count: for each port and each way
-/// to dock the ports before it, three at most for another free resource whose dock no test of either side decides.
+/// to dock the ports before it, three at most for another free resource whose dock no test of either side decides. Where no
+/// bare name in the request is the label of a port before it, a port counts each such resource in `tops` once, however many
+/// ways there are.
 pub fn first_gang<H: Holdings, F: Ledger, E: Ledger, T: Ledger>(
     alloc: Global,
     store: &Store,
@@ -46,14 +48,23 @@ pub fn first_gang<H: Holdings, F: Ledger, E: Ledger, T: Ledger>(
         (gang (pool_of moment (stock_of store.now) (H.is_offered held.now) (H.holding held.now)) (ad_frames request.now.ad) request.now.ports)) }
     ensures evaluations { tops.new ≤ tops.old
         + 3 * docks_open (pool_of moment (stock_of store.now) (H.is_offered held.now) (H.holding held.now)) (ad_frames request.now.ad) request.now.ports }
+    ensures once { tops.new ≤ tops.old
+        + 3 * docks_weighed (pool_of moment (stock_of store.now) (H.is_offered held.now) (H.holding held.now)) (ad_frames request.now.ad) request.now.ports }
     ensures entries { entry.new ≤ entry.old
         + attributes_open (pool_of moment (stock_of store.now) (H.is_offered held.now) (H.holding held.now)) (ad_frames request.now.ad) request.now.ports }
     ensures looks { touch.new ≤ touch.old + looks_most (stock_of store.now).ads (ad_frames request.now.ad) request.now.ports }
 {
-    let sides = read_sides(alloc, store, index, held, request, moment, touch)?;
+    let mut sides = read_sides(alloc, store, index, held, request, moment, touch)?;
     let world = World::new(moment, &request.ad, &request.ports);
     let mut places = Vec::new(alloc);
-    if !search(alloc, &world, &mut places, sides.as_slice(), tops, entry)? {
+    if !search(
+        alloc,
+        &world,
+        &mut places,
+        sides.as_mut_slice(),
+        tops,
+        entry,
+    )? {
         return Ok(None);
     }
     Ok(Some(slots_at(alloc, store, places.as_slice())?))

@@ -3,6 +3,7 @@ ghost use Rattle.std.specs.Prelude.{◌≡◌, ◌≤◌, ℕ, [], true, length,
 ghost use Rattle.ad_tree.specs.Ad.{ad_frames};
 ghost use Rattle.bilateral_match.specs.Pool.{Pool};
 ghost use Rattle.gang_ports.specs.Choice.{IsFirstOf, tuples};
+ghost use Rattle.gang_ports.specs.FreePorts.{is_free_port};
 ghost use Rattle.gang_ports.specs.Gangs.{attributes_open, choice_of, docks_open, gang};
 
 use ad_tree::Request;
@@ -30,4 +31,17 @@ pub fn more_offers_leave_no_more_gangs(request: &Request)
     ensures entered { (pool : Pool) (offered : ℕ → Bool) → ((place : ℕ) → pool.is_offered place ≡ true → offered place ≡ true)
         → attributes_open (record pool { is_offered = offered }) (ad_frames request.now.ad) request.now.ports
         ≤ attributes_open pool (ad_frames request.now.ad) request.now.ports }
+{}
+
+/// What a resource is worth to a free port doesn't depend on what is docked to the ports before it: whether the dock is true,
+/// and its rank.
+pub fn a_free_port_is_worth_the_same_behind_all_prefixes(request: &Request)
+    ensures dock { (pool : Pool) (before others : List ℕ) (place : ℕ) → length others ≡ length before
+        → is_free_port (ad_frames request.now.ad) request.now.ports (length before) ≡ true
+        → (choice_of pool (ad_frames request.now.ad) request.now.ports).dock others place
+        ≡ (choice_of pool (ad_frames request.now.ad) request.now.ports).dock before place }
+    ensures rank { (pool : Pool) (before others : List ℕ) (place : ℕ) → length others ≡ length before
+        → is_free_port (ad_frames request.now.ad) request.now.ports (length before) ≡ true
+        → (choice_of pool (ad_frames request.now.ad) request.now.ports).rank others place
+        ≡ (choice_of pool (ad_frames request.now.ad) request.now.ports).rank before place }
 {}

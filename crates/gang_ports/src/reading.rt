@@ -1,5 +1,5 @@
 // The resources that the ports of a gang may be given.
-ghost use Rattle.std.specs.Prelude.{◌≡◌, ◌≤◌, ◌<◌, ◌+◌, ◌&&◌, ◌++◌, ℕ, [], length, slice_get, Contains, IfOk, IfSome, None, OnOk, Some, option_map, if◌then◌else◌};
+ghost use Rattle.std.specs.Prelude.{◌≡◌, ◌≤◌, ◌<◌, ◌+◌, ◌&&◌, ◌++◌, ℕ, [], length, slice_get, true, All, Contains, IfOk, IfSome, None, OnOk, Some, option_map, if◌then◌else◌};
 ghost use Rattle.std.specs.List.{cons_option};
 ghost use Rattle.ad_tree.specs.Ad.{ad_frames};
 ghost use Rattle.ad_store.specs.Store.{stock_of};
@@ -9,10 +9,10 @@ ghost use Rattle.bilateral_match.specs.Counts.{least_left};
 ghost use Rattle.bilateral_match.specs.Pool.{pool_of};
 ghost use Rattle.bilateral_match.specs.Rows.{rows_of};
 ghost use Rattle.gang_ports.specs.Gangs.{ad_at, is_free, is_open, looks_most, open_places};
-ghost use Rattle.gang_ports.specs.Search.{AreResources, AreSides};
+ghost use Rattle.gang_ports.specs.Search.{AreResources, AreSides, is_unknown};
 
-use crate::searching::Side;
-use crate::weighing::Resource;
+use crate::free_ports::is_free_port;
+use crate::weighing::{Kept, Resource, Side};
 use ad_store::{Holdings, Store};
 use ad_tree::{Ad, Request};
 use bilateral_match::{candidates_at, is_decided, is_live};
@@ -41,16 +41,17 @@ pub fn read_sides<'a, H: Holdings, T: Ledger>(
 {
     let mut sides = Vec::new(alloc);
     for port in request.ports.as_slice() {
-        let side = read_side(
+        let is_free = is_free_port(request, sides.len());
+        let resources = read_resources(
             alloc, store, index, held, request, port.frame, moment, touch,
         )?;
-        sides.push(side)?;
+        sides.push(Side { is_free, resources })?;
     }
     Ok(sides)
 }
 
-// The resources that the port at a frame may be given.
-fn read_side<'a, H: Holdings, T: Ledger>(
+// The resources that the port at a frame may be given, of which nothing is known yet.
+fn read_resources<'a, H: Holdings, T: Ledger>(
     alloc: Global,
     store: &'a Store,
     index: &Index,
@@ -59,11 +60,12 @@ fn read_side<'a, H: Holdings, T: Ledger>(
     frame: u32,
     moment: u64,
     touch: &mut Steps<T>,
-) -> Result<Side<'a>, OutOfMemory>
+) -> Result<Vec<Resource<'a>>, OutOfMemory>
     requires index { IsIndex index.now (rows_of (stock_of store.now)) }
     requires frame { frame < length (ad_frames request.now.ad) }
-    ensures side { IfOk result (λ side. AreResources (pool_of moment (stock_of store.now) (H.is_offered held.now) (H.holding held.now))
-        (open_places (pool_of moment (stock_of store.now) (H.is_offered held.now) (H.holding held.now)) (ad_frames request.now.ad) request.now.ports frame) side.resources.items) }
+    ensures resources { IfOk result (λ resources. AreResources (pool_of moment (stock_of store.now) (H.is_offered held.now) (H.holding held.now))
+        (open_places (pool_of moment (stock_of store.now) (H.is_offered held.now) (H.holding held.now)) (ad_frames request.now.ad) request.now.ports frame) resources.items) }
+    ensures unknown { IfOk result (λ resources. All (λ r. is_unknown r.kept ≡ true) resources.items) }
     ensures looks { touch.new ≤ touch.old
         + least_left (stock_of store.now).ads (tests_of (ad_frames request.now.ad) frame (labels_of request.now.ports)) }
 {
@@ -73,7 +75,7 @@ fn read_side<'a, H: Holdings, T: Ledger>(
         let found = resource_at(alloc, store, held, request, frame, moment, *place, touch);
         keep(&mut resources, found)?;
     }
-    Ok(Side { resources })
+    Ok(resources)
 }
 
 // The resource at a place, where it may be taken and no test decides its dock with the frame.
@@ -93,6 +95,7 @@ fn resource_at<'a, H: Holdings, T: Ledger>(
         && is_open (pool_of moment (stock_of store.now) (H.is_offered held.now) (H.holding held.now)) (ad_frames request.now.ad) request.now.ports frame place
         then Some place else None) }
     ensures ad { IfSome result (λ r. ad_frames r.ad.now ≡ ad_at (pool_of moment (stock_of store.now) (H.is_offered held.now) (H.holding held.now)) r.place) }
+    ensures unknown { IfSome result (λ r. is_unknown r.kept ≡ true) }
     ensures looks { touch.new ≤ touch.old + 1 }
 {
     let slot = store.at(place);
@@ -103,7 +106,11 @@ fn resource_at<'a, H: Holdings, T: Ledger>(
     if is_decided(alloc, request, frame, ad) {
         return None;
     }
-    Some(Resource { place, ad })
+    Some(Resource {
+        place,
+        ad,
+        kept: Kept::Unknown,
+    })
 }
 
 // Whether the resource in a slot may be taken: it is live, not offered and not claimed.

@@ -1,11 +1,11 @@
 // What the docks of a port with single resources are worth.
-ghost use Rattle.std.specs.Prelude.{◌≡◌, ◌≤◌, ◌<◌, ◌+◌, ◌*◌, [], length, sum_by, IfOk, OnOk, ◌++◌};
-ghost use Rattle.std.specs.List.{cons_option};
+ghost use Rattle.std.specs.Prelude.{◌≡◌, ◌≤◌, ◌<◌, ◌+◌, ◌*◌, [], length, map, option_map, sum_by, IfOk, OnOk, ◌++◌};
+ghost use Rattle.std.specs.List.{cons_option, filter_map};
 ghost use Rattle.std.specs.List.Sorted.{IsPermutation, IsSorted};
 ghost use Rattle.eval_scope.specs.Shown.{world_of};
 ghost use Rattle.eval_scope.specs.World.{attribute_count};
 ghost use Rattle.gang_ports.specs.Choice.{is_among};
-ghost use Rattle.gang_ports.specs.Search.{attributes_of, candidate_of, candidate_order, evaluations_of, weighed, worth};
+ghost use Rattle.gang_ports.specs.Search.{attributes_of, candidate_in, candidate_order, evaluations_in, forgotten, remembered, weighed_in, worth};
 
 use ad_eval::{dock, rank};
 use ad_tree::Ad;
@@ -15,11 +15,28 @@ use pool_text::OutOfMemory;
 use std::alloc::Global;
 use std::sync::ledger::Ledger;
 
-/// A resource that a port may be given: its place in the order of the store, counted from 0, and its ad.
+/// What is known of a resource at a port: nothing, or that it was weighed, and the rank that the port gives it where the dock
+/// is true.
+#[derive(Clone, Copy)]
+pub enum Kept {
+    Unknown,
+    Weighed(Option<i64>),
+}
+
+/// A resource that a port may be given: its place in the order of the store, counted from 0, its ad, and what is known of it.
 #[derive(Clone, Copy)]
 pub struct Resource<'a> {
     pub place: usize,
     pub ad: &'a Ad,
+    pub kept: Kept,
+}
+
+/// What a port asks among: the resources that it may be given. What they are worth to a free port is the same behind all
+/// prefixes.
+#[derive(Drop)]
+pub struct Side<'a> {
+    pub is_free: bool,
+    pub resources: Vec<Resource<'a>>,
 }
 
 /// A resource whose dock with a port is true, with the rank that the port gives it.
@@ -31,24 +48,46 @@ pub struct Candidate<'a> {
 }
 
 /// The resources that dock with the port after those at the places before it, by its rank falling, and at equal ranks by
-/// place.
+/// place. What a resource is worth to a free port is kept, and not weighed again.
 pub fn candidates<'a, F: Ledger, E: Ledger>(
     alloc: Global,
     world: &World<'a>,
     before: &[usize],
-    resources: &[Resource<'a>],
+    side: &mut Side<'a>,
     tops: &mut Steps<F>,
     entry: &mut Steps<E>,
 ) -> Result<Vec<Candidate<'a>>, OutOfMemory>
     requires { length (world_of world.now).docked < 8 }
-    ensures all { IfOk result (λ tries. IsPermutation (weighed (world_of world.now) before.now resources.now) tries.items) }
+    ensures all { IfOk result (λ tries. IsPermutation (filter_map (candidate_in (world_of world.now) before.now) (remembered side.old.is_free side.old.resources.items)) tries.items) }
     ensures ordered { IfOk result (λ tries. IsSorted candidate_order tries.items) }
-    ensures evaluations { tops.new ≤ tops.old + sum_by (evaluations_of before.now) resources.now }
-    ensures entries { entry.new ≤ entry.old + sum_by (attributes_of (world_of world.now) before.now) resources.now }
+    ensures free { side.new.is_free ≡ side.old.is_free }
+    ensures kept { OnOk result (side.new.resources.items ≡ map (weighed_in (world_of world.now) before.now) (remembered side.old.is_free side.old.resources.items)) }
+    ensures evaluations { tops.new ≤ tops.old + sum_by (evaluations_in before.now) (remembered side.old.is_free side.old.resources.items) }
+    ensures entries { entry.new ≤ entry.old + sum_by (attributes_of (world_of world.now) before.now) (remembered side.old.is_free side.old.resources.items) }
 {
+    let resources = side.resources.as_mut_slice();
+    remember(side.is_free, resources);
     let mut tries = weigh_all(alloc, world, before, resources, tops, entry)?;
     arrange(&mut tries);
     Ok(tries)
+}
+
+// Forgets what is known of resources, unless they are those of a free port.
+fn remember(is_free: bool, resources: &mut [Resource<'_>])
+    ensures { resources.new ≡ remembered is_free resources.old }
+{
+    if !is_free {
+        forget(resources);
+    }
+}
+
+// Forgets what is known of resources.
+fn forget(resources: &mut [Resource<'_>])
+    ensures { resources.new ≡ map forgotten resources.old }
+{
+    for resource in resources.iter_mut() {
+        resource.kept = Kept::Unknown;
+    }
 }
 
 // Puts candidates in order: by rank falling, and at equal ranks by place.
@@ -59,54 +98,65 @@ fn arrange(tries: &mut Vec<Candidate<'_>>)
     tries.sort_unstable_by(|a, b| b.rank.cmp(&a.rank).then(a.place.cmp(&b.place)));
 }
 
-// The resources that dock, one after another.
+// The resources that dock, one after another. Those of which nothing is known are weighed, and what they are worth is kept.
 fn weigh_all<'a, F: Ledger, E: Ledger>(
     alloc: Global,
     world: &World<'a>,
     before: &[usize],
-    resources: &[Resource<'a>],
+    resources: &mut [Resource<'a>],
     tops: &mut Steps<F>,
     entry: &mut Steps<E>,
 ) -> Result<Vec<Candidate<'a>>, OutOfMemory>
     requires { length (world_of world.now).docked < 8 }
-    ensures tries { IfOk result (λ tries. tries.items ≡ weighed (world_of world.now) before.now resources.now) }
-    ensures evaluations { tops.new ≤ tops.old + sum_by (evaluations_of before.now) resources.now }
-    ensures entries { entry.new ≤ entry.old + sum_by (attributes_of (world_of world.now) before.now) resources.now }
+    ensures tries { IfOk result (λ tries. tries.items ≡ filter_map (candidate_in (world_of world.now) before.now) resources.old) }
+    ensures kept { OnOk result (resources.new ≡ map (weighed_in (world_of world.now) before.now) resources.old) }
+    ensures evaluations { tops.new ≤ tops.old + sum_by (evaluations_in before.now) resources.old }
+    ensures entries { entry.new ≤ entry.old + sum_by (attributes_of (world_of world.now) before.now) resources.old }
 {
     let mut tries = Vec::new(alloc);
-    for resource in resources {
-        let weighed = weigh(alloc, world, before, *resource, tops, entry)?;
-        keep(&mut tries, weighed)?;
+    for resource in resources.iter_mut() {
+        let found = weigh(alloc, world, before, resource, tops, entry)?;
+        keep(&mut tries, found)?;
     }
     Ok(tries)
 }
 
-// The candidate that a resource is, if it docks. One that is docked already isn't weighed.
+// The candidate that a resource is, if it docks. One that is docked already isn't weighed, and no other is weighed again.
 fn weigh<'a, F: Ledger, E: Ledger>(
     alloc: Global,
     world: &World<'a>,
     before: &[usize],
-    resource: Resource<'a>,
+    resource: &mut Resource<'a>,
     tops: &mut Steps<F>,
     entry: &mut Steps<E>,
 ) -> Result<Option<Candidate<'a>>, OutOfMemory>
     requires { length (world_of world.now).docked < 8 }
-    ensures found { IfOk result (λ found. found ≡ candidate_of (world_of world.now) before.now resource.entry) }
-    ensures evaluations { tops.new ≤ tops.old + evaluations_of before.now resource.entry }
-    ensures entries { entry.new ≤ entry.old + attributes_of (world_of world.now) before.now resource.entry }
+    ensures found { IfOk result (λ found. found ≡ candidate_in (world_of world.now) before.now resource.old) }
+    ensures kept { OnOk result (resource.new ≡ weighed_in (world_of world.now) before.now resource.old) }
+    ensures evaluations { tops.new ≤ tops.old + evaluations_in before.now resource.old }
+    ensures entries { entry.new ≤ entry.old + attributes_of (world_of world.now) before.now resource.old }
 {
     if is_among(before, resource.place) {
         return Ok(None);
     }
-    let docked = world.with(resource.ad);
-    let Some(rank) = rank_where_docked(alloc, &docked, tops, entry)? else {
-        return Ok(None);
+    let rank = match resource.kept {
+        Kept::Weighed(rank) => rank,
+        Kept::Unknown => { rank_where_docked(alloc, &world.with(resource.ad), tops, entry)? }
     };
-    Ok(Some(Candidate {
+    resource.kept = Kept::Weighed(rank);
+    Ok(ranked(resource, rank))
+}
+
+// The candidate that a resource is at a rank, if it has one.
+fn ranked<'a>(resource: &Resource<'a>, rank: Option<i64>) -> Option<Candidate<'a>>
+    ensures { result ≡ option_map (λ rank. record { place = resource.now.place; rank = rank; ad = resource.now.ad }) rank }
+{
+    let rank = rank?;
+    Some(Candidate {
         place: resource.place,
         rank,
         ad: resource.ad,
-    }))
+    })
 }
 
 // Whether one of the places is this place.

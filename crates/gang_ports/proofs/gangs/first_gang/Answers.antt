@@ -5,6 +5,7 @@ use Rattle.ad_store.specs.Store.{stock_of}
 use Rattle.eval_scope.specs.Shown.{world_of}
 use Rattle.bilateral_match.specs.Pool.{Pool, pool_of, slot_at}
 use Rattle.gang_ports.specs.Search.{IsBehind, Outcome, choice_in}
+use Rattle.gang_ports.proofs.OnceLemmas.{once-whole}
 use Rattle.gang_ports.proofs.PoolLemmas.{attributes-whole, evaluations-whole, found-whole, none-whole, starts, within-whole}
 use Rattle.gang_ports.proofs.gangs.first_gang.Goals as goal
 
@@ -15,10 +16,10 @@ returns-in_err-search-clause-evaluations g c =
     let request = ad_frames c.args.request.now.ad in
     let ports = c.args.request.now.ports in
     let w = world_of c.new-world.result in
-    let sides = c.as_slice.result.now in
+    let sides = c.as_mut_slice.result.now in
     let before = c.new-places.result.items in
-    let starting : IsBehind pool w before sides = starts pool request ports w c.new-world.ensures before c.new-places.ensures.items sides c.in_ok-sides.sides.items c.as_slice.ensures.value c.in_ok-sides.ensures.sides in
-    let many : length sides ≡ length ports = ap length c.as_slice.ensures.value ∙ c.in_ok-sides.ensures.many in
+    let starting : IsBehind pool w before sides = starts pool request ports w c.new-world.ensures before c.new-places.ensures.items sides c.in_ok-sides.sides.items c.as_mut_slice.ensures.value c.in_ok-sides.ensures.sides in
+    let many : length sides ≡ length ports = ap length c.as_mut_slice.ensures.value ∙ c.in_ok-sides.ensures.many in
     evaluations-whole pool request ports w c.new-world.ensures before c.new-places.ensures.items (length sides) c.args.tops.now c.search.new.tops many (c.search.ensures.evaluations pool starting)
 
 pub returns-in_err-search-clause-entries : goal.returns-in_err-search-clause-entries
@@ -28,10 +29,10 @@ returns-in_err-search-clause-entries g c =
     let request = ad_frames c.args.request.now.ad in
     let ports = c.args.request.now.ports in
     let w = world_of c.new-world.result in
-    let sides = c.as_slice.result.now in
+    let sides = c.as_mut_slice.result.now in
     let before = c.new-places.result.items in
-    let starting : IsBehind pool w before sides = starts pool request ports w c.new-world.ensures before c.new-places.ensures.items sides c.in_ok-sides.sides.items c.as_slice.ensures.value c.in_ok-sides.ensures.sides in
-    let many : length sides ≡ length ports = ap length c.as_slice.ensures.value ∙ c.in_ok-sides.ensures.many in
+    let starting : IsBehind pool w before sides = starts pool request ports w c.new-world.ensures before c.new-places.ensures.items sides c.in_ok-sides.sides.items c.as_mut_slice.ensures.value c.in_ok-sides.ensures.sides in
+    let many : length sides ≡ length ports = ap length c.as_mut_slice.ensures.value ∙ c.in_ok-sides.ensures.many in
     attributes-whole pool request ports w c.new-world.ensures before c.new-places.ensures.items (length sides) c.args.entry.now c.search.new.entry many (c.search.ensures.entries pool starting)
 
 pub returns-then-not-branch-clause-gang : goal.returns-then-not-branch-clause-gang
@@ -41,10 +42,10 @@ returns-then-not-branch-clause-gang g c =
     let request = ad_frames c.args.request.now.ad in
     let ports = c.args.request.now.ports in
     let w = world_of c.new-world.result in
-    let sides = c.as_slice.result.now in
+    let sides = c.as_mut_slice.result.now in
     let before = c.new-places.result.items in
-    let starting : IsBehind pool w before sides = starts pool request ports w c.new-world.ensures before c.new-places.ensures.items sides c.in_ok-sides.sides.items c.as_slice.ensures.value c.in_ok-sides.ensures.sides in
-    let many : length sides ≡ length ports = ap length c.as_slice.ensures.value ∙ c.in_ok-sides.ensures.many in
+    let starting : IsBehind pool w before sides = starts pool request ports w c.new-world.ensures before c.new-places.ensures.items sides c.in_ok-sides.sides.items c.as_mut_slice.ensures.value c.in_ok-sides.ensures.sides in
+    let many : length sides ≡ length ports = ap length c.as_mut_slice.ensures.value ∙ c.in_ok-sides.ensures.many in
     let o : Outcome (choice_in pool w) (length sides) before c.search.new.before.items false =
     subst (λ (found : Bool). Outcome (choice_in pool w) (length sides) before c.search.new.before.items found) c.if-not-branch.true (c.in_ok-search.ensures.outcome pool starting) in
     ap (option_map (map (slot_at stock))) (sym (none-whole pool request ports w c.new-world.ensures before c.new-places.ensures.items (length sides) c.search.new.before.items many o))
@@ -56,10 +57,10 @@ returns-then-not-branch-clause-evaluations g c =
     let request = ad_frames c.args.request.now.ad in
     let ports = c.args.request.now.ports in
     let w = world_of c.new-world.result in
-    let sides = c.as_slice.result.now in
+    let sides = c.as_mut_slice.result.now in
     let before = c.new-places.result.items in
-    let starting : IsBehind pool w before sides = starts pool request ports w c.new-world.ensures before c.new-places.ensures.items sides c.in_ok-sides.sides.items c.as_slice.ensures.value c.in_ok-sides.ensures.sides in
-    let many : length sides ≡ length ports = ap length c.as_slice.ensures.value ∙ c.in_ok-sides.ensures.many in
+    let starting : IsBehind pool w before sides = starts pool request ports w c.new-world.ensures before c.new-places.ensures.items sides c.in_ok-sides.sides.items c.as_mut_slice.ensures.value c.in_ok-sides.ensures.sides in
+    let many : length sides ≡ length ports = ap length c.as_mut_slice.ensures.value ∙ c.in_ok-sides.ensures.many in
     evaluations-whole pool request ports w c.new-world.ensures before c.new-places.ensures.items (length sides) c.args.tops.now c.search.new.tops many (c.search.ensures.evaluations pool starting)
 
 pub returns-then-not-branch-clause-entries : goal.returns-then-not-branch-clause-entries
@@ -69,10 +70,10 @@ returns-then-not-branch-clause-entries g c =
     let request = ad_frames c.args.request.now.ad in
     let ports = c.args.request.now.ports in
     let w = world_of c.new-world.result in
-    let sides = c.as_slice.result.now in
+    let sides = c.as_mut_slice.result.now in
     let before = c.new-places.result.items in
-    let starting : IsBehind pool w before sides = starts pool request ports w c.new-world.ensures before c.new-places.ensures.items sides c.in_ok-sides.sides.items c.as_slice.ensures.value c.in_ok-sides.ensures.sides in
-    let many : length sides ≡ length ports = ap length c.as_slice.ensures.value ∙ c.in_ok-sides.ensures.many in
+    let starting : IsBehind pool w before sides = starts pool request ports w c.new-world.ensures before c.new-places.ensures.items sides c.in_ok-sides.sides.items c.as_mut_slice.ensures.value c.in_ok-sides.ensures.sides in
+    let many : length sides ≡ length ports = ap length c.as_mut_slice.ensures.value ∙ c.in_ok-sides.ensures.many in
     attributes-whole pool request ports w c.new-world.ensures before c.new-places.ensures.items (length sides) c.args.entry.now c.search.new.entry many (c.search.ensures.entries pool starting)
 
 pub slots_at-requires : goal.slots_at-requires
@@ -82,13 +83,13 @@ slots_at-requires g c =
     let request = ad_frames c.args.request.now.ad in
     let ports = c.args.request.now.ports in
     let w = world_of c.new-world.result in
-    let sides = c.as_slice.result.now in
+    let sides = c.as_mut_slice.result.now in
     let before = c.new-places.result.items in
-    let starting : IsBehind pool w before sides = starts pool request ports w c.new-world.ensures before c.new-places.ensures.items sides c.in_ok-sides.sides.items c.as_slice.ensures.value c.in_ok-sides.ensures.sides in
+    let starting : IsBehind pool w before sides = starts pool request ports w c.new-world.ensures before c.new-places.ensures.items sides c.in_ok-sides.sides.items c.as_mut_slice.ensures.value c.in_ok-sides.ensures.sides in
     let o : Outcome (choice_in pool w) (length sides) before c.search.new.before.items true =
     subst (λ (found : Bool). Outcome (choice_in pool w) (length sides) before c.search.new.before.items found) c.if-not-branch.false (c.in_ok-search.ensures.outcome pool starting) in
     let fits : length stock.ads ≤ length stock.slots = simp length-map (omega arith) in
-    subst (λ (places : List ℕ). All (λ place. place < length stock.slots) places) (sym c.as_slice-2.ensures.value) (within-whole pool request ports w c.new-world.ensures before c.new-places.ensures.items (length sides) (length stock.slots) c.search.new.before.items fits o)
+    subst (λ (places : List ℕ). All (λ place. place < length stock.slots) places) (sym c.as_slice.ensures.value) (within-whole pool request ports w c.new-world.ensures before c.new-places.ensures.items (length sides) (length stock.slots) c.search.new.before.items fits o)
 
 pub returns-in_err-slots_at-clause-evaluations : goal.returns-in_err-slots_at-clause-evaluations
 returns-in_err-slots_at-clause-evaluations g c =
@@ -97,10 +98,10 @@ returns-in_err-slots_at-clause-evaluations g c =
     let request = ad_frames c.args.request.now.ad in
     let ports = c.args.request.now.ports in
     let w = world_of c.new-world.result in
-    let sides = c.as_slice.result.now in
+    let sides = c.as_mut_slice.result.now in
     let before = c.new-places.result.items in
-    let starting : IsBehind pool w before sides = starts pool request ports w c.new-world.ensures before c.new-places.ensures.items sides c.in_ok-sides.sides.items c.as_slice.ensures.value c.in_ok-sides.ensures.sides in
-    let many : length sides ≡ length ports = ap length c.as_slice.ensures.value ∙ c.in_ok-sides.ensures.many in
+    let starting : IsBehind pool w before sides = starts pool request ports w c.new-world.ensures before c.new-places.ensures.items sides c.in_ok-sides.sides.items c.as_mut_slice.ensures.value c.in_ok-sides.ensures.sides in
+    let many : length sides ≡ length ports = ap length c.as_mut_slice.ensures.value ∙ c.in_ok-sides.ensures.many in
     evaluations-whole pool request ports w c.new-world.ensures before c.new-places.ensures.items (length sides) c.args.tops.now c.search.new.tops many (c.search.ensures.evaluations pool starting)
 
 pub returns-in_err-slots_at-clause-entries : goal.returns-in_err-slots_at-clause-entries
@@ -110,10 +111,10 @@ returns-in_err-slots_at-clause-entries g c =
     let request = ad_frames c.args.request.now.ad in
     let ports = c.args.request.now.ports in
     let w = world_of c.new-world.result in
-    let sides = c.as_slice.result.now in
+    let sides = c.as_mut_slice.result.now in
     let before = c.new-places.result.items in
-    let starting : IsBehind pool w before sides = starts pool request ports w c.new-world.ensures before c.new-places.ensures.items sides c.in_ok-sides.sides.items c.as_slice.ensures.value c.in_ok-sides.ensures.sides in
-    let many : length sides ≡ length ports = ap length c.as_slice.ensures.value ∙ c.in_ok-sides.ensures.many in
+    let starting : IsBehind pool w before sides = starts pool request ports w c.new-world.ensures before c.new-places.ensures.items sides c.in_ok-sides.sides.items c.as_mut_slice.ensures.value c.in_ok-sides.ensures.sides in
+    let many : length sides ≡ length ports = ap length c.as_mut_slice.ensures.value ∙ c.in_ok-sides.ensures.many in
     attributes-whole pool request ports w c.new-world.ensures before c.new-places.ensures.items (length sides) c.args.entry.now c.search.new.entry many (c.search.ensures.entries pool starting)
 
 pub returns-clause-gang : goal.returns-clause-gang
@@ -123,13 +124,13 @@ returns-clause-gang g c =
     let request = ad_frames c.args.request.now.ad in
     let ports = c.args.request.now.ports in
     let w = world_of c.new-world.result in
-    let sides = c.as_slice.result.now in
+    let sides = c.as_mut_slice.result.now in
     let before = c.new-places.result.items in
-    let starting : IsBehind pool w before sides = starts pool request ports w c.new-world.ensures before c.new-places.ensures.items sides c.in_ok-sides.sides.items c.as_slice.ensures.value c.in_ok-sides.ensures.sides in
-    let many : length sides ≡ length ports = ap length c.as_slice.ensures.value ∙ c.in_ok-sides.ensures.many in
+    let starting : IsBehind pool w before sides = starts pool request ports w c.new-world.ensures before c.new-places.ensures.items sides c.in_ok-sides.sides.items c.as_mut_slice.ensures.value c.in_ok-sides.ensures.sides in
+    let many : length sides ≡ length ports = ap length c.as_mut_slice.ensures.value ∙ c.in_ok-sides.ensures.many in
     let o : Outcome (choice_in pool w) (length sides) before c.search.new.before.items true =
     subst (λ (found : Bool). Outcome (choice_in pool w) (length sides) before c.search.new.before.items found) c.if-not-branch.false (c.in_ok-search.ensures.outcome pool starting) in
-    ap (λ (slots : List ℕ). Some slots) (c.in_ok-slots_at.ensures ∙ ap (map (slot_at stock)) c.as_slice-2.ensures.value)
+    ap (λ (slots : List ℕ). Some slots) (c.in_ok-slots_at.ensures ∙ ap (map (slot_at stock)) c.as_slice.ensures.value)
     ∙ ap (option_map (map (slot_at stock))) (sym (found-whole pool request ports w c.new-world.ensures before c.new-places.ensures.items (length sides) c.search.new.before.items many o))
 
 pub returns-clause-evaluations : goal.returns-clause-evaluations
@@ -139,10 +140,10 @@ returns-clause-evaluations g c =
     let request = ad_frames c.args.request.now.ad in
     let ports = c.args.request.now.ports in
     let w = world_of c.new-world.result in
-    let sides = c.as_slice.result.now in
+    let sides = c.as_mut_slice.result.now in
     let before = c.new-places.result.items in
-    let starting : IsBehind pool w before sides = starts pool request ports w c.new-world.ensures before c.new-places.ensures.items sides c.in_ok-sides.sides.items c.as_slice.ensures.value c.in_ok-sides.ensures.sides in
-    let many : length sides ≡ length ports = ap length c.as_slice.ensures.value ∙ c.in_ok-sides.ensures.many in
+    let starting : IsBehind pool w before sides = starts pool request ports w c.new-world.ensures before c.new-places.ensures.items sides c.in_ok-sides.sides.items c.as_mut_slice.ensures.value c.in_ok-sides.ensures.sides in
+    let many : length sides ≡ length ports = ap length c.as_mut_slice.ensures.value ∙ c.in_ok-sides.ensures.many in
     evaluations-whole pool request ports w c.new-world.ensures before c.new-places.ensures.items (length sides) c.args.tops.now c.search.new.tops many (c.search.ensures.evaluations pool starting)
 
 pub returns-clause-entries : goal.returns-clause-entries
@@ -152,8 +153,60 @@ returns-clause-entries g c =
     let request = ad_frames c.args.request.now.ad in
     let ports = c.args.request.now.ports in
     let w = world_of c.new-world.result in
-    let sides = c.as_slice.result.now in
+    let sides = c.as_mut_slice.result.now in
     let before = c.new-places.result.items in
-    let starting : IsBehind pool w before sides = starts pool request ports w c.new-world.ensures before c.new-places.ensures.items sides c.in_ok-sides.sides.items c.as_slice.ensures.value c.in_ok-sides.ensures.sides in
-    let many : length sides ≡ length ports = ap length c.as_slice.ensures.value ∙ c.in_ok-sides.ensures.many in
+    let starting : IsBehind pool w before sides = starts pool request ports w c.new-world.ensures before c.new-places.ensures.items sides c.in_ok-sides.sides.items c.as_mut_slice.ensures.value c.in_ok-sides.ensures.sides in
+    let many : length sides ≡ length ports = ap length c.as_mut_slice.ensures.value ∙ c.in_ok-sides.ensures.many in
     attributes-whole pool request ports w c.new-world.ensures before c.new-places.ensures.items (length sides) c.args.entry.now c.search.new.entry many (c.search.ensures.entries pool starting)
+
+pub returns-in_err-search-clause-once : goal.returns-in_err-search-clause-once
+returns-in_err-search-clause-once g c =
+    let stock = stock_of c.args.store.now in
+    let pool : Pool = pool_of c.args.moment stock (g.H.Holdings.is_offered c.args.held.now) (g.H.Holdings.holding c.args.held.now) in
+    let request = ad_frames c.args.request.now.ad in
+    let ports = c.args.request.now.ports in
+    let w = world_of c.new-world.result in
+    let sides = c.as_mut_slice.result.now in
+    let before = c.new-places.result.items in
+    let starting : IsBehind pool w before sides = starts pool request ports w c.new-world.ensures before c.new-places.ensures.items sides c.in_ok-sides.sides.items c.as_mut_slice.ensures.value c.in_ok-sides.ensures.sides in
+    let many : length sides ≡ length ports = ap length c.as_mut_slice.ensures.value ∙ c.in_ok-sides.ensures.many in
+    once-whole pool request ports w c.new-world.ensures before c.new-places.ensures.items sides c.in_ok-sides.sides.items c.as_mut_slice.ensures.value c.in_ok-sides.ensures.sides many c.args.tops.now c.search.new.tops (c.search.ensures.once pool starting)
+
+pub returns-then-not-branch-clause-once : goal.returns-then-not-branch-clause-once
+returns-then-not-branch-clause-once g c =
+    let stock = stock_of c.args.store.now in
+    let pool : Pool = pool_of c.args.moment stock (g.H.Holdings.is_offered c.args.held.now) (g.H.Holdings.holding c.args.held.now) in
+    let request = ad_frames c.args.request.now.ad in
+    let ports = c.args.request.now.ports in
+    let w = world_of c.new-world.result in
+    let sides = c.as_mut_slice.result.now in
+    let before = c.new-places.result.items in
+    let starting : IsBehind pool w before sides = starts pool request ports w c.new-world.ensures before c.new-places.ensures.items sides c.in_ok-sides.sides.items c.as_mut_slice.ensures.value c.in_ok-sides.ensures.sides in
+    let many : length sides ≡ length ports = ap length c.as_mut_slice.ensures.value ∙ c.in_ok-sides.ensures.many in
+    once-whole pool request ports w c.new-world.ensures before c.new-places.ensures.items sides c.in_ok-sides.sides.items c.as_mut_slice.ensures.value c.in_ok-sides.ensures.sides many c.args.tops.now c.search.new.tops (c.search.ensures.once pool starting)
+
+pub returns-in_err-slots_at-clause-once : goal.returns-in_err-slots_at-clause-once
+returns-in_err-slots_at-clause-once g c =
+    let stock = stock_of c.args.store.now in
+    let pool : Pool = pool_of c.args.moment stock (g.H.Holdings.is_offered c.args.held.now) (g.H.Holdings.holding c.args.held.now) in
+    let request = ad_frames c.args.request.now.ad in
+    let ports = c.args.request.now.ports in
+    let w = world_of c.new-world.result in
+    let sides = c.as_mut_slice.result.now in
+    let before = c.new-places.result.items in
+    let starting : IsBehind pool w before sides = starts pool request ports w c.new-world.ensures before c.new-places.ensures.items sides c.in_ok-sides.sides.items c.as_mut_slice.ensures.value c.in_ok-sides.ensures.sides in
+    let many : length sides ≡ length ports = ap length c.as_mut_slice.ensures.value ∙ c.in_ok-sides.ensures.many in
+    once-whole pool request ports w c.new-world.ensures before c.new-places.ensures.items sides c.in_ok-sides.sides.items c.as_mut_slice.ensures.value c.in_ok-sides.ensures.sides many c.args.tops.now c.search.new.tops (c.search.ensures.once pool starting)
+
+pub returns-clause-once : goal.returns-clause-once
+returns-clause-once g c =
+    let stock = stock_of c.args.store.now in
+    let pool : Pool = pool_of c.args.moment stock (g.H.Holdings.is_offered c.args.held.now) (g.H.Holdings.holding c.args.held.now) in
+    let request = ad_frames c.args.request.now.ad in
+    let ports = c.args.request.now.ports in
+    let w = world_of c.new-world.result in
+    let sides = c.as_mut_slice.result.now in
+    let before = c.new-places.result.items in
+    let starting : IsBehind pool w before sides = starts pool request ports w c.new-world.ensures before c.new-places.ensures.items sides c.in_ok-sides.sides.items c.as_mut_slice.ensures.value c.in_ok-sides.ensures.sides in
+    let many : length sides ≡ length ports = ap length c.as_mut_slice.ensures.value ∙ c.in_ok-sides.ensures.many in
+    once-whole pool request ports w c.new-world.ensures before c.new-places.ensures.items sides c.in_ok-sides.sides.items c.as_mut_slice.ensures.value c.in_ok-sides.ensures.sides many c.args.tops.now c.search.new.tops (c.search.ensures.once pool starting)

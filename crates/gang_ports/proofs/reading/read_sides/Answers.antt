@@ -1,4 +1,4 @@
-use Rattle.std.proofs.Common.{◌≡◌, ◌+◌, ◌≤◌, suc, List, Some, length, slice_get, sum_by, ap, sym, ◌∙◌, subst, arith}
+use Rattle.std.proofs.Common.{◌≡◌, ◌+◌, ◌<◌, ◌≤◌, ℕ, suc, List, Some, length, slice_get, sum_by, ap, sym, ◌∙◌, subst, arith}
 use Rattle.std.proofs.lemmas.Option.{slice_get-get_or}
 use Rattle.ad_tree.specs.Ad.{ad_frames}
 use Rattle.ad_tree.specs.declared.request.Port.{Port}
@@ -6,27 +6,29 @@ use Rattle.ad_store.specs.Store.{stock_of}
 use Rattle.conjunct_plan.specs.Tests.{labels_of, tests_of}
 use Rattle.bilateral_match.specs.Counts.{least_left}
 use Rattle.bilateral_match.specs.Pool.{Pool, pool_of}
+use Rattle.gang_ports.specs.declared.weighing.Side.{Side}
+use Rattle.gang_ports.specs.FreePorts.{is_free_port}
 use Rattle.gang_ports.proofs.ListLemmas.{count-next, count-within, length-more}
 use Rattle.gang_ports.proofs.ReadingLemmas.{sides-next}
 use Rattle.gang_ports.proofs.reading.read_sides.Goals as goal
 
-pub returns-in_err-side-clause-looks : goal.returns-in_err-side-clause-looks
-returns-in_err-side-clause-looks g c =
+pub returns-in_err-resources-clause-looks : goal.returns-in_err-resources-clause-looks
+returns-in_err-resources-clause-looks g c =
     let stock = stock_of c.args.store.now in
     let request = c.args.request.now in
     let left = λ (port : Port). least_left stock.ads (tests_of (ad_frames request.ad) port.frame (labels_of request.ports)) in
-    subst (λ (ports : List Port). c.read_side.new.touch ≤ c.args.touch.now + sum_by left ports) c.as_slice-port-items.ensures
+    subst (λ (ports : List Port). c.read_resources.new.touch ≤ c.args.touch.now + sum_by left ports) c.as_slice-port-items.ensures
     (count-within left c.as_slice-port-items.result.now c.loop-port.port-index c.args.touch.now c.loop-port.touch c.loop-port.invariant.looks
-    c.port-item.result c.read_side.new.touch c.loop-port-test.true c.port-item.is c.read_side.ensures.looks)
+    c.port-item.result c.read_resources.new.touch c.loop-port-test.true c.port-item.is c.read_resources.ensures.looks)
 
 pub returns-in_err-push-clause-looks : goal.returns-in_err-push-clause-looks
 returns-in_err-push-clause-looks g c =
     let stock = stock_of c.args.store.now in
     let request = c.args.request.now in
     let left = λ (port : Port). least_left stock.ads (tests_of (ad_frames request.ad) port.frame (labels_of request.ports)) in
-    subst (λ (ports : List Port). c.read_side.new.touch ≤ c.args.touch.now + sum_by left ports) c.as_slice-port-items.ensures
+    subst (λ (ports : List Port). c.read_resources.new.touch ≤ c.args.touch.now + sum_by left ports) c.as_slice-port-items.ensures
     (count-within left c.as_slice-port-items.result.now c.loop-port.port-index c.args.touch.now c.loop-port.touch c.loop-port.invariant.looks
-    c.port-item.result c.read_side.new.touch c.loop-port-test.true c.port-item.is c.read_side.ensures.looks)
+    c.port-item.result c.read_resources.new.touch c.loop-port-test.true c.port-item.is c.read_resources.ensures.looks)
 
 pub loop-port-preserved : goal.loop-port-preserved
 loop-port-preserved g c =
@@ -38,8 +40,17 @@ loop-port-preserved g c =
     let i = c.loop-port.port-index in
     let at : slice_get request.ports i ≡ Some port =
     subst (λ (ports : List Port). slice_get ports i ≡ Some port) c.as_slice-port-items.ensures (slice_get-get_or c.as_slice-port-items.result.now i port c.loop-port-test.true ∙ ap (λ (p : Port). Some p) (sym c.port-item.is)) in
+    let counted : c.len.result ≡ length c.loop-port.sides.items = omega arith in
+    let side : Side = record { is_free = c.is_free_port-is_free.result; resources = c.in_ok-resources.resources } in
     record {
-      sides = sides-next pool (ad_frames request.ad) request.ports c.loop-port.sides.items c.push.new.self.items c.in_ok-side.side i port c.in_ok-push.ensures.items c.loop-port.invariant.sides c.loop-port.invariant.many at c.in_ok-side.ensures.side;
-      many = let long : length c.push.new.self.items ≡ suc (length c.loop-port.sides.items) = ap length c.in_ok-push.ensures.items ∙ length-more c.loop-port.sides.items c.in_ok-side.side in omega (arith, long, c.loop-port.invariant.many);
-      looks = count-next left c.as_slice-port-items.result.now i c.args.touch.now c.loop-port.touch c.loop-port.invariant.looks port c.read_side.new.touch c.loop-port-test.true c.port-item.is c.read_side.ensures.looks;
+      sides =
+          sides-next pool (ad_frames request.ad) request.ports c.loop-port.sides.items c.push.new.self.items side i port c.in_ok-push.ensures.items c.loop-port.invariant.sides c.loop-port.invariant.many at
+          (c.is_free_port-is_free.ensures ∙ ap (λ (n : ℕ). is_free_port (ad_frames request.ad) request.ports n) counted) c.in_ok-resources.ensures.resources c.in_ok-resources.ensures.unknown;
+      many = let long : length c.push.new.self.items ≡ suc (length c.loop-port.sides.items) = ap length c.in_ok-push.ensures.items ∙ length-more c.loop-port.sides.items side in omega (arith, long, c.loop-port.invariant.many);
+      looks = count-next left c.as_slice-port-items.result.now i c.args.touch.now c.loop-port.touch c.loop-port.invariant.looks port c.read_resources.new.touch c.loop-port-test.true c.port-item.is c.read_resources.ensures.looks;
     }
+
+pub is_free_port-is_free-requires : goal.is_free_port-is_free-requires
+is_free_port-is_free-requires g c =
+    let within : c.loop-port.port-index < length c.args.request.now.ports = subst (λ (ports : List Port). c.loop-port.port-index < length ports) c.as_slice-port-items.ensures c.loop-port-test.true in
+    omega (arith, within, c.loop-port.invariant.many)

@@ -1,229 +1,553 @@
-use Rattle.std.proofs.Common.{◌≡◌, ◌∷◌, ◌++◌, [], ℕ, suc, List, Bool, true, false, IsSorted, length, arith, ap, refl, sym, ◌∙◌, subst}
+use Rattle.std.proofs.Common.{◌≡◌, ◌<◌, ◌≤◌, ◌∷◌, ◌+◌, ◌++◌, [], ℕ, suc, List, Bool, true, false, IsSorted, get_or, length, arith, ap, refl, rules, sym, ◌∙◌, subst}
 use Rattle.std.specs.List.Sorted.{IsPermutation}
 use Rattle.ad_tree.specs.Ad.{ad_frames}
 use Rattle.eval_scope.specs.Shown.{world_of}
 use Rattle.eval_scope.specs.World.{PlainWorld}
 use Rattle.gang_ports.specs.declared.weighing.Candidate.{Candidate}
+use Rattle.gang_ports.specs.declared.weighing.Side.{Side}
 use Rattle.gang_ports.specs.Gangs.{attributes_behind, evaluations_behind}
-use Rattle.gang_ports.specs.Search.{Outcome, candidate_order, choice_in, weighed}
+use Rattle.gang_ports.specs.Search.{AreSides, Outcome, candidate_order, choice_in, evaluations_anew, evaluations_once, side_ahead, sides_ahead, weighed}
 use Rattle.gang_ports.proofs.ListLemmas.{length-more}
-use Rattle.gang_ports.proofs.SearchLemmas.{first-attributes, first-evaluations, outcome-whole, popped, tries-all, turn-attributes, turn-behind, turn-deeper, turn-evaluations, turn-first, turn-found, turn-next, turn-none, turn-passed, turn-place}
+use Rattle.gang_ports.proofs.SearchLemmas.{ahead-cons, first-attributes, first-cut, first-evaluations, first-once, first-spent, first-whole, once-deeper, once-next, once-place, outcome-whole, popped, ports-left, pushed, rest-fewer, rest_of, some-first, side-after, tries-all, turn-attributes, turn-behind, turn-deeper, turn-evaluations, turn-first, turn-found, turn-left, turn-next, turn-none, turn-once, turn-passed, turn-place}
 use Rattle.gang_ports.proofs.searching.+search.Goals as goal
 
-pub returns-in_default-clause-outcome : goal.returns-in_default-clause-outcome
-returns-in_default-clause-outcome g t c = λ pool h.
+pub returns-then-is_empty-clause-outcome : goal.returns-then-is_empty-clause-outcome
+returns-then-is_empty-clause-outcome g t c = λ pool h.
     let w = world_of c.args.world.now in
     let before = c.args.before.now.items in
-    subst (λ (n : ℕ). Outcome (choice_in pool w) n before before true) (sym c.in_default.ensures.cases) (outcome-whole (choice_in pool w) before before refl)
+    let none : length c.args.sides.now ≡ 0 = search rules in
+    subst (λ (n : ℕ). Outcome (choice_in pool w) n before before true) (sym none) (outcome-whole (choice_in pool w) before before refl)
 
-pub returns-in_default-clause-evaluations : goal.returns-in_default-clause-evaluations
-returns-in_default-clause-evaluations g t c = λ pool h. omega arith
+pub returns-then-is_empty-clause-sides : goal.returns-then-is_empty-clause-sides
+returns-then-is_empty-clause-sides g t c = λ pool h. h.sides
 
-pub returns-in_default-clause-entries : goal.returns-in_default-clause-entries
-returns-in_default-clause-entries g t c = λ pool h. omega arith
+pub returns-then-is_empty-clause-evaluations : goal.returns-then-is_empty-clause-evaluations
+returns-then-is_empty-clause-evaluations g t c = λ pool h. omega arith
+
+pub returns-then-is_empty-clause-once : goal.returns-then-is_empty-clause-once
+returns-then-is_empty-clause-once g t c = λ pool h. omega arith
+
+pub returns-then-is_empty-clause-ahead : goal.returns-then-is_empty-clause-ahead
+returns-then-is_empty-clause-ahead g t c = λ pool h. omega arith
+
+pub returns-then-is_empty-clause-entries : goal.returns-then-is_empty-clause-entries
+returns-then-is_empty-clause-entries g t c = λ pool h. omega arith
 
 pub candidates-requires : goal.candidates-requires
-candidates-requires g t c = omega (arith, c.requires, c.in-Some.ensures.cases.1)
+candidates-requires g t c = let some : 0 < length c.args.sides.now = some-first c.args.sides.now c.is_empty.result c.is_empty.ensures c.if-is_empty.false in omega (arith, c.requires, some)
 
 pub returns-in_err-tries-clause-evaluations : goal.returns-in_err-tries-clause-evaluations
 returns-in_err-tries-clause-evaluations g t c = λ pool h.
     let w = world_of c.args.world.now in
     let before = c.args.before.now.items in
     let sides = c.args.sides.now in
-    let side = c.in-Some.side.now in
-    let others = c.in-Some.others.now in
-    let cut : sides ≡ side ∷ others = c.in-Some.ensures.cases.0 in
-    turn-first pool w before side sides others cut h (evaluations_behind pool w.request w.ports) c.args.tops.now c.candidates.new.tops (first-evaluations pool w before side sides others cut h c.as_slice.result.now c.as_slice-2.result.now c.as_slice.ensures.value c.as_slice-2.ensures.value c.args.tops.now c.candidates.new.tops c.candidates.ensures.evaluations)
+    let new = c.candidates.new.side in
+    let side = get_or sides 0 c.index-sides-0.result in
+    let others = rest_of sides new in
+    let cut : sides ≡ side ∷ others = first-cut sides new c.index-sides-0.result (some-first c.args.sides.now c.is_empty.result c.is_empty.ensures c.if-is_empty.false) in
+    let b = c.as_slice.result.now in
+    let same = c.as_slice.ensures.value in
+    turn-first pool w before side sides others cut h (evaluations_behind pool w.request w.ports) c.args.tops.now c.candidates.new.tops (first-evaluations pool w before side sides others cut h b same c.args.tops.now c.candidates.new.tops c.candidates.ensures.evaluations)
 
 pub returns-in_err-tries-clause-entries : goal.returns-in_err-tries-clause-entries
 returns-in_err-tries-clause-entries g t c = λ pool h.
     let w = world_of c.args.world.now in
     let before = c.args.before.now.items in
     let sides = c.args.sides.now in
-    let side = c.in-Some.side.now in
-    let others = c.in-Some.others.now in
-    let cut : sides ≡ side ∷ others = c.in-Some.ensures.cases.0 in
-    turn-first pool w before side sides others cut h (attributes_behind pool w.request w.ports) c.args.entry.now c.candidates.new.entry (first-attributes pool w before side sides others cut h c.as_slice.result.now c.as_slice-2.result.now c.as_slice.ensures.value c.as_slice-2.ensures.value c.args.entry.now c.candidates.new.entry c.candidates.ensures.entries)
+    let new = c.candidates.new.side in
+    let side = get_or sides 0 c.index-sides-0.result in
+    let others = rest_of sides new in
+    let cut : sides ≡ side ∷ others = first-cut sides new c.index-sides-0.result (some-first c.args.sides.now c.is_empty.result c.is_empty.ensures c.if-is_empty.false) in
+    let b = c.as_slice.result.now in
+    let same = c.as_slice.ensures.value in
+    turn-first pool w before side sides others cut h (attributes_behind pool w.request w.ports) c.args.entry.now c.candidates.new.entry (first-attributes pool w before side sides others cut h b same c.args.entry.now c.candidates.new.entry c.candidates.ensures.entries)
+
+pub returns-in_err-tries-clause-once : goal.returns-in_err-tries-clause-once
+returns-in_err-tries-clause-once g t c = λ pool h.
+    let w = world_of c.args.world.now in
+    let before = c.args.before.now.items in
+    let sides = c.args.sides.now in
+    let new = c.candidates.new.side in
+    let side = get_or sides 0 c.index-sides-0.result in
+    let others = rest_of sides new in
+    let cut : sides ≡ side ∷ others = first-cut sides new c.index-sides-0.result (some-first c.args.sides.now c.is_empty.result c.is_empty.ensures c.if-is_empty.false) in
+    let b = c.as_slice.result.now in
+    let same = c.as_slice.ensures.value in
+    omega (arith, turn-first pool w before side sides others cut h (evaluations_anew pool w) (c.args.tops.now + sides_ahead sides) c.candidates.new.tops (first-spent pool w before side sides others cut h b same c.args.tops.now c.candidates.new.tops c.candidates.ensures.evaluations))
 
 pub loop-candidate-init : goal.loop-candidate-init
 loop-candidate-init g t c = record {
+  long = refl;
   same = λ pool h. refl;
+  sides = λ pool h.
+      let sides = c.args.sides.now in
+      let new = c.candidates.new.side in
+      ports-left pool (world_of c.args.world.now) c.args.before.now.items (get_or sides 0 c.index-sides-0.result) sides (rest_of sides new) (first-cut sides new c.index-sides-0.result (some-first c.args.sides.now c.is_empty.result c.is_empty.ensures c.if-is_empty.false)) h;
   passed = λ pool h j low. absurd (omega (arith, low));
   evaluations = λ pool h. omega arith;
+  once = λ pool h. omega arith;
   entries = λ pool h. omega arith;
 }
 
 pub with-deeper-requires : goal.with-deeper-requires
-with-deeper-requires g t c = omega (arith, c.requires, c.in-Some.ensures.cases.1)
+with-deeper-requires g t c = let some : 0 < length c.args.sides.now = some-first c.args.sides.now c.is_empty.result c.is_empty.ensures c.if-is_empty.false in omega (arith, c.requires, some)
 
 pub returns-in_err-push-clause-evaluations : goal.returns-in_err-push-clause-evaluations
 returns-in_err-push-clause-evaluations g t c = λ pool h.
     let w = world_of c.args.world.now in
     let before = c.args.before.now.items in
     let sides = c.args.sides.now in
-    let side = c.in-Some.side.now in
-    let others = c.in-Some.others.now in
-    let cut : sides ≡ side ∷ others = c.in-Some.ensures.cases.0 in
+    let new = c.candidates.new.side in
+    let side = get_or sides 0 c.index-sides-0.result in
+    let others = rest_of sides new in
+    let cut : sides ≡ side ∷ others = first-cut sides new c.index-sides-0.result (some-first c.args.sides.now c.is_empty.result c.is_empty.ensures c.if-is_empty.false) in
+    let b = c.as_slice.result.now in
+    let same = c.as_slice.ensures.value in
     let tries = c.deref-candidate-items.result.now in
-    let all : IsPermutation (weighed w before side.resources.items) tries =
-    tries-all w c.as_slice.result.now before c.as_slice-2.result.now side.resources.items c.in_ok-tries.tries.items tries c.as_slice.ensures.value c.as_slice-2.ensures.value c.deref-candidate-items.ensures.value c.in_ok-tries.ensures.all in
+    let all : IsPermutation (weighed w before side.resources.items) tries = tries-all pool w before side sides others cut h b same c.in_ok-tries.tries.items tries c.deref-candidate-items.ensures.value c.in_ok-tries.ensures.all in
     let i = c.loop-candidate.candidate-index in
-    turn-place pool w before side sides others cut h tries all (evaluations_behind pool w.request w.ports) c.args.tops.now c.candidates.new.tops (first-evaluations pool w before side sides others cut h c.as_slice.result.now c.as_slice-2.result.now c.as_slice.ensures.value c.as_slice-2.ensures.value c.args.tops.now c.candidates.new.tops c.candidates.ensures.evaluations) i c.loop-candidate.tops (c.loop-candidate.invariant.evaluations pool h)
+    let left = c.loop-candidate.others in
+    turn-place pool w before side sides others cut h tries all (evaluations_behind pool w.request w.ports) c.args.tops.now c.candidates.new.tops (first-evaluations pool w before side sides others cut h b same c.args.tops.now c.candidates.new.tops c.candidates.ensures.evaluations) i c.loop-candidate.tops (c.loop-candidate.invariant.evaluations pool h)
 
 pub returns-in_err-push-clause-entries : goal.returns-in_err-push-clause-entries
 returns-in_err-push-clause-entries g t c = λ pool h.
     let w = world_of c.args.world.now in
     let before = c.args.before.now.items in
     let sides = c.args.sides.now in
-    let side = c.in-Some.side.now in
-    let others = c.in-Some.others.now in
-    let cut : sides ≡ side ∷ others = c.in-Some.ensures.cases.0 in
+    let new = c.candidates.new.side in
+    let side = get_or sides 0 c.index-sides-0.result in
+    let others = rest_of sides new in
+    let cut : sides ≡ side ∷ others = first-cut sides new c.index-sides-0.result (some-first c.args.sides.now c.is_empty.result c.is_empty.ensures c.if-is_empty.false) in
+    let b = c.as_slice.result.now in
+    let same = c.as_slice.ensures.value in
     let tries = c.deref-candidate-items.result.now in
-    let all : IsPermutation (weighed w before side.resources.items) tries =
-    tries-all w c.as_slice.result.now before c.as_slice-2.result.now side.resources.items c.in_ok-tries.tries.items tries c.as_slice.ensures.value c.as_slice-2.ensures.value c.deref-candidate-items.ensures.value c.in_ok-tries.ensures.all in
+    let all : IsPermutation (weighed w before side.resources.items) tries = tries-all pool w before side sides others cut h b same c.in_ok-tries.tries.items tries c.deref-candidate-items.ensures.value c.in_ok-tries.ensures.all in
     let i = c.loop-candidate.candidate-index in
-    turn-place pool w before side sides others cut h tries all (attributes_behind pool w.request w.ports) c.args.entry.now c.candidates.new.entry (first-attributes pool w before side sides others cut h c.as_slice.result.now c.as_slice-2.result.now c.as_slice.ensures.value c.as_slice-2.ensures.value c.args.entry.now c.candidates.new.entry c.candidates.ensures.entries) i c.loop-candidate.entry (c.loop-candidate.invariant.entries pool h)
+    let left = c.loop-candidate.others in
+    turn-place pool w before side sides others cut h tries all (attributes_behind pool w.request w.ports) c.args.entry.now c.candidates.new.entry (first-attributes pool w before side sides others cut h b same c.args.entry.now c.candidates.new.entry c.candidates.ensures.entries) i c.loop-candidate.entry (c.loop-candidate.invariant.entries pool h)
+
+pub returns-in_err-push-clause-once : goal.returns-in_err-push-clause-once
+returns-in_err-push-clause-once g t c = λ pool h.
+    let w = world_of c.args.world.now in
+    let before = c.args.before.now.items in
+    let sides = c.args.sides.now in
+    let new = c.candidates.new.side in
+    let side = get_or sides 0 c.index-sides-0.result in
+    let others = rest_of sides new in
+    let cut : sides ≡ side ∷ others = first-cut sides new c.index-sides-0.result (some-first c.args.sides.now c.is_empty.result c.is_empty.ensures c.if-is_empty.false) in
+    let b = c.as_slice.result.now in
+    let same = c.as_slice.ensures.value in
+    let tries = c.deref-candidate-items.result.now in
+    let all : IsPermutation (weighed w before side.resources.items) tries = tries-all pool w before side sides others cut h b same c.in_ok-tries.tries.items tries c.deref-candidate-items.ensures.value c.in_ok-tries.ensures.all in
+    let i = c.loop-candidate.candidate-index in
+    let left = c.loop-candidate.others in
+    omega (arith, once-place pool w before side sides others cut h tries all new c.args.tops.now c.candidates.new.tops (first-once pool w before side sides others cut h b same c.args.tops.now c.candidates.new.tops new c.candidates.ensures.free c.in_ok-tries.ensures.kept c.candidates.ensures.evaluations) left i c.loop-candidate.tops (c.loop-candidate.invariant.once pool h))
 
 pub search-requires : goal.search-requires
 search-requires g t c κs within =
     let long : length (world_of c.with-deeper.result).docked ≡ suc (length (world_of c.args.world.now).docked) = ap (λ (u : PlainWorld). length u.docked) c.with-deeper.ensures ∙ length-more (world_of c.args.world.now).docked (ad_frames c.candidate-item.result.ad.now) in
-    (omega (arith, c.decreases, c.in-Some.ensures.cases.1), (within.0, (within.1, omega (arith, c.requires, c.in-Some.ensures.cases.1, long))))
+    let some : 0 < length c.args.sides.now = some-first c.args.sides.now c.is_empty.result c.is_empty.ensures c.if-is_empty.false in
+    let fewer : suc (length c.loop-candidate.others) ≡ length c.args.sides.now = rest-fewer c.args.sides.now c.candidates.new.side c.loop-candidate.others some c.loop-candidate.invariant.long in
+    (omega (arith, c.decreases, fewer), (within.0, (within.1, omega (arith, c.requires, fewer, long))))
 
 pub returns-in_err-search-clause-evaluations : goal.returns-in_err-search-clause-evaluations
 returns-in_err-search-clause-evaluations g t c = λ pool h.
     let w = world_of c.args.world.now in
     let before = c.args.before.now.items in
     let sides = c.args.sides.now in
-    let side = c.in-Some.side.now in
-    let others = c.in-Some.others.now in
-    let cut : sides ≡ side ∷ others = c.in-Some.ensures.cases.0 in
+    let new = c.candidates.new.side in
+    let side = get_or sides 0 c.index-sides-0.result in
+    let others = rest_of sides new in
+    let cut : sides ≡ side ∷ others = first-cut sides new c.index-sides-0.result (some-first c.args.sides.now c.is_empty.result c.is_empty.ensures c.if-is_empty.false) in
+    let b = c.as_slice.result.now in
+    let same = c.as_slice.ensures.value in
     let tries = c.deref-candidate-items.result.now in
-    let all : IsPermutation (weighed w before side.resources.items) tries =
-    tries-all w c.as_slice.result.now before c.as_slice-2.result.now side.resources.items c.in_ok-tries.tries.items tries c.as_slice.ensures.value c.as_slice-2.ensures.value c.deref-candidate-items.ensures.value c.in_ok-tries.ensures.all in
+    let all : IsPermutation (weighed w before side.resources.items) tries = tries-all pool w before side sides others cut h b same c.in_ok-tries.tries.items tries c.deref-candidate-items.ensures.value c.in_ok-tries.ensures.all in
     let i = c.loop-candidate.candidate-index in
+    let left = c.loop-candidate.others in
+    let long : length left ≡ length others = c.loop-candidate.invariant.long in
+    let are = c.loop-candidate.invariant.sides pool h in
     let here = c.candidate-item.result in
+    let within = c.loop-candidate-test.true in
+    let at = c.candidate-item.is in
     let deeper = world_of c.with-deeper.result in
+    let docked = c.with-deeper.ensures in
     let longer = c.push.new.self.items in
-    let is : longer ≡ before ++ here.place ∷ [] = c.in_ok-push.ensures.items ∙ ap (λ (b : List ℕ). b ++ here.place ∷ []) (c.loop-candidate.invariant.same pool h) in
-    turn-deeper pool w before side sides others cut h tries all (evaluations_behind pool w.request w.ports) c.args.tops.now c.candidates.new.tops (first-evaluations pool w before side sides others cut h c.as_slice.result.now c.as_slice-2.result.now c.as_slice.ensures.value c.as_slice-2.ensures.value c.args.tops.now c.candidates.new.tops c.candidates.ensures.evaluations) i c.loop-candidate.tops (c.loop-candidate.invariant.evaluations pool h)
-    here c.loop-candidate-test.true c.candidate-item.is c.search.new.tops (turn-evaluations pool w before side sides others cut h tries all i here c.loop-candidate-test.true c.candidate-item.is deeper c.with-deeper.ensures longer is c.loop-candidate.tops c.search.new.tops (c.search.ensures.evaluations pool (turn-behind pool w before side sides others cut h tries all i here c.loop-candidate-test.true c.candidate-item.is deeper c.with-deeper.ensures longer is)))
+    let is : longer ≡ before ++ here.place ∷ [] = pushed longer c.loop-candidate.before.items before here.place c.in_ok-push.ensures.items (c.loop-candidate.invariant.same pool h) in
+    turn-deeper pool w before side sides others cut h tries all (evaluations_behind pool w.request w.ports) c.args.tops.now c.candidates.new.tops (first-evaluations pool w before side sides others cut h b same c.args.tops.now c.candidates.new.tops c.candidates.ensures.evaluations) i c.loop-candidate.tops (c.loop-candidate.invariant.evaluations pool h)
+    here within at c.search.new.tops (turn-evaluations pool w before side sides others cut h tries all left long are i here within at deeper docked longer is c.loop-candidate.tops c.search.new.tops (c.search.ensures.evaluations pool (turn-behind pool w before side sides others cut h tries all left long are i here within at deeper docked longer is)))
 
 pub returns-in_err-search-clause-entries : goal.returns-in_err-search-clause-entries
 returns-in_err-search-clause-entries g t c = λ pool h.
     let w = world_of c.args.world.now in
     let before = c.args.before.now.items in
     let sides = c.args.sides.now in
-    let side = c.in-Some.side.now in
-    let others = c.in-Some.others.now in
-    let cut : sides ≡ side ∷ others = c.in-Some.ensures.cases.0 in
+    let new = c.candidates.new.side in
+    let side = get_or sides 0 c.index-sides-0.result in
+    let others = rest_of sides new in
+    let cut : sides ≡ side ∷ others = first-cut sides new c.index-sides-0.result (some-first c.args.sides.now c.is_empty.result c.is_empty.ensures c.if-is_empty.false) in
+    let b = c.as_slice.result.now in
+    let same = c.as_slice.ensures.value in
     let tries = c.deref-candidate-items.result.now in
-    let all : IsPermutation (weighed w before side.resources.items) tries =
-    tries-all w c.as_slice.result.now before c.as_slice-2.result.now side.resources.items c.in_ok-tries.tries.items tries c.as_slice.ensures.value c.as_slice-2.ensures.value c.deref-candidate-items.ensures.value c.in_ok-tries.ensures.all in
+    let all : IsPermutation (weighed w before side.resources.items) tries = tries-all pool w before side sides others cut h b same c.in_ok-tries.tries.items tries c.deref-candidate-items.ensures.value c.in_ok-tries.ensures.all in
     let i = c.loop-candidate.candidate-index in
+    let left = c.loop-candidate.others in
+    let long : length left ≡ length others = c.loop-candidate.invariant.long in
+    let are = c.loop-candidate.invariant.sides pool h in
     let here = c.candidate-item.result in
+    let within = c.loop-candidate-test.true in
+    let at = c.candidate-item.is in
     let deeper = world_of c.with-deeper.result in
+    let docked = c.with-deeper.ensures in
     let longer = c.push.new.self.items in
-    let is : longer ≡ before ++ here.place ∷ [] = c.in_ok-push.ensures.items ∙ ap (λ (b : List ℕ). b ++ here.place ∷ []) (c.loop-candidate.invariant.same pool h) in
-    turn-deeper pool w before side sides others cut h tries all (attributes_behind pool w.request w.ports) c.args.entry.now c.candidates.new.entry (first-attributes pool w before side sides others cut h c.as_slice.result.now c.as_slice-2.result.now c.as_slice.ensures.value c.as_slice-2.ensures.value c.args.entry.now c.candidates.new.entry c.candidates.ensures.entries) i c.loop-candidate.entry (c.loop-candidate.invariant.entries pool h)
-    here c.loop-candidate-test.true c.candidate-item.is c.search.new.entry (turn-attributes pool w before side sides others cut h tries all i here c.loop-candidate-test.true c.candidate-item.is deeper c.with-deeper.ensures longer is c.loop-candidate.entry c.search.new.entry (c.search.ensures.entries pool (turn-behind pool w before side sides others cut h tries all i here c.loop-candidate-test.true c.candidate-item.is deeper c.with-deeper.ensures longer is)))
+    let is : longer ≡ before ++ here.place ∷ [] = pushed longer c.loop-candidate.before.items before here.place c.in_ok-push.ensures.items (c.loop-candidate.invariant.same pool h) in
+    turn-deeper pool w before side sides others cut h tries all (attributes_behind pool w.request w.ports) c.args.entry.now c.candidates.new.entry (first-attributes pool w before side sides others cut h b same c.args.entry.now c.candidates.new.entry c.candidates.ensures.entries) i c.loop-candidate.entry (c.loop-candidate.invariant.entries pool h)
+    here within at c.search.new.entry (turn-attributes pool w before side sides others cut h tries all left long are i here within at deeper docked longer is c.loop-candidate.entry c.search.new.entry (c.search.ensures.entries pool (turn-behind pool w before side sides others cut h tries all left long are i here within at deeper docked longer is)))
 
-pub returns-then-branch-clause-outcome : goal.returns-then-branch-clause-outcome
-returns-then-branch-clause-outcome g t c = λ pool h.
+pub returns-in_err-search-clause-once : goal.returns-in_err-search-clause-once
+returns-in_err-search-clause-once g t c = λ pool h.
     let w = world_of c.args.world.now in
     let before = c.args.before.now.items in
     let sides = c.args.sides.now in
-    let side = c.in-Some.side.now in
-    let others = c.in-Some.others.now in
-    let cut : sides ≡ side ∷ others = c.in-Some.ensures.cases.0 in
+    let new = c.candidates.new.side in
+    let side = get_or sides 0 c.index-sides-0.result in
+    let others = rest_of sides new in
+    let cut : sides ≡ side ∷ others = first-cut sides new c.index-sides-0.result (some-first c.args.sides.now c.is_empty.result c.is_empty.ensures c.if-is_empty.false) in
+    let b = c.as_slice.result.now in
+    let same = c.as_slice.ensures.value in
     let tries = c.deref-candidate-items.result.now in
-    let all : IsPermutation (weighed w before side.resources.items) tries =
-    tries-all w c.as_slice.result.now before c.as_slice-2.result.now side.resources.items c.in_ok-tries.tries.items tries c.as_slice.ensures.value c.as_slice-2.ensures.value c.deref-candidate-items.ensures.value c.in_ok-tries.ensures.all in
+    let all : IsPermutation (weighed w before side.resources.items) tries = tries-all pool w before side sides others cut h b same c.in_ok-tries.tries.items tries c.deref-candidate-items.ensures.value c.in_ok-tries.ensures.all in
     let i = c.loop-candidate.candidate-index in
+    let left = c.loop-candidate.others in
+    let long : length left ≡ length others = c.loop-candidate.invariant.long in
+    let are = c.loop-candidate.invariant.sides pool h in
     let here = c.candidate-item.result in
+    let within = c.loop-candidate-test.true in
+    let at = c.candidate-item.is in
     let deeper = world_of c.with-deeper.result in
+    let docked = c.with-deeper.ensures in
     let longer = c.push.new.self.items in
-    let is : longer ≡ before ++ here.place ∷ [] = c.in_ok-push.ensures.items ∙ ap (λ (b : List ℕ). b ++ here.place ∷ []) (c.loop-candidate.invariant.same pool h) in
-    let ordered : IsSorted candidate_order tries = subst (λ (ts : List Candidate). IsSorted candidate_order ts) (sym c.deref-candidate-items.ensures.value) c.in_ok-tries.ensures.ordered in
-    let found : Outcome (choice_in pool deeper) (length others) longer c.search.new.before.items true =
-    subst (λ (b : Bool). Outcome (choice_in pool deeper) (length others) longer c.search.new.before.items b) c.if-branch.true
-    (c.in_ok-search.ensures.outcome pool (turn-behind pool w before side sides others cut h tries all i here c.loop-candidate-test.true c.candidate-item.is deeper c.with-deeper.ensures longer is)) in
-    turn-found pool w before side sides others cut h tries all i here c.loop-candidate-test.true c.candidate-item.is deeper c.with-deeper.ensures ordered (c.loop-candidate.invariant.passed pool h) longer c.search.new.before.items is found
+    let is : longer ≡ before ++ here.place ∷ [] = pushed longer c.loop-candidate.before.items before here.place c.in_ok-push.ensures.items (c.loop-candidate.invariant.same pool h) in
+    omega (arith, once-deeper pool w before side sides others cut h tries all new c.args.tops.now c.candidates.new.tops (first-once pool w before side sides others cut h b same c.args.tops.now c.candidates.new.tops new c.candidates.ensures.free c.in_ok-tries.ensures.kept c.candidates.ensures.evaluations) left i c.loop-candidate.tops (c.loop-candidate.invariant.once pool h) here within at c.search.new.tops (turn-once pool w before side sides others cut h tries all left long are i here within at deeper docked longer is c.loop-candidate.tops c.search.new.tops (c.search.ensures.once pool (turn-behind pool w before side sides others cut h tries all left long are i here within at deeper docked longer is))))
 
 pub returns-then-branch-clause-evaluations : goal.returns-then-branch-clause-evaluations
 returns-then-branch-clause-evaluations g t c = λ pool h.
     let w = world_of c.args.world.now in
     let before = c.args.before.now.items in
     let sides = c.args.sides.now in
-    let side = c.in-Some.side.now in
-    let others = c.in-Some.others.now in
-    let cut : sides ≡ side ∷ others = c.in-Some.ensures.cases.0 in
+    let new = c.candidates.new.side in
+    let side = get_or sides 0 c.index-sides-0.result in
+    let others = rest_of sides new in
+    let cut : sides ≡ side ∷ others = first-cut sides new c.index-sides-0.result (some-first c.args.sides.now c.is_empty.result c.is_empty.ensures c.if-is_empty.false) in
+    let b = c.as_slice.result.now in
+    let same = c.as_slice.ensures.value in
     let tries = c.deref-candidate-items.result.now in
-    let all : IsPermutation (weighed w before side.resources.items) tries =
-    tries-all w c.as_slice.result.now before c.as_slice-2.result.now side.resources.items c.in_ok-tries.tries.items tries c.as_slice.ensures.value c.as_slice-2.ensures.value c.deref-candidate-items.ensures.value c.in_ok-tries.ensures.all in
+    let all : IsPermutation (weighed w before side.resources.items) tries = tries-all pool w before side sides others cut h b same c.in_ok-tries.tries.items tries c.deref-candidate-items.ensures.value c.in_ok-tries.ensures.all in
     let i = c.loop-candidate.candidate-index in
+    let left = c.loop-candidate.others in
+    let long : length left ≡ length others = c.loop-candidate.invariant.long in
+    let are = c.loop-candidate.invariant.sides pool h in
     let here = c.candidate-item.result in
+    let within = c.loop-candidate-test.true in
+    let at = c.candidate-item.is in
     let deeper = world_of c.with-deeper.result in
+    let docked = c.with-deeper.ensures in
     let longer = c.push.new.self.items in
-    let is : longer ≡ before ++ here.place ∷ [] = c.in_ok-push.ensures.items ∙ ap (λ (b : List ℕ). b ++ here.place ∷ []) (c.loop-candidate.invariant.same pool h) in
-    turn-deeper pool w before side sides others cut h tries all (evaluations_behind pool w.request w.ports) c.args.tops.now c.candidates.new.tops (first-evaluations pool w before side sides others cut h c.as_slice.result.now c.as_slice-2.result.now c.as_slice.ensures.value c.as_slice-2.ensures.value c.args.tops.now c.candidates.new.tops c.candidates.ensures.evaluations) i c.loop-candidate.tops (c.loop-candidate.invariant.evaluations pool h)
-    here c.loop-candidate-test.true c.candidate-item.is c.search.new.tops (turn-evaluations pool w before side sides others cut h tries all i here c.loop-candidate-test.true c.candidate-item.is deeper c.with-deeper.ensures longer is c.loop-candidate.tops c.search.new.tops (c.search.ensures.evaluations pool (turn-behind pool w before side sides others cut h tries all i here c.loop-candidate-test.true c.candidate-item.is deeper c.with-deeper.ensures longer is)))
+    let is : longer ≡ before ++ here.place ∷ [] = pushed longer c.loop-candidate.before.items before here.place c.in_ok-push.ensures.items (c.loop-candidate.invariant.same pool h) in
+    turn-deeper pool w before side sides others cut h tries all (evaluations_behind pool w.request w.ports) c.args.tops.now c.candidates.new.tops (first-evaluations pool w before side sides others cut h b same c.args.tops.now c.candidates.new.tops c.candidates.ensures.evaluations) i c.loop-candidate.tops (c.loop-candidate.invariant.evaluations pool h)
+    here within at c.search.new.tops (turn-evaluations pool w before side sides others cut h tries all left long are i here within at deeper docked longer is c.loop-candidate.tops c.search.new.tops (c.search.ensures.evaluations pool (turn-behind pool w before side sides others cut h tries all left long are i here within at deeper docked longer is)))
 
 pub returns-then-branch-clause-entries : goal.returns-then-branch-clause-entries
 returns-then-branch-clause-entries g t c = λ pool h.
     let w = world_of c.args.world.now in
     let before = c.args.before.now.items in
     let sides = c.args.sides.now in
-    let side = c.in-Some.side.now in
-    let others = c.in-Some.others.now in
-    let cut : sides ≡ side ∷ others = c.in-Some.ensures.cases.0 in
+    let new = c.candidates.new.side in
+    let side = get_or sides 0 c.index-sides-0.result in
+    let others = rest_of sides new in
+    let cut : sides ≡ side ∷ others = first-cut sides new c.index-sides-0.result (some-first c.args.sides.now c.is_empty.result c.is_empty.ensures c.if-is_empty.false) in
+    let b = c.as_slice.result.now in
+    let same = c.as_slice.ensures.value in
     let tries = c.deref-candidate-items.result.now in
-    let all : IsPermutation (weighed w before side.resources.items) tries =
-    tries-all w c.as_slice.result.now before c.as_slice-2.result.now side.resources.items c.in_ok-tries.tries.items tries c.as_slice.ensures.value c.as_slice-2.ensures.value c.deref-candidate-items.ensures.value c.in_ok-tries.ensures.all in
+    let all : IsPermutation (weighed w before side.resources.items) tries = tries-all pool w before side sides others cut h b same c.in_ok-tries.tries.items tries c.deref-candidate-items.ensures.value c.in_ok-tries.ensures.all in
     let i = c.loop-candidate.candidate-index in
+    let left = c.loop-candidate.others in
+    let long : length left ≡ length others = c.loop-candidate.invariant.long in
+    let are = c.loop-candidate.invariant.sides pool h in
     let here = c.candidate-item.result in
+    let within = c.loop-candidate-test.true in
+    let at = c.candidate-item.is in
     let deeper = world_of c.with-deeper.result in
+    let docked = c.with-deeper.ensures in
     let longer = c.push.new.self.items in
-    let is : longer ≡ before ++ here.place ∷ [] = c.in_ok-push.ensures.items ∙ ap (λ (b : List ℕ). b ++ here.place ∷ []) (c.loop-candidate.invariant.same pool h) in
-    turn-deeper pool w before side sides others cut h tries all (attributes_behind pool w.request w.ports) c.args.entry.now c.candidates.new.entry (first-attributes pool w before side sides others cut h c.as_slice.result.now c.as_slice-2.result.now c.as_slice.ensures.value c.as_slice-2.ensures.value c.args.entry.now c.candidates.new.entry c.candidates.ensures.entries) i c.loop-candidate.entry (c.loop-candidate.invariant.entries pool h)
-    here c.loop-candidate-test.true c.candidate-item.is c.search.new.entry (turn-attributes pool w before side sides others cut h tries all i here c.loop-candidate-test.true c.candidate-item.is deeper c.with-deeper.ensures longer is c.loop-candidate.entry c.search.new.entry (c.search.ensures.entries pool (turn-behind pool w before side sides others cut h tries all i here c.loop-candidate-test.true c.candidate-item.is deeper c.with-deeper.ensures longer is)))
+    let is : longer ≡ before ++ here.place ∷ [] = pushed longer c.loop-candidate.before.items before here.place c.in_ok-push.ensures.items (c.loop-candidate.invariant.same pool h) in
+    turn-deeper pool w before side sides others cut h tries all (attributes_behind pool w.request w.ports) c.args.entry.now c.candidates.new.entry (first-attributes pool w before side sides others cut h b same c.args.entry.now c.candidates.new.entry c.candidates.ensures.entries) i c.loop-candidate.entry (c.loop-candidate.invariant.entries pool h)
+    here within at c.search.new.entry (turn-attributes pool w before side sides others cut h tries all left long are i here within at deeper docked longer is c.loop-candidate.entry c.search.new.entry (c.search.ensures.entries pool (turn-behind pool w before side sides others cut h tries all left long are i here within at deeper docked longer is)))
 
-pub loop-candidate-preserved : goal.loop-candidate-preserved
-loop-candidate-preserved g t c =
+pub returns-then-branch-clause-once : goal.returns-then-branch-clause-once
+returns-then-branch-clause-once g t c = λ pool h.
     let w = world_of c.args.world.now in
     let before = c.args.before.now.items in
     let sides = c.args.sides.now in
-    let side = c.in-Some.side.now in
-    let others = c.in-Some.others.now in
-    let cut : sides ≡ side ∷ others = c.in-Some.ensures.cases.0 in
+    let new = c.candidates.new.side in
+    let side = get_or sides 0 c.index-sides-0.result in
+    let others = rest_of sides new in
+    let cut : sides ≡ side ∷ others = first-cut sides new c.index-sides-0.result (some-first c.args.sides.now c.is_empty.result c.is_empty.ensures c.if-is_empty.false) in
+    let b = c.as_slice.result.now in
+    let same = c.as_slice.ensures.value in
     let tries = c.deref-candidate-items.result.now in
-    let all : IsPermutation (weighed w before side.resources.items) tries =
-    tries-all w c.as_slice.result.now before c.as_slice-2.result.now side.resources.items c.in_ok-tries.tries.items tries c.as_slice.ensures.value c.as_slice-2.ensures.value c.deref-candidate-items.ensures.value c.in_ok-tries.ensures.all in
+    let all : IsPermutation (weighed w before side.resources.items) tries = tries-all pool w before side sides others cut h b same c.in_ok-tries.tries.items tries c.deref-candidate-items.ensures.value c.in_ok-tries.ensures.all in
     let i = c.loop-candidate.candidate-index in
+    let left = c.loop-candidate.others in
+    let long : length left ≡ length others = c.loop-candidate.invariant.long in
+    let are = c.loop-candidate.invariant.sides pool h in
     let here = c.candidate-item.result in
+    let within = c.loop-candidate-test.true in
+    let at = c.candidate-item.is in
     let deeper = world_of c.with-deeper.result in
+    let docked = c.with-deeper.ensures in
     let longer = c.push.new.self.items in
+    let is : longer ≡ before ++ here.place ∷ [] = pushed longer c.loop-candidate.before.items before here.place c.in_ok-push.ensures.items (c.loop-candidate.invariant.same pool h) in
+    omega (arith, once-deeper pool w before side sides others cut h tries all new c.args.tops.now c.candidates.new.tops (first-once pool w before side sides others cut h b same c.args.tops.now c.candidates.new.tops new c.candidates.ensures.free c.in_ok-tries.ensures.kept c.candidates.ensures.evaluations) left i c.loop-candidate.tops (c.loop-candidate.invariant.once pool h) here within at c.search.new.tops (turn-once pool w before side sides others cut h tries all left long are i here within at deeper docked longer is c.loop-candidate.tops c.search.new.tops (c.search.ensures.once pool (turn-behind pool w before side sides others cut h tries all left long are i here within at deeper docked longer is))))
+
+pub returns-then-branch-clause-outcome : goal.returns-then-branch-clause-outcome
+returns-then-branch-clause-outcome g t c = λ pool h.
+    let w = world_of c.args.world.now in
+    let before = c.args.before.now.items in
+    let sides = c.args.sides.now in
+    let new = c.candidates.new.side in
+    let side = get_or sides 0 c.index-sides-0.result in
+    let others = rest_of sides new in
+    let cut : sides ≡ side ∷ others = first-cut sides new c.index-sides-0.result (some-first c.args.sides.now c.is_empty.result c.is_empty.ensures c.if-is_empty.false) in
+    let b = c.as_slice.result.now in
+    let same = c.as_slice.ensures.value in
+    let tries = c.deref-candidate-items.result.now in
+    let all : IsPermutation (weighed w before side.resources.items) tries = tries-all pool w before side sides others cut h b same c.in_ok-tries.tries.items tries c.deref-candidate-items.ensures.value c.in_ok-tries.ensures.all in
+    let i = c.loop-candidate.candidate-index in
+    let left = c.loop-candidate.others in
+    let long : length left ≡ length others = c.loop-candidate.invariant.long in
+    let are = c.loop-candidate.invariant.sides pool h in
+    let here = c.candidate-item.result in
+    let within = c.loop-candidate-test.true in
+    let at = c.candidate-item.is in
+    let deeper = world_of c.with-deeper.result in
+    let docked = c.with-deeper.ensures in
+    let longer = c.push.new.self.items in
+    let is : longer ≡ before ++ here.place ∷ [] = pushed longer c.loop-candidate.before.items before here.place c.in_ok-push.ensures.items (c.loop-candidate.invariant.same pool h) in
+    let ordered : IsSorted candidate_order tries = subst (λ (ts : List Candidate). IsSorted candidate_order ts) (sym c.deref-candidate-items.ensures.value) c.in_ok-tries.ensures.ordered in
+    let found : Outcome (choice_in pool deeper) (length left) longer c.search.new.before.items true =
+    subst (λ (b : Bool). Outcome (choice_in pool deeper) (length left) longer c.search.new.before.items b) c.if-branch.true (c.in_ok-search.ensures.outcome pool (turn-behind pool w before side sides others cut h tries all left long are i here within at deeper docked longer is)) in
+    turn-found pool w before side sides others cut h tries all left long are i here within at deeper docked longer is ordered (c.loop-candidate.invariant.passed pool h) c.search.new.before.items found
+
+pub returns-then-branch-clause-sides : goal.returns-then-branch-clause-sides
+returns-then-branch-clause-sides g t c = λ pool h.
+    let w = world_of c.args.world.now in
+    let before = c.args.before.now.items in
+    let sides = c.args.sides.now in
+    let new = c.candidates.new.side in
+    let side = get_or sides 0 c.index-sides-0.result in
+    let others = rest_of sides new in
+    let cut : sides ≡ side ∷ others = first-cut sides new c.index-sides-0.result (some-first c.args.sides.now c.is_empty.result c.is_empty.ensures c.if-is_empty.false) in
+    let b = c.as_slice.result.now in
+    let same = c.as_slice.ensures.value in
+    let tries = c.deref-candidate-items.result.now in
+    let all : IsPermutation (weighed w before side.resources.items) tries = tries-all pool w before side sides others cut h b same c.in_ok-tries.tries.items tries c.deref-candidate-items.ensures.value c.in_ok-tries.ensures.all in
+    let i = c.loop-candidate.candidate-index in
+    let left = c.loop-candidate.others in
+    let long : length left ≡ length others = c.loop-candidate.invariant.long in
+    let are = c.loop-candidate.invariant.sides pool h in
+    let here = c.candidate-item.result in
+    let within = c.loop-candidate-test.true in
+    let at = c.candidate-item.is in
+    let deeper = world_of c.with-deeper.result in
+    let docked = c.with-deeper.ensures in
+    let longer = c.push.new.self.items in
+    let is : longer ≡ before ++ here.place ∷ [] = pushed longer c.loop-candidate.before.items before here.place c.in_ok-push.ensures.items (c.loop-candidate.invariant.same pool h) in
+    let whole : AreSides pool w.request w.ports (length before) (new ∷ c.search.new.sides) = (side-after pool w before side sides others cut h b same new c.candidates.ensures.free c.in_ok-tries.ensures.kept, turn-left pool w before side sides others cut h tries all left long are i here within at deeper docked longer is c.search.new.sides (c.in_ok-search.ensures.sides pool (turn-behind pool w before side sides others cut h tries all left long are i here within at deeper docked longer is))) in
+    subst (λ (xs : List Side). AreSides pool w.request w.ports (length before) xs) (sym (first-whole sides new c.search.new.sides (some-first c.args.sides.now c.is_empty.result c.is_empty.ensures c.if-is_empty.false) (c.search.auto.sides ∙ long))) whole
+
+pub returns-then-branch-clause-ahead : goal.returns-then-branch-clause-ahead
+returns-then-branch-clause-ahead g t c = λ pool h.
+    let w = world_of c.args.world.now in
+    let before = c.args.before.now.items in
+    let sides = c.args.sides.now in
+    let new = c.candidates.new.side in
+    let side = get_or sides 0 c.index-sides-0.result in
+    let others = rest_of sides new in
+    let cut : sides ≡ side ∷ others = first-cut sides new c.index-sides-0.result (some-first c.args.sides.now c.is_empty.result c.is_empty.ensures c.if-is_empty.false) in
+    let b = c.as_slice.result.now in
+    let same = c.as_slice.ensures.value in
+    let tries = c.deref-candidate-items.result.now in
+    let all : IsPermutation (weighed w before side.resources.items) tries = tries-all pool w before side sides others cut h b same c.in_ok-tries.tries.items tries c.deref-candidate-items.ensures.value c.in_ok-tries.ensures.all in
+    let i = c.loop-candidate.candidate-index in
+    let left = c.loop-candidate.others in
+    let long : length left ≡ length others = c.loop-candidate.invariant.long in
+    let are = c.loop-candidate.invariant.sides pool h in
+    let here = c.candidate-item.result in
+    let within = c.loop-candidate-test.true in
+    let at = c.candidate-item.is in
+    let deeper = world_of c.with-deeper.result in
+    let docked = c.with-deeper.ensures in
+    let longer = c.push.new.self.items in
+    let is : longer ≡ before ++ here.place ∷ [] = pushed longer c.loop-candidate.before.items before here.place c.in_ok-push.ensures.items (c.loop-candidate.invariant.same pool h) in
+    let whole : c.search.new.tops + sides_ahead (new ∷ c.search.new.sides) ≤ c.args.tops.now + evaluations_once pool w before sides = omega (arith, once-deeper pool w before side sides others cut h tries all new c.args.tops.now c.candidates.new.tops (first-once pool w before side sides others cut h b same c.args.tops.now c.candidates.new.tops new c.candidates.ensures.free c.in_ok-tries.ensures.kept c.candidates.ensures.evaluations) left i c.loop-candidate.tops (c.loop-candidate.invariant.once pool h) here within at (c.search.new.tops + sides_ahead c.search.new.sides) (turn-once pool w before side sides others cut h tries all left long are i here within at deeper docked longer is c.loop-candidate.tops (c.search.new.tops + sides_ahead c.search.new.sides) (c.in_ok-search.ensures.ahead pool (turn-behind pool w before side sides others cut h tries all left long are i here within at deeper docked longer is))), ahead-cons new c.search.new.sides) in
+    subst (λ (xs : List Side). c.search.new.tops + sides_ahead xs ≤ c.args.tops.now + evaluations_once pool w before sides) (sym (first-whole sides new c.search.new.sides (some-first c.args.sides.now c.is_empty.result c.is_empty.ensures c.if-is_empty.false) (c.search.auto.sides ∙ long))) whole
+
+pub loop-candidate-preserved : goal.loop-candidate-preserved
+loop-candidate-preserved g t c =
     record {
+      long = omega (arith, c.search.auto.sides, c.loop-candidate.invariant.long);
       same = λ pool h.
-          let is : longer ≡ before ++ here.place ∷ [] = c.in_ok-push.ensures.items ∙ ap (λ (b : List ℕ). b ++ here.place ∷ []) (c.loop-candidate.invariant.same pool h) in
-          let none : Outcome (choice_in pool deeper) (length others) longer c.search.new.before.items false =
-          subst (λ (b : Bool). Outcome (choice_in pool deeper) (length others) longer c.search.new.before.items b) c.if-branch.false
-          (c.in_ok-search.ensures.outcome pool (turn-behind pool w before side sides others cut h tries all i here c.loop-candidate-test.true c.candidate-item.is deeper c.with-deeper.ensures longer is)) in
-          popped c.search.new.before.items before c.pop.new.self.items here.place c.search.new.before.len (none.0 ∙ is) c.search.new.before.ok.0 c.pop.ensures.rest;
+          let w = world_of c.args.world.now in
+          let before = c.args.before.now.items in
+          let sides = c.args.sides.now in
+          let new = c.candidates.new.side in
+          let side = get_or sides 0 c.index-sides-0.result in
+          let others = rest_of sides new in
+          let cut : sides ≡ side ∷ others = first-cut sides new c.index-sides-0.result (some-first c.args.sides.now c.is_empty.result c.is_empty.ensures c.if-is_empty.false) in
+          let b = c.as_slice.result.now in
+          let same = c.as_slice.ensures.value in
+          let tries = c.deref-candidate-items.result.now in
+          let all : IsPermutation (weighed w before side.resources.items) tries = tries-all pool w before side sides others cut h b same c.in_ok-tries.tries.items tries c.deref-candidate-items.ensures.value c.in_ok-tries.ensures.all in
+          let i = c.loop-candidate.candidate-index in
+          let left = c.loop-candidate.others in
+          let long : length left ≡ length others = c.loop-candidate.invariant.long in
+          let are = c.loop-candidate.invariant.sides pool h in
+          let here = c.candidate-item.result in
+          let within = c.loop-candidate-test.true in
+          let at = c.candidate-item.is in
+          let deeper = world_of c.with-deeper.result in
+          let docked = c.with-deeper.ensures in
+          let longer = c.push.new.self.items in
+          let is : longer ≡ before ++ here.place ∷ [] = pushed longer c.loop-candidate.before.items before here.place c.in_ok-push.ensures.items (c.loop-candidate.invariant.same pool h) in
+          let found : Outcome (choice_in pool deeper) (length left) longer c.search.new.before.items false =
+          subst (λ (b : Bool). Outcome (choice_in pool deeper) (length left) longer c.search.new.before.items b) c.if-branch.false (c.in_ok-search.ensures.outcome pool (turn-behind pool w before side sides others cut h tries all left long are i here within at deeper docked longer is)) in
+          popped c.search.new.before.items before c.pop.new.self.items here.place c.search.new.before.len (found.0 ∙ is) c.search.new.before.ok.0 c.pop.ensures.rest;
+      sides = λ pool h.
+          let w = world_of c.args.world.now in
+          let before = c.args.before.now.items in
+          let sides = c.args.sides.now in
+          let new = c.candidates.new.side in
+          let side = get_or sides 0 c.index-sides-0.result in
+          let others = rest_of sides new in
+          let cut : sides ≡ side ∷ others = first-cut sides new c.index-sides-0.result (some-first c.args.sides.now c.is_empty.result c.is_empty.ensures c.if-is_empty.false) in
+          let b = c.as_slice.result.now in
+          let same = c.as_slice.ensures.value in
+          let tries = c.deref-candidate-items.result.now in
+          let all : IsPermutation (weighed w before side.resources.items) tries = tries-all pool w before side sides others cut h b same c.in_ok-tries.tries.items tries c.deref-candidate-items.ensures.value c.in_ok-tries.ensures.all in
+          let i = c.loop-candidate.candidate-index in
+          let left = c.loop-candidate.others in
+          let long : length left ≡ length others = c.loop-candidate.invariant.long in
+          let are = c.loop-candidate.invariant.sides pool h in
+          let here = c.candidate-item.result in
+          let within = c.loop-candidate-test.true in
+          let at = c.candidate-item.is in
+          let deeper = world_of c.with-deeper.result in
+          let docked = c.with-deeper.ensures in
+          let longer = c.push.new.self.items in
+          let is : longer ≡ before ++ here.place ∷ [] = pushed longer c.loop-candidate.before.items before here.place c.in_ok-push.ensures.items (c.loop-candidate.invariant.same pool h) in
+          turn-left pool w before side sides others cut h tries all left long are i here within at deeper docked longer is c.search.new.sides (c.in_ok-search.ensures.sides pool (turn-behind pool w before side sides others cut h tries all left long are i here within at deeper docked longer is));
       passed = λ pool h.
-          let is : longer ≡ before ++ here.place ∷ [] = c.in_ok-push.ensures.items ∙ ap (λ (b : List ℕ). b ++ here.place ∷ []) (c.loop-candidate.invariant.same pool h) in
-          let none : Outcome (choice_in pool deeper) (length others) longer c.search.new.before.items false =
-          subst (λ (b : Bool). Outcome (choice_in pool deeper) (length others) longer c.search.new.before.items b) c.if-branch.false
-          (c.in_ok-search.ensures.outcome pool (turn-behind pool w before side sides others cut h tries all i here c.loop-candidate-test.true c.candidate-item.is deeper c.with-deeper.ensures longer is)) in
+          let w = world_of c.args.world.now in
+          let before = c.args.before.now.items in
+          let sides = c.args.sides.now in
+          let new = c.candidates.new.side in
+          let side = get_or sides 0 c.index-sides-0.result in
+          let others = rest_of sides new in
+          let cut : sides ≡ side ∷ others = first-cut sides new c.index-sides-0.result (some-first c.args.sides.now c.is_empty.result c.is_empty.ensures c.if-is_empty.false) in
+          let b = c.as_slice.result.now in
+          let same = c.as_slice.ensures.value in
+          let tries = c.deref-candidate-items.result.now in
+          let all : IsPermutation (weighed w before side.resources.items) tries = tries-all pool w before side sides others cut h b same c.in_ok-tries.tries.items tries c.deref-candidate-items.ensures.value c.in_ok-tries.ensures.all in
+          let i = c.loop-candidate.candidate-index in
+          let left = c.loop-candidate.others in
+          let long : length left ≡ length others = c.loop-candidate.invariant.long in
+          let are = c.loop-candidate.invariant.sides pool h in
+          let here = c.candidate-item.result in
+          let within = c.loop-candidate-test.true in
+          let at = c.candidate-item.is in
+          let deeper = world_of c.with-deeper.result in
+          let docked = c.with-deeper.ensures in
+          let longer = c.push.new.self.items in
+          let is : longer ≡ before ++ here.place ∷ [] = pushed longer c.loop-candidate.before.items before here.place c.in_ok-push.ensures.items (c.loop-candidate.invariant.same pool h) in
           let ordered : IsSorted candidate_order tries = subst (λ (ts : List Candidate). IsSorted candidate_order ts) (sym c.deref-candidate-items.ensures.value) c.in_ok-tries.ensures.ordered in
-          turn-passed pool w before side sides others cut h tries all i here c.loop-candidate-test.true c.candidate-item.is deeper c.with-deeper.ensures ordered (c.loop-candidate.invariant.passed pool h) longer c.search.new.before.items is none;
+          let found : Outcome (choice_in pool deeper) (length left) longer c.search.new.before.items false =
+          subst (λ (b : Bool). Outcome (choice_in pool deeper) (length left) longer c.search.new.before.items b) c.if-branch.false (c.in_ok-search.ensures.outcome pool (turn-behind pool w before side sides others cut h tries all left long are i here within at deeper docked longer is)) in
+          turn-passed pool w before side sides others cut h tries all left long are i here within at deeper docked longer is ordered (c.loop-candidate.invariant.passed pool h) c.search.new.before.items found;
       evaluations = λ pool h.
-          let is : longer ≡ before ++ here.place ∷ [] = c.in_ok-push.ensures.items ∙ ap (λ (b : List ℕ). b ++ here.place ∷ []) (c.loop-candidate.invariant.same pool h) in
-          turn-next pool w before side sides others cut h tries all (evaluations_behind pool w.request w.ports) c.args.tops.now c.candidates.new.tops (first-evaluations pool w before side sides others cut h c.as_slice.result.now c.as_slice-2.result.now c.as_slice.ensures.value c.as_slice-2.ensures.value c.args.tops.now c.candidates.new.tops c.candidates.ensures.evaluations) i c.loop-candidate.tops (c.loop-candidate.invariant.evaluations pool h)
-          here c.loop-candidate-test.true c.candidate-item.is c.search.new.tops (turn-evaluations pool w before side sides others cut h tries all i here c.loop-candidate-test.true c.candidate-item.is deeper c.with-deeper.ensures longer is c.loop-candidate.tops c.search.new.tops (c.search.ensures.evaluations pool (turn-behind pool w before side sides others cut h tries all i here c.loop-candidate-test.true c.candidate-item.is deeper c.with-deeper.ensures longer is)));
+          let w = world_of c.args.world.now in
+          let before = c.args.before.now.items in
+          let sides = c.args.sides.now in
+          let new = c.candidates.new.side in
+          let side = get_or sides 0 c.index-sides-0.result in
+          let others = rest_of sides new in
+          let cut : sides ≡ side ∷ others = first-cut sides new c.index-sides-0.result (some-first c.args.sides.now c.is_empty.result c.is_empty.ensures c.if-is_empty.false) in
+          let b = c.as_slice.result.now in
+          let same = c.as_slice.ensures.value in
+          let tries = c.deref-candidate-items.result.now in
+          let all : IsPermutation (weighed w before side.resources.items) tries = tries-all pool w before side sides others cut h b same c.in_ok-tries.tries.items tries c.deref-candidate-items.ensures.value c.in_ok-tries.ensures.all in
+          let i = c.loop-candidate.candidate-index in
+          let left = c.loop-candidate.others in
+          let long : length left ≡ length others = c.loop-candidate.invariant.long in
+          let are = c.loop-candidate.invariant.sides pool h in
+          let here = c.candidate-item.result in
+          let within = c.loop-candidate-test.true in
+          let at = c.candidate-item.is in
+          let deeper = world_of c.with-deeper.result in
+          let docked = c.with-deeper.ensures in
+          let longer = c.push.new.self.items in
+          let is : longer ≡ before ++ here.place ∷ [] = pushed longer c.loop-candidate.before.items before here.place c.in_ok-push.ensures.items (c.loop-candidate.invariant.same pool h) in
+          turn-next pool w before side sides others cut h tries all (evaluations_behind pool w.request w.ports) c.args.tops.now c.candidates.new.tops (first-evaluations pool w before side sides others cut h b same c.args.tops.now c.candidates.new.tops c.candidates.ensures.evaluations) i c.loop-candidate.tops (c.loop-candidate.invariant.evaluations pool h)
+          here within at c.search.new.tops (turn-evaluations pool w before side sides others cut h tries all left long are i here within at deeper docked longer is c.loop-candidate.tops c.search.new.tops (c.search.ensures.evaluations pool (turn-behind pool w before side sides others cut h tries all left long are i here within at deeper docked longer is)));
+      once = λ pool h.
+          let w = world_of c.args.world.now in
+          let before = c.args.before.now.items in
+          let sides = c.args.sides.now in
+          let new = c.candidates.new.side in
+          let side = get_or sides 0 c.index-sides-0.result in
+          let others = rest_of sides new in
+          let cut : sides ≡ side ∷ others = first-cut sides new c.index-sides-0.result (some-first c.args.sides.now c.is_empty.result c.is_empty.ensures c.if-is_empty.false) in
+          let b = c.as_slice.result.now in
+          let same = c.as_slice.ensures.value in
+          let tries = c.deref-candidate-items.result.now in
+          let all : IsPermutation (weighed w before side.resources.items) tries = tries-all pool w before side sides others cut h b same c.in_ok-tries.tries.items tries c.deref-candidate-items.ensures.value c.in_ok-tries.ensures.all in
+          let i = c.loop-candidate.candidate-index in
+          let left = c.loop-candidate.others in
+          let long : length left ≡ length others = c.loop-candidate.invariant.long in
+          let are = c.loop-candidate.invariant.sides pool h in
+          let here = c.candidate-item.result in
+          let within = c.loop-candidate-test.true in
+          let at = c.candidate-item.is in
+          let deeper = world_of c.with-deeper.result in
+          let docked = c.with-deeper.ensures in
+          let longer = c.push.new.self.items in
+          let is : longer ≡ before ++ here.place ∷ [] = pushed longer c.loop-candidate.before.items before here.place c.in_ok-push.ensures.items (c.loop-candidate.invariant.same pool h) in
+          once-next pool w before side sides others cut h tries all new c.args.tops.now c.candidates.new.tops (first-once pool w before side sides others cut h b same c.args.tops.now c.candidates.new.tops new c.candidates.ensures.free c.in_ok-tries.ensures.kept c.candidates.ensures.evaluations) left i c.loop-candidate.tops (c.loop-candidate.invariant.once pool h) here within at (c.search.new.tops + sides_ahead c.search.new.sides) (turn-once pool w before side sides others cut h tries all left long are i here within at deeper docked longer is c.loop-candidate.tops (c.search.new.tops + sides_ahead c.search.new.sides) (c.in_ok-search.ensures.ahead pool (turn-behind pool w before side sides others cut h tries all left long are i here within at deeper docked longer is)));
       entries = λ pool h.
-          let is : longer ≡ before ++ here.place ∷ [] = c.in_ok-push.ensures.items ∙ ap (λ (b : List ℕ). b ++ here.place ∷ []) (c.loop-candidate.invariant.same pool h) in
-          turn-next pool w before side sides others cut h tries all (attributes_behind pool w.request w.ports) c.args.entry.now c.candidates.new.entry (first-attributes pool w before side sides others cut h c.as_slice.result.now c.as_slice-2.result.now c.as_slice.ensures.value c.as_slice-2.ensures.value c.args.entry.now c.candidates.new.entry c.candidates.ensures.entries) i c.loop-candidate.entry (c.loop-candidate.invariant.entries pool h)
-          here c.loop-candidate-test.true c.candidate-item.is c.search.new.entry (turn-attributes pool w before side sides others cut h tries all i here c.loop-candidate-test.true c.candidate-item.is deeper c.with-deeper.ensures longer is c.loop-candidate.entry c.search.new.entry (c.search.ensures.entries pool (turn-behind pool w before side sides others cut h tries all i here c.loop-candidate-test.true c.candidate-item.is deeper c.with-deeper.ensures longer is)));
+          let w = world_of c.args.world.now in
+          let before = c.args.before.now.items in
+          let sides = c.args.sides.now in
+          let new = c.candidates.new.side in
+          let side = get_or sides 0 c.index-sides-0.result in
+          let others = rest_of sides new in
+          let cut : sides ≡ side ∷ others = first-cut sides new c.index-sides-0.result (some-first c.args.sides.now c.is_empty.result c.is_empty.ensures c.if-is_empty.false) in
+          let b = c.as_slice.result.now in
+          let same = c.as_slice.ensures.value in
+          let tries = c.deref-candidate-items.result.now in
+          let all : IsPermutation (weighed w before side.resources.items) tries = tries-all pool w before side sides others cut h b same c.in_ok-tries.tries.items tries c.deref-candidate-items.ensures.value c.in_ok-tries.ensures.all in
+          let i = c.loop-candidate.candidate-index in
+          let left = c.loop-candidate.others in
+          let long : length left ≡ length others = c.loop-candidate.invariant.long in
+          let are = c.loop-candidate.invariant.sides pool h in
+          let here = c.candidate-item.result in
+          let within = c.loop-candidate-test.true in
+          let at = c.candidate-item.is in
+          let deeper = world_of c.with-deeper.result in
+          let docked = c.with-deeper.ensures in
+          let longer = c.push.new.self.items in
+          let is : longer ≡ before ++ here.place ∷ [] = pushed longer c.loop-candidate.before.items before here.place c.in_ok-push.ensures.items (c.loop-candidate.invariant.same pool h) in
+          turn-next pool w before side sides others cut h tries all (attributes_behind pool w.request w.ports) c.args.entry.now c.candidates.new.entry (first-attributes pool w before side sides others cut h b same c.args.entry.now c.candidates.new.entry c.candidates.ensures.entries) i c.loop-candidate.entry (c.loop-candidate.invariant.entries pool h)
+          here within at c.search.new.entry (turn-attributes pool w before side sides others cut h tries all left long are i here within at deeper docked longer is c.loop-candidate.entry c.search.new.entry (c.search.ensures.entries pool (turn-behind pool w before side sides others cut h tries all left long are i here within at deeper docked longer is)));
     }
 
 pub returns-clause-outcome : goal.returns-clause-outcome
@@ -231,39 +555,101 @@ returns-clause-outcome g t c = λ pool h.
     let w = world_of c.args.world.now in
     let before = c.args.before.now.items in
     let sides = c.args.sides.now in
-    let side = c.in-Some.side.now in
-    let others = c.in-Some.others.now in
-    let cut : sides ≡ side ∷ others = c.in-Some.ensures.cases.0 in
+    let new = c.candidates.new.side in
+    let side = get_or sides 0 c.index-sides-0.result in
+    let others = rest_of sides new in
+    let cut : sides ≡ side ∷ others = first-cut sides new c.index-sides-0.result (some-first c.args.sides.now c.is_empty.result c.is_empty.ensures c.if-is_empty.false) in
+    let b = c.as_slice.result.now in
+    let same = c.as_slice.ensures.value in
     let tries = c.deref-candidate-items.result.now in
-    let all : IsPermutation (weighed w before side.resources.items) tries =
-    tries-all w c.as_slice.result.now before c.as_slice-2.result.now side.resources.items c.in_ok-tries.tries.items tries c.as_slice.ensures.value c.as_slice-2.ensures.value c.deref-candidate-items.ensures.value c.in_ok-tries.ensures.all in
+    let all : IsPermutation (weighed w before side.resources.items) tries = tries-all pool w before side sides others cut h b same c.in_ok-tries.tries.items tries c.deref-candidate-items.ensures.value c.in_ok-tries.ensures.all in
     let i = c.loop-candidate.candidate-index in
+    let left = c.loop-candidate.others in
     turn-none pool w before side sides others cut h tries all i c.loop-candidate-test.false (c.loop-candidate.invariant.passed pool h) c.loop-candidate.before.items (c.loop-candidate.invariant.same pool h)
+
+pub returns-clause-sides : goal.returns-clause-sides
+returns-clause-sides g t c = λ pool h.
+    let w = world_of c.args.world.now in
+    let before = c.args.before.now.items in
+    let sides = c.args.sides.now in
+    let new = c.candidates.new.side in
+    let side = get_or sides 0 c.index-sides-0.result in
+    let others = rest_of sides new in
+    let cut : sides ≡ side ∷ others = first-cut sides new c.index-sides-0.result (some-first c.args.sides.now c.is_empty.result c.is_empty.ensures c.if-is_empty.false) in
+    let b = c.as_slice.result.now in
+    let same = c.as_slice.ensures.value in
+    let tries = c.deref-candidate-items.result.now in
+    let all : IsPermutation (weighed w before side.resources.items) tries = tries-all pool w before side sides others cut h b same c.in_ok-tries.tries.items tries c.deref-candidate-items.ensures.value c.in_ok-tries.ensures.all in
+    let i = c.loop-candidate.candidate-index in
+    let left = c.loop-candidate.others in
+    let whole : AreSides pool w.request w.ports (length before) (new ∷ left) = (side-after pool w before side sides others cut h b same new c.candidates.ensures.free c.in_ok-tries.ensures.kept, c.loop-candidate.invariant.sides pool h) in
+    subst (λ (xs : List Side). AreSides pool w.request w.ports (length before) xs) (sym (first-whole sides new left (some-first c.args.sides.now c.is_empty.result c.is_empty.ensures c.if-is_empty.false) c.loop-candidate.invariant.long)) whole
 
 pub returns-clause-evaluations : goal.returns-clause-evaluations
 returns-clause-evaluations g t c = λ pool h.
     let w = world_of c.args.world.now in
     let before = c.args.before.now.items in
     let sides = c.args.sides.now in
-    let side = c.in-Some.side.now in
-    let others = c.in-Some.others.now in
-    let cut : sides ≡ side ∷ others = c.in-Some.ensures.cases.0 in
+    let new = c.candidates.new.side in
+    let side = get_or sides 0 c.index-sides-0.result in
+    let others = rest_of sides new in
+    let cut : sides ≡ side ∷ others = first-cut sides new c.index-sides-0.result (some-first c.args.sides.now c.is_empty.result c.is_empty.ensures c.if-is_empty.false) in
+    let b = c.as_slice.result.now in
+    let same = c.as_slice.ensures.value in
     let tries = c.deref-candidate-items.result.now in
-    let all : IsPermutation (weighed w before side.resources.items) tries =
-    tries-all w c.as_slice.result.now before c.as_slice-2.result.now side.resources.items c.in_ok-tries.tries.items tries c.as_slice.ensures.value c.as_slice-2.ensures.value c.deref-candidate-items.ensures.value c.in_ok-tries.ensures.all in
+    let all : IsPermutation (weighed w before side.resources.items) tries = tries-all pool w before side sides others cut h b same c.in_ok-tries.tries.items tries c.deref-candidate-items.ensures.value c.in_ok-tries.ensures.all in
     let i = c.loop-candidate.candidate-index in
-    turn-place pool w before side sides others cut h tries all (evaluations_behind pool w.request w.ports) c.args.tops.now c.candidates.new.tops (first-evaluations pool w before side sides others cut h c.as_slice.result.now c.as_slice-2.result.now c.as_slice.ensures.value c.as_slice-2.ensures.value c.args.tops.now c.candidates.new.tops c.candidates.ensures.evaluations) i c.loop-candidate.tops (c.loop-candidate.invariant.evaluations pool h)
+    let left = c.loop-candidate.others in
+    turn-place pool w before side sides others cut h tries all (evaluations_behind pool w.request w.ports) c.args.tops.now c.candidates.new.tops (first-evaluations pool w before side sides others cut h b same c.args.tops.now c.candidates.new.tops c.candidates.ensures.evaluations) i c.loop-candidate.tops (c.loop-candidate.invariant.evaluations pool h)
 
 pub returns-clause-entries : goal.returns-clause-entries
 returns-clause-entries g t c = λ pool h.
     let w = world_of c.args.world.now in
     let before = c.args.before.now.items in
     let sides = c.args.sides.now in
-    let side = c.in-Some.side.now in
-    let others = c.in-Some.others.now in
-    let cut : sides ≡ side ∷ others = c.in-Some.ensures.cases.0 in
+    let new = c.candidates.new.side in
+    let side = get_or sides 0 c.index-sides-0.result in
+    let others = rest_of sides new in
+    let cut : sides ≡ side ∷ others = first-cut sides new c.index-sides-0.result (some-first c.args.sides.now c.is_empty.result c.is_empty.ensures c.if-is_empty.false) in
+    let b = c.as_slice.result.now in
+    let same = c.as_slice.ensures.value in
     let tries = c.deref-candidate-items.result.now in
-    let all : IsPermutation (weighed w before side.resources.items) tries =
-    tries-all w c.as_slice.result.now before c.as_slice-2.result.now side.resources.items c.in_ok-tries.tries.items tries c.as_slice.ensures.value c.as_slice-2.ensures.value c.deref-candidate-items.ensures.value c.in_ok-tries.ensures.all in
+    let all : IsPermutation (weighed w before side.resources.items) tries = tries-all pool w before side sides others cut h b same c.in_ok-tries.tries.items tries c.deref-candidate-items.ensures.value c.in_ok-tries.ensures.all in
     let i = c.loop-candidate.candidate-index in
-    turn-place pool w before side sides others cut h tries all (attributes_behind pool w.request w.ports) c.args.entry.now c.candidates.new.entry (first-attributes pool w before side sides others cut h c.as_slice.result.now c.as_slice-2.result.now c.as_slice.ensures.value c.as_slice-2.ensures.value c.args.entry.now c.candidates.new.entry c.candidates.ensures.entries) i c.loop-candidate.entry (c.loop-candidate.invariant.entries pool h)
+    let left = c.loop-candidate.others in
+    turn-place pool w before side sides others cut h tries all (attributes_behind pool w.request w.ports) c.args.entry.now c.candidates.new.entry (first-attributes pool w before side sides others cut h b same c.args.entry.now c.candidates.new.entry c.candidates.ensures.entries) i c.loop-candidate.entry (c.loop-candidate.invariant.entries pool h)
+
+pub returns-clause-once : goal.returns-clause-once
+returns-clause-once g t c = λ pool h.
+    let w = world_of c.args.world.now in
+    let before = c.args.before.now.items in
+    let sides = c.args.sides.now in
+    let new = c.candidates.new.side in
+    let side = get_or sides 0 c.index-sides-0.result in
+    let others = rest_of sides new in
+    let cut : sides ≡ side ∷ others = first-cut sides new c.index-sides-0.result (some-first c.args.sides.now c.is_empty.result c.is_empty.ensures c.if-is_empty.false) in
+    let b = c.as_slice.result.now in
+    let same = c.as_slice.ensures.value in
+    let tries = c.deref-candidate-items.result.now in
+    let all : IsPermutation (weighed w before side.resources.items) tries = tries-all pool w before side sides others cut h b same c.in_ok-tries.tries.items tries c.deref-candidate-items.ensures.value c.in_ok-tries.ensures.all in
+    let i = c.loop-candidate.candidate-index in
+    let left = c.loop-candidate.others in
+    omega (arith, once-place pool w before side sides others cut h tries all new c.args.tops.now c.candidates.new.tops (first-once pool w before side sides others cut h b same c.args.tops.now c.candidates.new.tops new c.candidates.ensures.free c.in_ok-tries.ensures.kept c.candidates.ensures.evaluations) left i c.loop-candidate.tops (c.loop-candidate.invariant.once pool h))
+
+pub returns-clause-ahead : goal.returns-clause-ahead
+returns-clause-ahead g t c = λ pool h.
+    let w = world_of c.args.world.now in
+    let before = c.args.before.now.items in
+    let sides = c.args.sides.now in
+    let new = c.candidates.new.side in
+    let side = get_or sides 0 c.index-sides-0.result in
+    let others = rest_of sides new in
+    let cut : sides ≡ side ∷ others = first-cut sides new c.index-sides-0.result (some-first c.args.sides.now c.is_empty.result c.is_empty.ensures c.if-is_empty.false) in
+    let b = c.as_slice.result.now in
+    let same = c.as_slice.ensures.value in
+    let tries = c.deref-candidate-items.result.now in
+    let all : IsPermutation (weighed w before side.resources.items) tries = tries-all pool w before side sides others cut h b same c.in_ok-tries.tries.items tries c.deref-candidate-items.ensures.value c.in_ok-tries.ensures.all in
+    let i = c.loop-candidate.candidate-index in
+    let left = c.loop-candidate.others in
+    let whole : c.loop-candidate.tops + sides_ahead (new ∷ left) ≤ c.args.tops.now + evaluations_once pool w before sides = once-place pool w before side sides others cut h tries all new c.args.tops.now c.candidates.new.tops (first-once pool w before side sides others cut h b same c.args.tops.now c.candidates.new.tops new c.candidates.ensures.free c.in_ok-tries.ensures.kept c.candidates.ensures.evaluations) left i c.loop-candidate.tops (c.loop-candidate.invariant.once pool h) in
+    subst (λ (xs : List Side). c.loop-candidate.tops + sides_ahead xs ≤ c.args.tops.now + evaluations_once pool w before sides) (sym (first-whole sides new left (some-first c.args.sides.now c.is_empty.result c.is_empty.ensures c.if-is_empty.false) c.loop-candidate.invariant.long)) whole

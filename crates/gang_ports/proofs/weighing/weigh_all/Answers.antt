@@ -1,40 +1,117 @@
-use Rattle.std.proofs.Common.{arith}
+use Rattle.std.proofs.Common.{◌≡◌, ◌<◌, ◌≤◌, ◌+◌, length, get_or, set, ap, sym, ◌∙◌, subst, arith}
+use Rattle.std.proofs.lemmas.List.Edits.{map_over_more}
 use Rattle.eval_scope.specs.Shown.{world_of}
-use Rattle.gang_ports.specs.Search.{attributes_of, evaluations_of, weighed}
-use Rattle.gang_ports.proofs.CandidateLemmas.{weighed-next}
-use Rattle.gang_ports.proofs.ListLemmas.{count-next, count-within}
+use Rattle.gang_ports.specs.declared.weighing.Resource.{Resource}
+use Rattle.gang_ports.specs.Search.{attributes_of, candidate_in, evaluations_in, weighed_in}
+use Rattle.gang_ports.proofs.CandidateLemmas.{found-all, found-next, front-all, item-at}
+use Rattle.gang_ports.proofs.ListLemmas.{count-all, count-next, count-within}
 use Rattle.gang_ports.proofs.weighing.weigh_all.Goals as goal
 
-pub loop-resource-init : goal.loop-resource-init
-unfolding weighed
-loop-resource-init g c = record { tries = c.new-tries.ensures.items; evaluations = omega arith; entries = omega arith }
+pub returns-in_err-found-clause-evaluations : goal.returns-in_err-found-clause-evaluations
+returns-in_err-found-clause-evaluations g c =
+    let w = world_of c.args.world.now in
+    let before = c.args.before.now in
+    let start = c.args.resources.now in
+    let i = c.loop-resource.resource-index in
+    let item = c.resource-item.result in
+    let within : i < length start = omega (arith, c.loop-resource-test.true, c.loop-resource.auto.resource-index-end, c.loop-resource.auto.resources) in
+    let at : item ≡ get_or start i item = item-at (weighed_in w before) start c.loop-resource.resources i item c.resource-item.is c.loop-resource.invariant.kept in
+    count-within (evaluations_in before) start i c.args.tops.now c.loop-resource.tops c.loop-resource.invariant.evaluations item c.weigh.new.tops within at
+    (subst (λ (r : Resource). c.weigh.new.tops ≤ c.loop-resource.tops + evaluations_in before r) (sym c.resource-item.is) c.weigh.ensures.evaluations)
 
-pub returns-in_err-weighed-clause-evaluations : goal.returns-in_err-weighed-clause-evaluations
-returns-in_err-weighed-clause-evaluations g c =
-    count-within (evaluations_of c.args.before.now) c.args.resources.now c.loop-resource.resource-index c.args.tops.now c.loop-resource.tops c.loop-resource.invariant.evaluations
-    c.resource-item.result c.weigh.new.tops c.loop-resource-test.true c.resource-item.is c.weigh.ensures.evaluations
-
-pub returns-in_err-weighed-clause-entries : goal.returns-in_err-weighed-clause-entries
-returns-in_err-weighed-clause-entries g c =
-    count-within (attributes_of (world_of c.args.world.now) c.args.before.now) c.args.resources.now c.loop-resource.resource-index c.args.entry.now c.loop-resource.entry c.loop-resource.invariant.entries
-    c.resource-item.result c.weigh.new.entry c.loop-resource-test.true c.resource-item.is c.weigh.ensures.entries
+pub returns-in_err-found-clause-entries : goal.returns-in_err-found-clause-entries
+returns-in_err-found-clause-entries g c =
+    let w = world_of c.args.world.now in
+    let before = c.args.before.now in
+    let start = c.args.resources.now in
+    let i = c.loop-resource.resource-index in
+    let item = c.resource-item.result in
+    let within : i < length start = omega (arith, c.loop-resource-test.true, c.loop-resource.auto.resource-index-end, c.loop-resource.auto.resources) in
+    let at : item ≡ get_or start i item = item-at (weighed_in w before) start c.loop-resource.resources i item c.resource-item.is c.loop-resource.invariant.kept in
+    count-within (attributes_of w before) start i c.args.entry.now c.loop-resource.entry c.loop-resource.invariant.entries item c.weigh.new.entry within at
+    (subst (λ (r : Resource). c.weigh.new.entry ≤ c.loop-resource.entry + attributes_of w before r) (sym c.resource-item.is) c.weigh.ensures.entries)
 
 pub returns-in_err-keep-clause-evaluations : goal.returns-in_err-keep-clause-evaluations
 returns-in_err-keep-clause-evaluations g c =
-    count-within (evaluations_of c.args.before.now) c.args.resources.now c.loop-resource.resource-index c.args.tops.now c.loop-resource.tops c.loop-resource.invariant.evaluations
-    c.resource-item.result c.weigh.new.tops c.loop-resource-test.true c.resource-item.is c.weigh.ensures.evaluations
+    let w = world_of c.args.world.now in
+    let before = c.args.before.now in
+    let start = c.args.resources.now in
+    let i = c.loop-resource.resource-index in
+    let item = c.resource-item.result in
+    let within : i < length start = omega (arith, c.loop-resource-test.true, c.loop-resource.auto.resource-index-end, c.loop-resource.auto.resources) in
+    let at : item ≡ get_or start i item = item-at (weighed_in w before) start c.loop-resource.resources i item c.resource-item.is c.loop-resource.invariant.kept in
+    count-within (evaluations_in before) start i c.args.tops.now c.loop-resource.tops c.loop-resource.invariant.evaluations item c.weigh.new.tops within at
+    (subst (λ (r : Resource). c.weigh.new.tops ≤ c.loop-resource.tops + evaluations_in before r) (sym c.resource-item.is) c.weigh.ensures.evaluations)
 
 pub returns-in_err-keep-clause-entries : goal.returns-in_err-keep-clause-entries
 returns-in_err-keep-clause-entries g c =
-    count-within (attributes_of (world_of c.args.world.now) c.args.before.now) c.args.resources.now c.loop-resource.resource-index c.args.entry.now c.loop-resource.entry c.loop-resource.invariant.entries
-    c.resource-item.result c.weigh.new.entry c.loop-resource-test.true c.resource-item.is c.weigh.ensures.entries
+    let w = world_of c.args.world.now in
+    let before = c.args.before.now in
+    let start = c.args.resources.now in
+    let i = c.loop-resource.resource-index in
+    let item = c.resource-item.result in
+    let within : i < length start = omega (arith, c.loop-resource-test.true, c.loop-resource.auto.resource-index-end, c.loop-resource.auto.resources) in
+    let at : item ≡ get_or start i item = item-at (weighed_in w before) start c.loop-resource.resources i item c.resource-item.is c.loop-resource.invariant.kept in
+    count-within (attributes_of w before) start i c.args.entry.now c.loop-resource.entry c.loop-resource.invariant.entries item c.weigh.new.entry within at
+    (subst (λ (r : Resource). c.weigh.new.entry ≤ c.loop-resource.entry + attributes_of w before r) (sym c.resource-item.is) c.weigh.ensures.entries)
 
 pub loop-resource-preserved : goal.loop-resource-preserved
-loop-resource-preserved g c = record {
-  tries = weighed-next (world_of c.args.world.now) c.args.before.now c.args.resources.now c.loop-resource.resource-index c.resource-item.result
-      c.loop-resource.tries.items c.keep.new.tries.items c.in_ok-weighed.weighed c.loop-resource-test.true c.resource-item.is c.loop-resource.invariant.tries c.in_ok-weighed.ensures.found c.in_ok-keep.ensures;
-  evaluations = count-next (evaluations_of c.args.before.now) c.args.resources.now c.loop-resource.resource-index c.args.tops.now c.loop-resource.tops c.loop-resource.invariant.evaluations
-      c.resource-item.result c.weigh.new.tops c.loop-resource-test.true c.resource-item.is c.weigh.ensures.evaluations;
-  entries = count-next (attributes_of (world_of c.args.world.now) c.args.before.now) c.args.resources.now c.loop-resource.resource-index c.args.entry.now c.loop-resource.entry c.loop-resource.invariant.entries
-      c.resource-item.result c.weigh.new.entry c.loop-resource-test.true c.resource-item.is c.weigh.ensures.entries;
-}
+loop-resource-preserved g c =
+    let w = world_of c.args.world.now in
+    let before = c.args.before.now in
+    let start = c.args.resources.now in
+    let i = c.loop-resource.resource-index in
+    let item = c.resource-item.result in
+    let within : i < length start = omega (arith, c.loop-resource-test.true, c.loop-resource.auto.resource-index-end, c.loop-resource.auto.resources) in
+    let at : item ≡ get_or start i item = item-at (weighed_in w before) start c.loop-resource.resources i item c.resource-item.is c.loop-resource.invariant.kept in
+    let now = c.loop-resource.resources in
+    record {
+      tries =
+          found-next (candidate_in w before) start i item c.loop-resource.tries.items c.keep.new.tries.items c.in_ok-found.found within at c.loop-resource.invariant.tries
+          (c.in_ok-found.ensures.found ∙ ap (candidate_in w before) (sym c.resource-item.is)) c.in_ok-keep.ensures;
+      kept =
+          ap (λ (r : Resource). set now i r) (c.in_ok-found.ensures.kept ∙ ap (weighed_in w before) (sym c.resource-item.is))
+          ∙ map_over_more (weighed_in w before) start now i item within c.loop-resource.invariant.kept c.resource-item.is;
+      evaluations =
+          count-next (evaluations_in before) start i c.args.tops.now c.loop-resource.tops c.loop-resource.invariant.evaluations item c.weigh.new.tops within at
+          (subst (λ (r : Resource). c.weigh.new.tops ≤ c.loop-resource.tops + evaluations_in before r) (sym c.resource-item.is) c.weigh.ensures.evaluations);
+      entries =
+          count-next (attributes_of w before) start i c.args.entry.now c.loop-resource.entry c.loop-resource.invariant.entries item c.weigh.new.entry within at
+          (subst (λ (r : Resource). c.weigh.new.entry ≤ c.loop-resource.entry + attributes_of w before r) (sym c.resource-item.is) c.weigh.ensures.entries);
+    }
+
+pub returns-clause-tries : goal.returns-clause-tries
+returns-clause-tries g c =
+    let w = world_of c.args.world.now in
+    let before = c.args.before.now in
+    let start = c.args.resources.now in
+    let i = c.loop-resource.resource-index in
+    let past : length start ≤ i = omega (arith, c.loop-resource-test.false, c.loop-resource.auto.resource-index-end, c.loop-resource.auto.resources) in
+    found-all (candidate_in w before) start i c.loop-resource.tries.items past c.loop-resource.invariant.tries
+
+pub returns-clause-kept : goal.returns-clause-kept
+returns-clause-kept g c =
+    let w = world_of c.args.world.now in
+    let before = c.args.before.now in
+    let start = c.args.resources.now in
+    let i = c.loop-resource.resource-index in
+    let past : length start ≤ i = omega (arith, c.loop-resource-test.false, c.loop-resource.auto.resource-index-end, c.loop-resource.auto.resources) in
+    c.loop-resource.invariant.kept ∙ front-all (weighed_in w before) start i past
+
+pub returns-clause-evaluations : goal.returns-clause-evaluations
+returns-clause-evaluations g c =
+    let w = world_of c.args.world.now in
+    let before = c.args.before.now in
+    let start = c.args.resources.now in
+    let i = c.loop-resource.resource-index in
+    let past : length start ≤ i = omega (arith, c.loop-resource-test.false, c.loop-resource.auto.resource-index-end, c.loop-resource.auto.resources) in
+    count-all (evaluations_in before) start i c.args.tops.now c.loop-resource.tops c.loop-resource.invariant.evaluations past
+
+pub returns-clause-entries : goal.returns-clause-entries
+returns-clause-entries g c =
+    let w = world_of c.args.world.now in
+    let before = c.args.before.now in
+    let start = c.args.resources.now in
+    let i = c.loop-resource.resource-index in
+    let past : length start ≤ i = omega (arith, c.loop-resource-test.false, c.loop-resource.auto.resource-index-end, c.loop-resource.auto.resources) in
+    count-all (attributes_of w before) start i c.args.entry.now c.loop-resource.entry c.loop-resource.invariant.entries past

@@ -1,11 +1,18 @@
-use Rattle.std.proofs.Common.{◌≡◌, ◌≤◌, ◌+◌, sum_by, take}
+use Rattle.std.proofs.Common.{◌≡◌, ◌≤◌, ◌+◌, ◌++◌, drop, map, sum_by, take}
+use Rattle.std.specs.List.{filter_map}
 use Rattle.eval_scope.specs.Shown.{world_of}
-use Rattle.gang_ports.specs.Search.{attributes_of, evaluations_of, weighed}
+use Rattle.gang_ports.specs.Search.{attributes_of, candidate_in, evaluations_in, weighed_in}
 use Rattle.gang_ports.proofs.weighing.weigh_all.Given as goal
 
+-- the resources so far were weighed, and no others
 abbrev pub invariant-loop-resource : goal.invariant-loop-resource
-invariant-loop-resource g l = record {
-  tries : l.tries.items ≡ weighed (world_of l.world) l.before (take l.resource-index l.resources);
-  evaluations : l.tops ≤ l.initial.tops + sum_by (evaluations_of l.before) (take l.resource-index l.resources);
-  entries : l.entry ≤ l.initial.entry + sum_by (attributes_of (world_of l.world) l.before) (take l.resource-index l.resources);
-}
+invariant-loop-resource g l =
+    let w = world_of l.world in
+    let start = l.initial.resources in
+    let i = l.resource-index in
+    record {
+      tries : l.tries.items ≡ filter_map (candidate_in w l.before) (take i start);
+      kept : l.resources ≡ map (weighed_in w l.before) (take i start) ++ drop i start;
+      evaluations : l.tops ≤ l.initial.tops + sum_by (evaluations_in l.before) (take i start);
+      entries : l.entry ≤ l.initial.entry + sum_by (attributes_of w l.before) (take i start);
+    }

@@ -3,8 +3,8 @@ use Rattle.std.proofs.lemmas.List.{take_all}
 use Rattle.ad_tree.specs.Ad.{ad_frames}
 use Rattle.ad_store.specs.Store.{stock_of}
 use Rattle.bilateral_match.specs.Pool.{Pool, pool_of}
-use Rattle.gang_ports.proofs.ReadingLemmas.{ads-next, asked-next, asked-places, is_asked}
-use Rattle.gang_ports.proofs.reading.read_side.Goals as goal
+use Rattle.gang_ports.proofs.ReadingLemmas.{ads-next, asked-next, asked-places, is_asked, unknown-next}
+use Rattle.gang_ports.proofs.reading.read_resources.Goals as goal
 
 pub loop-place-preserved : goal.loop-place-preserved
 loop-place-preserved g c =
@@ -17,11 +17,12 @@ loop-place-preserved g c =
     record {
       places = asked-next pool request ports c.args.frame so_far new items c.loop-place.place-index c.loop-place-test.true c.resource_at-found.result c.in_ok-keep.ensures c.loop-place.invariant.places c.resource_at-found.ensures.found;
       ads = ads-next pool request ports c.args.frame so_far new items c.loop-place.place-index c.loop-place-test.true c.resource_at-found.result c.in_ok-keep.ensures c.loop-place.invariant.ads c.resource_at-found.ensures.ad;
+      unknown = unknown-next so_far new c.resource_at-found.result c.in_ok-keep.ensures c.loop-place.invariant.unknown c.resource_at-found.ensures.unknown;
       looks = omega (arith, c.loop-place.invariant.looks, c.resource_at-found.ensures.looks);
     }
 
-pub returns-clause-side : goal.returns-clause-side
-returns-clause-side g c =
+pub returns-clause-resources : goal.returns-clause-resources
+returns-clause-resources g c =
     let pool : Pool = pool_of c.args.moment (stock_of c.args.store.now) (g.H.Holdings.is_offered c.args.held.now) (g.H.Holdings.holding c.args.held.now) in
     let request = ad_frames c.args.request.now.ad in
     let ports = c.args.request.now.ports in

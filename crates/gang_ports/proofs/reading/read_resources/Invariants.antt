@@ -1,10 +1,11 @@
-use Rattle.std.proofs.Common.{◌≡◌, ◌≤◌, ◌+◌, ◌&&◌, All, filter, map, take}
+use Rattle.std.proofs.Common.{◌≡◌, ◌≤◌, ◌+◌, ◌&&◌, true, All, filter, map, take}
 use Rattle.ad_tree.specs.Ad.{ad_frames}
 use Rattle.ad_store.specs.Store.{stock_of}
 use Rattle.bilateral_match.specs.Pool.{Pool, pool_of}
 use Rattle.gang_ports.specs.declared.weighing.Resource.{Resource}
 use Rattle.gang_ports.specs.Gangs.{ad_at, is_free, is_open}
-use Rattle.gang_ports.proofs.reading.read_side.Given as goal
+use Rattle.gang_ports.specs.Search.{is_unknown}
+use Rattle.gang_ports.proofs.reading.read_resources.Given as goal
 
 -- the resources of the places so far
 abbrev pub invariant-loop-place : goal.invariant-loop-place
@@ -13,5 +14,6 @@ invariant-loop-place g l =
     record {
       places : map (λ (r : Resource). r.place) l.resources.items ≡ filter (λ place. is_free pool place && is_open pool (ad_frames l.request.ad) l.request.ports l.frame place) (take l.place-index l.place-items);
       ads : All (λ (r : Resource). ad_frames r.ad.now ≡ ad_at pool r.place) l.resources.items;
+      unknown : All (λ (r : Resource). is_unknown r.kept ≡ true) l.resources.items;
       looks : l.touch ≤ l.initial.touch + l.place-index;
     }

@@ -1,6 +1,7 @@
 -- What the words of a command line ask for, and how a run ends as it is asked for.
 use Rattle.std.specs.Prelude.{◌≡◌, ℕ, List, [], ◌∷◌, Option, None, Some, bytes_eq, codes, if◌then◌else◌}
 use Rattle.claim_wire.specs.Wires.{IsNumber, new_wire}
+use Rattle.notice_desk.specs.Desk.{Row}
 use Rattle.pool_io.specs.Flow.{Supply}
 use Rattle.pool_script.specs.Commands.{whole_commands}
 use Rattle.pool_script.specs.GivenLines.{whole_lines}
@@ -11,9 +12,11 @@ use Rattle.pool_engine.specs.declared.run.RunEnd.{RunEnd}
 use Rattle.pool_engine.specs.declared.run.RunEnd.TheVariants as ends
 use Rattle.pool_engine.specs.Ends.{Effects, Ends}
 use Rattle.pool_engine.specs.Events.{events_of, replies_text}
-use Rattle.pool_engine.specs.State.{opening}
+use Rattle.pool_engine.specs.Heard.{opened}
+use Rattle.pool_engine.specs.Options.{are_options, count_of}
 use Rattle.pool_engine.specs.WireEnds.{WireEnds}
 use Rattle.pool_engine.specs.WireReplies.{wire_text}
+use Rattle.pool_engine.specs.Workloads.{WorkloadEnds, summary_of, workload_events}
 
 -- ---- the words
 
@@ -22,11 +25,19 @@ abbrev pub wire_asked : Option ℕ → Option ℕ → Asked
 wire_asked (Some resources) (Some customers) = asks.Wire resources customers
 wire_asked resources customers = asks.Bad
 
--- no word asks for a pool, and `--wire R C` for a wire
+-- `--wire R C`
+abbrev pub wire_of : List (List ℕ) → Asked
+wire_of (word ∷ r ∷ c ∷ []) = if bytes_eq word (codes "--wire") then wire_asked (number_within 1 100 r) (number_within 1 100 c) else asks.Bad
+wire_of words = asks.Bad
+
+-- a workload of so many machines, or a pool where no number is asked for
+abbrev pub pool_asked : Option ℕ → Asked
+pool_asked (Some machines) = asks.Workload machines
+pool_asked None = asks.Pool
+
+-- options ask for a pool or a workload, as no word asks for a pool; else it may be a wire
 abbrev pub asked_by : List (List ℕ) → Asked
-asked_by [] = asks.Pool
-asked_by (word ∷ r ∷ c ∷ []) = if bytes_eq word (codes "--wire") then wire_asked (number_within 1 100 r) (number_within 1 100 c) else asks.Bad
-asked_by words = asks.Bad
+asked_by words = if are_options words then pool_asked (count_of words) else wire_of words
 
 -- the numbers of a wire are from 1 to 100
 abbrev pub IsWithin : Asked → Type 0
@@ -35,15 +46,29 @@ IsWithin other = Unit {0}
 
 -- ---- the run
 
--- a run ended as it was asked for, from these states of source and sink to those; where the words are wrong nothing was read or
--- written, and a wire counts nothing
+-- a run ended as it was asked for, from these states of source and sink to those; where the words are wrong nothing was read,
+-- written or posted, a workload reads nothing, and a wire counts and posts nothing
 abbrev pub AskedEnds : Asked → Supply → Supply → Effects → Effects → RunEnd → Type 0
 AskedEnds asks.Bad s t k m end = (end ≡ ends.BadWords) × ((t ≡ s) × (m ≡ k))
 AskedEnds asks.Pool s t k m end = Ends s t k m end
-AskedEnds (asks.Wire resources customers) s t k m end = WireEnds (new_wire resources customers) s t k.sink m.sink end × ((m.tops ≡ k.tops) × (m.touch ≡ k.touch))
+AskedEnds (asks.Workload machines) s t k m end = WorkloadEnds machines k m end × (t ≡ s)
+AskedEnds (asks.Wire resources customers) s t k m end = WireEnds (new_wire resources customers) s t k.sink m.sink end × ((m.tops ≡ k.tops) × ((m.touch ≡ k.touch) × (m.rows ≡ k.rows)))
 
--- the text of all replies to an input
-abbrev pub asked_text : Asked → List ℕ → List ℕ
-asked_text asks.Bad bytes = []
-asked_text asks.Pool bytes = replies_text (events_of opening (whole_commands bytes))
-asked_text (asks.Wire resources customers) bytes = wire_text (new_wire resources customers) (whole_lines bytes)
+-- the source is left alone
+abbrev pub IsUnread : Asked → Type 0
+IsUnread asks.Bad = Unit {0}
+IsUnread asks.Pool = ⊥
+IsUnread (asks.Workload machines) = Unit {0}
+IsUnread (asks.Wire resources customers) = ⊥
+
+-- what a run reads, where the source tells what is left; a workload reads nothing
+abbrev pub input_of : Asked → Option (List ℕ) → Option (List ℕ)
+input_of (asks.Workload machines) left = Some []
+input_of asked left = left
+
+-- all that is to be written for an input, where these rows are on the desk
+abbrev pub asked_text : Asked → List Row → List ℕ → List ℕ
+asked_text asks.Bad rows bytes = []
+asked_text asks.Pool rows bytes = replies_text (events_of (opened rows) (whole_commands bytes))
+asked_text (asks.Workload machines) rows bytes = summary_of (workload_events machines rows)
+asked_text (asks.Wire resources customers) rows bytes = wire_text (new_wire resources customers) (whole_lines bytes)

@@ -7,11 +7,16 @@ pub mod CommandLine
 pub mod Ends
 pub mod Events
 pub mod Gangs
+pub mod Heard
 pub mod Indexed
 pub mod Limits
+pub mod Mails
 pub mod Negotiation
+pub mod Notices
+pub mod Options
 pub mod Pool
 pub mod Ports
+pub mod Posting
 pub mod Queue
 pub mod Rows
 pub mod Session
@@ -22,3 +27,4 @@ pub mod Stored
 pub mod WireEnds
 pub mod WireReplies
 pub mod WireSession
+pub mod Workloads

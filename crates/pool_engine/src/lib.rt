@@ -1,5 +1,5 @@
 //! The pool: runs the commands of a script that a source gives, and offers the replies to a sink. So it runs the lines of a
-//! schedule of the claiming protocol.
+//! schedule of the claiming protocol, and a workload whose script it writes itself.
 #![tactic(auto)]
 
 mod ads;
@@ -12,18 +12,26 @@ mod indexed;
 mod jobs;
 mod laws;
 mod line_wire;
+mod losses;
+mod mail;
 mod negotiation;
+mod notices;
+mod options;
 mod pool;
+mod posting;
 mod query;
 mod run;
 mod session;
 mod wire;
 mod wire_laws;
 mod wire_session;
+mod workload_run;
 
-pub use command_line::Asked;
+pub use command_line::{Asked, read_words};
 pub use laws::the_first_reply_is_offered_at_once;
+pub use mail::{Mail, mails};
 pub use pool::Pool;
 pub use run::{RunEnd, run_pool};
 pub use wire::run_wire;
 pub use wire_laws::the_first_reply_of_a_wire_is_offered_at_once;
+pub use workload::generated;

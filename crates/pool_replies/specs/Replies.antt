@@ -1,12 +1,12 @@
 -- The text of replies.
-use Rattle.std.specs.Prelude.{ℕ, Bool, true, false, List, [], ◌∷◌, ◌++◌, Option, None, Some, codes, decimal, length, if◌then◌else◌}
+use Rattle.std.specs.Prelude.{ℕ, Bool, true, false, List, [], ◌∷◌, ◌++◌, Option, None, Some, codes, decimal, length, sum_by, if◌then◌else◌}
 use Rattle.std.specs.Fmt.{signed_decimal}
 use Rattle.std.specs.List.{flat_map}
 use Rattle.pool_replies.specs.declared.reply.Reply.{Reply}
 use Rattle.pool_replies.specs.declared.reply.Reply.TheVariants as reply
 use Rattle.pool_replies.specs.declared.rows.AdRow.{AdRow}
 use Rattle.pool_replies.specs.declared.rows.HitRow.{HitRow}
-use Rattle.pool_replies.specs.Cycles.{cycle_text, with_blanks}
+use Rattle.pool_replies.specs.Cycles.{cycle_text, offers_of_spin, with_blanks}
 use Rattle.pool_replies.specs.Refusals.{is_printable_refusal, refusal_text}
 
 -- `clock N expired K`
@@ -81,6 +81,16 @@ is_refused other = false
 -- how many refusals a reply is
 abbrev pub refusal_count : Reply → ℕ
 refusal_count reply = if is_refused reply then 1 else 0
+
+-- how many ads a reply lists as hits
+unfoldable pub hit_count : Reply → ℕ
+hit_count (reply.Hits rows) = length rows
+hit_count other = 0
+
+-- how many offers a reply tells of
+unfoldable pub offer_count : Reply → ℕ
+offer_count (reply.Cycle spins) = sum_by offers_of_spin spins
+offer_count other = 0
 
 -- a reply that has a text
 unfoldable pub is_printable : Reply → Bool

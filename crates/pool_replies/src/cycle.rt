@@ -80,7 +80,7 @@ fn append_offer(out: &mut Text, user: &[u8], offer: &OfferRow) -> Result<(), Out
 }
 
 /// How many offers the spins made, where 64 bits count them.
-fn offers_of_spins(spins: &[SpinRow]) -> Option<u64>
+pub(crate) fn offers_of_spins(spins: &[SpinRow]) -> Option<u64>
     ensures { IfSome result (λ n. n ≡ sum_by texts.offers_of_spin spins.now) }
 {
     let mut count = 0;

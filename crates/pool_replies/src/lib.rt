@@ -8,7 +8,7 @@ mod rows;
 mod writing;
 
 pub use refusal::{Refusal, Room};
-pub use reply::{Reply, print_reply, refusals};
+pub use reply::{Reply, hits, offers, print_reply, refusals};
 pub use rows::{
     AdRow, AdRows, HitRow, HitRows, OfferRow, OfferRows, SpinRow, SpinRows, TurnRow, TurnRows,
 };

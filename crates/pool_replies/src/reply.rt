@@ -1,10 +1,10 @@
 // The replies of the pool, and the text of each.
-ghost use Rattle.std.specs.Prelude.{◌≡◌, ◌++◌, ◌∷◌, [], codes, decimal, length, IfOk, OnOk, IsTrue};
+ghost use Rattle.std.specs.Prelude.{◌≡◌, ◌++◌, ◌∷◌, [], codes, decimal, length, IfOk, IfSome, OnOk, IsTrue};
 ghost use Rattle.std.specs.Fmt.{signed_decimal};
 ghost use Rattle.std.specs.List.{flat_map};
 ghost use Rattle.pool_replies.specs.Replies as texts;
 
-use crate::cycle::print_cycle;
+use crate::cycle::{offers_of_spins, print_cycle};
 use crate::refusal::print_refusal;
 use crate::writing::{append_names, print_line, print_name};
 use crate::{AdRow, AdRows, HitRow, HitRows, Refusal, SpinRows};
@@ -71,6 +71,28 @@ pub fn refusals(reply: &Reply) -> u64
     match reply {
         Reply::Refused(_) => 1,
         _ => 0,
+    }
+}
+
+/// How many ads the reply lists as hits.
+#[tactic(auto, unfolding(crate::specs::Replies::hit_count))]
+pub fn hits(reply: &Reply) -> u64
+    ensures { result ≡ texts.hit_count reply.now }
+{
+    match reply {
+        Reply::Hits(rows) => rows.len() as u64,
+        _ => 0,
+    }
+}
+
+/// How many offers the reply tells of, where 64 bits count them.
+#[tactic(auto, unfolding(crate::specs::Replies::offer_count))]
+pub fn offers(reply: &Reply) -> Option<u64>
+    ensures { IfSome result (λ n. n ≡ texts.offer_count reply.now) }
+{
+    match reply {
+        Reply::Cycle(spins) => offers_of_spins(spins.as_slice()),
+        _ => Some(0),
     }
 }
 

@@ -1,7 +1,10 @@
-use Rattle.std.proofs.Common.{◌+◌, ◌∙◌}
+use Rattle.std.proofs.Common.{◌+◌, ◌∙◌, refl}
 use Rattle.std.proofs.lemmas.Result.{err_from_is_err_and}
-use Rattle.pool_engine.proofs.RunningLemmas.{Running-command, Running-stopped}
+use Rattle.pool_engine.proofs.RunningLemmas.{Running-command, Running-start, Running-stopped}
 use Rattle.pool_engine.proofs.session.Session.run_waiting.Goals as goal
+
+pub loop-command-init : goal.loop-command-init
+loop-command-init g c = record { running = Running-start _ _ _ _ c.requires; over = refl; stands = λ bytes n stands. (n, stands) }
 
 pub returns-in_err-self-clause-stopped : goal.returns-in_err-self-clause-stopped
 returns-in_err-self-clause-stopped g c =

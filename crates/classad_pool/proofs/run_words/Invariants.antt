@@ -1,4 +1,4 @@
-use Rattle.classad_pool.proofs.run_script.Given as goal
+use Rattle.classad_pool.proofs.run_words.Given as goal
 
 abbrev pub ghosts-run_uncounted-F-Ledger : goal.ghosts-run_uncounted-F-Ledger
 ghosts-run_uncounted-F-Ledger a = record { name = a.tops.name; parts = a.tops.parts }

@@ -1,0 +1,93 @@
+-- The commands of a workload one by one, and the sum of their replies.
+use Rattle.std.proofs.Common.{◌≡◌, ℕ, ◌+◌, List, [], ◌∷◌, ◌++◌, Result, Ok, Err, OnErr, length, sym, ◌∙◌, ap, subst, arith, append_assoc, length-append}
+use Rattle.std.proofs.lemmas.List.{append-nil}
+use Rattle.std.proofs.lemmas.List.Sums.{sum_by-append}
+use Rattle.std.proofs.lemmas.Grind.{flat_map-append}
+use Rattle.workload.specs.declared.summary.Summary.{Summary}
+use Rattle.pool_script.specs.declared.command.Command.{Command}
+use Rattle.pool_replies.specs.Replies.{hit_count, offer_count, reply_text}
+use Rattle.pool_engine.specs.declared.run.RunEnd.TheVariants.{OutOfMemory}
+use Rattle.pool_engine.specs.Ends.{Effects, effects}
+use Rattle.pool_engine.specs.Events.{Event, event_of, events_of, replies_text, state_after}
+use Rattle.pool_engine.specs.Heard.{Heard, opened}
+use Rattle.pool_engine.specs.Session.{Stopped, Took}
+use Rattle.pool_engine.specs.Workloads.{IsSummaryOf, IsUnsummed, silent, workload_commands}
+use Rattle.pool_engine.proofs.EventLemmas.{events_of-append, refusals_of-append}
+use Rattle.pool_engine.proofs.RunningLemmas.{split_next}
+use Rattle.pool_engine.proofs.TookLemmas.{Stopped-none, Stopped-within, Took-append, Took-from, Took-nil}
+
+pub always_err : {T E : Type 0} (r : Result T E) (P : Type 0) → P → OnErr r P
+always_err (Ok x) P p = tt
+always_err (Err e) P p = p
+
+-- ---- summaries
+
+-- the sum of two summaries
+pub Summed-append : (a b c : Summary) (xs ys : List Event) → IsSummaryOf a xs → IsSummaryOf b ys → c.commands ≡ a.commands + b.commands → c.refused ≡ a.refused + b.refused → c.hits ≡ a.hits + b.hits → c.offers ≡ a.offers + b.offers → c.bytes ≡ a.bytes + b.bytes → IsSummaryOf c (xs ++ ys)
+Summed-append a b c xs ys first second commands refused hits offers bytes =
+    let text = ap length (flat_map-append (λ (event : Event). reply_text event.reply) xs ys) in
+    record {
+      commands = omega (arith, commands, first.commands, second.commands, length-append xs ys);
+      refused = omega (arith, refused, first.refused, second.refused, refusals_of-append xs ys);
+      hits = omega (arith, hits, first.hits, second.hits, sum_by-append (λ (event : Event). hit_count event.reply) xs ys);
+      offers = omega (arith, offers, first.offers, second.offers, sum_by-append (λ (event : Event). offer_count event.reply) xs ys);
+      bytes = omega (arith, bytes, first.bytes, second.bytes, text, length-append (replies_text xs) (replies_text ys));
+    }
+
+-- ---- the loop
+
+-- the first of all commands ran and were summed up, and the others wait
+pub record Summing (s t : Heard) (k m : Effects) (all waiting : List Command) (summary : Summary) : Type 0 where
+  pub ran : List Command
+  pub split : all ≡ ran ++ waiting
+  pub took : Took s t k m ran 0 summary.refused
+  pub summed : IsSummaryOf summary (events_of s ran)
+
+pub Summing-start : (s t : Heard) (k : Effects) (all waiting : List Command) (summary : Summary) → t ≡ s → waiting ≡ all → summary.commands ≡ 0 → summary.refused ≡ 0 → summary.hits ≡ 0 → summary.offers ≡ 0 → summary.bytes ≡ 0 → Summing s t k k all waiting summary
+Summing-start s t k all waiting summary same is commands refused hits offers bytes = record {
+  ran = [];
+  split = sym is;
+  took = subst (λ (u : Heard). Took s u k k [] 0 summary.refused) (sym same) (subst (λ (n : ℕ). Took s s k k [] 0 n) (sym refused) (Took-nil s k 0));
+  summed = record { commands = commands; refused = refused; hits = hits; offers = offers; bytes = bytes };
+}
+
+pub Summing-command : (s t u : Heard) (k m n : Effects) (all waiting rest : List Command) (command : Command) (summary one more : Summary) → Summing s t k m all waiting summary → waiting ≡ command ∷ rest → Took t u m n (command ∷ []) 0 one.refused → IsSummaryOf one (event_of t command ∷ []) → more.commands ≡ summary.commands + one.commands → more.refused ≡ summary.refused + one.refused → more.hits ≡ summary.hits + one.hits → more.offers ≡ summary.offers + one.offers → more.bytes ≡ summary.bytes + one.bytes → Summing s u k n all rest more
+Summing-command s t u k m n all waiting rest command summary one more summing is took summed commands refused hits offers bytes =
+    let both : Took s u k n (summing.ran ++ command ∷ []) 0 (summary.refused + one.refused) = Took-append s t u k m n summing.ran (command ∷ []) 0 summary.refused (summary.refused + one.refused) summing.took (Took-from t u m n (command ∷ []) summary.refused one.refused took) in
+    let here : IsSummaryOf one (event_of (state_after s summing.ran) command ∷ []) = subst (λ (h : Heard). IsSummaryOf one (event_of h command ∷ [])) summing.took.state summed in
+    record {
+      ran = summing.ran ++ command ∷ [];
+      split = split_next all summing.ran waiting rest command summing.split is ∙ sym (append_assoc summing.ran (command ∷ []) rest);
+      took = subst (λ (count : ℕ). Took s u k n (summing.ran ++ command ∷ []) 0 count) (sym refused) both;
+      summed = subst (λ (events : List Event). IsSummaryOf more events) (sym (events_of-append s summing.ran (command ∷ []))) (Summed-append summary one more (events_of s summing.ran) (event_of (state_after s summing.ran) command ∷ []) summing.summed here commands refused hits offers bytes);
+    }
+
+pub Summing-stopped : (s t : Heard) (k m n : Effects) (all waiting rest : List Command) (command : Command) (summary : Summary) → Summing s t k m all waiting summary → waiting ≡ command ∷ rest → Stopped t m n (command ∷ []) OutOfMemory → Stopped s k n all OutOfMemory
+Summing-stopped s t k m n all waiting rest command summary summing is stopped =
+    subst (λ (l : List Command). Stopped s k n l OutOfMemory) (sym (split_next all summing.ran waiting rest command summing.split is)) (Stopped-within s t k m n summing.ran (command ∷ []) rest 0 summary.refused OutOfMemory summing.took stopped)
+
+-- memory was wanting behind commands
+pub Took-stopped : (s t : Heard) (k m : Effects) (a : List Command) (p q : ℕ) → Took s t k m a p q → Stopped s k m a OutOfMemory
+Took-stopped s t k m a p q took = subst (λ (l : List Command). Stopped s k m l OutOfMemory) (append-nil a) (Stopped-within s t k m m a [] [] p q OutOfMemory took (Stopped-none t m []))
+
+-- ---- the ends
+
+module _ (n : ℕ) (k m : Effects) where
+  abbrev before : Effects
+  before = effects silent k.tops k.touch k.rows
+
+  abbrev behind : Effects
+  behind = effects silent m.tops m.touch m.rows
+
+  pub Workload-unsummed : m.sink ≡ k.sink → Stopped (opened k.rows) before behind (workload_commands n) OutOfMemory → IsUnsummed n k m
+  Workload-unsummed unwritten stopped = record {
+    front = stopped.front;
+    others = stopped.others;
+    split = stopped.split;
+    unwritten = unwritten;
+    cost = record { tops = stopped.cost.tops; touch = stopped.cost.touch };
+    posted = stopped.posted;
+  }
+
+  pub Workload-unprinted : (t : Heard) (count : ℕ) → m.sink ≡ k.sink → Took (opened k.rows) t before behind (workload_commands n) 0 count → IsUnsummed n k m
+  Workload-unprinted t count unwritten took = Workload-unsummed unwritten (Took-stopped (opened k.rows) t before behind (workload_commands n) 0 count took)

@@ -1,0 +1,141 @@
+// The run of a workload: its commands run as those of a script do, and a summary is offered in the place of replies.
+ghost use Rattle.std.specs.Prelude.{◌≡◌, ◌≢◌, ◌≤◌, ◌∷◌, [], false, length, IfOk, IsTrue, OnErr};
+ghost use Rattle.pool_io.specs.Flow.{Rose};
+ghost use Rattle.pool_script.specs.Form.{is_within_form};
+ghost use Rattle.pool_replies.specs.Replies.{hit_count, is_printable, offer_count, refusal_count, reply_text};
+ghost use Rattle.pool_engine.specs.Ends.{IsDoneOrOutOfMemory, effects};
+ghost use Rattle.pool_engine.specs.Events.{event_of};
+ghost use Rattle.pool_engine.specs.Heard.{Heard, heard, opened};
+ghost use Rattle.pool_engine.specs.Pool.{state_of};
+ghost use Rattle.pool_engine.specs.Session.{Stopped, Took};
+ghost use Rattle.pool_engine.specs.Workloads.{IsSummaryOf, WorkloadEnds, silent, summary_of, workload_commands, workload_events};
+
+use crate::{Pool, RunEnd};
+use notice_desk::Notices;
+use pool_io::{Sink, write_all};
+use pool_replies::{Reply, hits, offers, print_reply, refusals};
+use pool_script::{Command, Script};
+use pool_steps::Steps;
+use pool_text::OutOfMemory;
+use std::alloc::Global;
+use std::sync::ledger::Ledger;
+use workload::{Summary, generated};
+
+/// Runs the script of a workload of so many machines, and offers the summary as one piece.
+#[tactic(auto, unfolding(crate::specs::Workloads::summary_of))]
+pub(crate) fn run_workload<K: Sink, D: Notices, F: Ledger, E: Ledger, T: Ledger>(
+    alloc: Global,
+    machines: u64,
+    sink: &mut K,
+    desk: &mut D,
+    tops: &mut Steps<F>,
+    entry: &mut Steps<E>,
+    touch: &mut Steps<T>,
+) -> RunEnd
+    ensures ends { WorkloadEnds machines (effects (K.shows sink.old) tops.old touch.old (D.shows desk.old))
+        (effects (K.shows sink.new) tops.new touch.new (D.shows desk.new)) result }
+    ensures words { result ≢ RunEnd.BadWords }
+    ensures complete { ¬ Rose (K.shows sink.old).faults (K.shows sink.new).faults → IsDoneOrOutOfMemory result }
+    ensures sure_source { result ≢ RunEnd.ReadFault }
+    ensures sure_sink { length (summary_of (workload_events machines (D.shows desk.old))) ≤ (K.shows sink.old).sure
+        → result ≢ RunEnd.WriteFault }
+{
+    let Ok(summary) = summed(alloc, machines, desk, tops, entry, touch) else {
+        return RunEnd::OutOfMemory;
+    };
+    let Ok(text) = summary.print(alloc) else {
+        return RunEnd::OutOfMemory;
+    };
+    let Ok(()) = write_all(sink, text.bytes()) else {
+        return RunEnd::WriteFault;
+    };
+    RunEnd::Done {
+        refused: summary.refused,
+    }
+}
+
+// Runs the commands of a workload, and sums up their replies.
+fn summed<D: Notices, F: Ledger, E: Ledger, T: Ledger>(
+    alloc: Global,
+    machines: u64,
+    desk: &mut D,
+    tops: &mut Steps<F>,
+    entry: &mut Steps<E>,
+    touch: &mut Steps<T>,
+) -> Result<Summary, OutOfMemory>
+    ensures summed { IfOk result (λ summary. IsSummaryOf summary (workload_events machines (D.shows desk.old))) }
+    ensures took { IfOk result (λ summary. (t : Heard) × Took (opened (D.shows desk.old)) t
+        (effects silent tops.old touch.old (D.shows desk.old)) (effects silent tops.new touch.new (D.shows desk.new))
+        (workload_commands machines) 0 summary.refused) }
+    ensures stopped { OnErr result (Stopped (opened (D.shows desk.old))
+        (effects silent tops.old touch.old (D.shows desk.old)) (effects silent tops.new touch.new (D.shows desk.new))
+        (workload_commands machines) RunEnd.OutOfMemory) }
+{
+    let mut script = script_of(alloc, machines)?;
+    let mut pool = Pool::new(alloc);
+    let mut summary = Summary::new();
+    while let Some(command) = script.take() {
+        let one = answered(alloc, &mut pool, command, desk, tops, entry, touch)?;
+        summary.add(&one)?;
+    }
+    Ok(summary)
+}
+
+// The script of a workload, whose commands wait.
+#[tactic(auto, unfolding(crate::specs::Workloads::workload_commands))]
+fn script_of(alloc: Global, machines: u64) -> Result<Script, OutOfMemory>
+    ensures { IfOk result (λ script. script.waiting ≡ workload_commands machines) }
+{
+    let mut script = Script::new(alloc);
+    let text = generated(alloc, machines)?;
+    script.feed(text.bytes())?;
+    script.end()?;
+    Ok(script)
+}
+
+// Runs a command, and sums up its reply.
+fn answered<D: Notices, F: Ledger, E: Ledger, T: Ledger>(
+    alloc: Global,
+    pool: &mut Pool,
+    command: Command,
+    desk: &mut D,
+    tops: &mut Steps<F>,
+    entry: &mut Steps<E>,
+    touch: &mut Steps<T>,
+) -> Result<Summary, OutOfMemory>
+    requires { IsTrue (is_within_form command) }
+    ensures summed { IfOk result (λ summary.
+        IsSummaryOf summary (event_of (heard (state_of pool.old) (D.shows desk.old)) command ∷ [])) }
+    ensures took { IfOk result (λ summary. Took (heard (state_of pool.old) (D.shows desk.old)) (heard (state_of pool.new) (D.shows desk.new))
+        (effects silent tops.old touch.old (D.shows desk.old)) (effects silent tops.new touch.new (D.shows desk.new)) (command ∷ []) 0 summary.refused) }
+    ensures stopped { OnErr result (Stopped (heard (state_of pool.old) (D.shows desk.old))
+        (effects silent tops.old touch.old (D.shows desk.old)) (effects silent tops.new touch.new (D.shows desk.new)) (command ∷ []) RunEnd.OutOfMemory) }
+{
+    let answered = pool.step(&command, desk, tops, entry, touch);
+    drop(command);
+    let reply = answered?;
+    let summary = summary_of_reply(alloc, &reply);
+    drop(reply);
+    summary
+}
+
+// The summary of one reply.
+fn summary_of_reply(alloc: Global, reply: &Reply) -> Result<Summary, OutOfMemory>
+    requires { IsTrue (is_printable reply.now) }
+    ensures commands { IfOk result (λ summary. summary.commands ≡ 1) }
+    ensures refused { IfOk result (λ summary. summary.refused ≡ refusal_count reply.now) }
+    ensures hits { IfOk result (λ summary. summary.hits ≡ hit_count reply.now) }
+    ensures offers { IfOk result (λ summary. summary.offers ≡ offer_count reply.now) }
+    ensures bytes { IfOk result (λ summary. summary.bytes ≡ length (reply_text reply.now)) }
+{
+    let text = print_reply(alloc, reply)?;
+    // More offers than 64 bits count have no room in memory.
+    let offers = offers(reply).ok_or(OutOfMemory)?;
+    Ok(Summary {
+        commands: 1,
+        refused: refusals(reply),
+        hits: hits(reply),
+        offers,
+        bytes: text.bytes().len() as u64,
+    })
+}

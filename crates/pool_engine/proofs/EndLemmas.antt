@@ -11,8 +11,7 @@ use Rattle.pool_engine.specs.declared.run.RunEnd.{RunEnd}
 use Rattle.pool_engine.specs.declared.run.RunEnd.TheVariants.{Done, BadWords, ReadFault, WriteFault, TooLong, OutOfMemory}
 use Rattle.pool_engine.specs.Ends.{AreDue, Effects, Ends, IsWriteFault}
 use Rattle.pool_engine.specs.Events.{events_of, replies_text, state_after}
-use Rattle.pool_engine.specs.State.{State, opening}
-use Rattle.pool_engine.specs.Step.{step}
+use Rattle.pool_engine.specs.Heard.{Heard, opened, step_heard}
 use Rattle.pool_engine.proofs.EventLemmas.{replies-append}
 
 -- the commands that are due come first among those of the whole input
@@ -25,22 +24,22 @@ due_first t bytes more commands left (inr is) =
     ([], ap (λ (l : List ℕ). whole_commands (bytes ++ l)) none ∙ ap (λ (l : List ℕ). whole_commands l) (append-nil bytes) ∙ sym is.0 ∙ sym (append-nil commands))
 
 -- the replies to some commands and the next are no longer than those to all
-replies-length : (s : State) (front others : List Command) (cut : Command) → length (replies_text (events_of s front)) + length (reply_text (step (state_after s front) cut).1) ≤ length (replies_text (events_of s (front ++ cut ∷ others)))
+replies-length : (s : Heard) (front others : List Command) (cut : Command) → length (replies_text (events_of s front)) + length (reply_text (step_heard (state_after s front) cut).1) ≤ length (replies_text (events_of s (front ++ cut ∷ others)))
 replies-length s front others cut =
     let text = ap length (replies-append s front (cut ∷ others)) in
     let here = length-append (replies_text (events_of s front)) (replies_text (events_of (state_after s front) (cut ∷ others))) in
-    let next = length-append (reply_text (step (state_after s front) cut).1) (replies_text (events_of (step (state_after s front) cut).0 others)) in
+    let next = length-append (reply_text (step_heard (state_after s front) cut).1) (replies_text (events_of (step_heard (state_after s front) cut).0 others)) in
     omega (arith, text, here, next)
 
 -- what a failed sink was sure of is less than the text of all replies
-unsure_left : (left right : Option (List ℕ)) (s t : Supply) (k m : Effects) → s.left ≡ left → t.left ≡ right → (fault : IsWriteFault s t k m) → Consumes left right fault.bytes → IfSome left (λ bytes. length (replies_text (events_of opening (whole_commands bytes))) ≤ k.sink.sure → ⊥)
+unsure_left : (left right : Option (List ℕ)) (s t : Supply) (k m : Effects) → s.left ≡ left → t.left ≡ right → (fault : IsWriteFault s t k m) → Consumes left right fault.bytes → IfSome left (λ bytes. length (replies_text (events_of (opened k.rows) (whole_commands bytes))) ≤ k.sink.sure → ⊥)
 unsure_left None right s t k m from to fault consumed = tt
 unsure_left (Some all) None s t k m from to fault consumed = absurd consumed
 unsure_left (Some all) (Some more) s t k m from to fault consumed = λ sure.
     let due = due_first t fault.bytes more (fault.front ++ fault.cut ∷ fault.others) to fault.due in
     let commands : whole_commands all ≡ fault.front ++ (fault.cut ∷ (fault.others ++ due.0)) = ap (λ (l : List ℕ). whole_commands l) consumed ∙ due.1 ∙ append_assoc fault.front (fault.cut ∷ fault.others) due.0 in
-    let long = ap (λ (l : List Command). length (replies_text (events_of opening l))) commands in
-    omega (arith, sure, fault.broke.unsure, long, replies-length opening fault.front (fault.others ++ due.0) fault.cut)
+    let long = ap (λ (l : List Command). length (replies_text (events_of (opened k.rows) l))) commands in
+    omega (arith, sure, fault.broke.unsure, long, replies-length (opened k.rows) fault.front (fault.others ++ due.0) fault.cut)
 
 pub if_some : (o : Option (List ℕ)) (P Q : List ℕ → Type 0) → ((x : List ℕ) → P x → Q x) → IfSome o P → IfSome o Q
 if_some None P Q weaker p = tt
@@ -51,7 +50,7 @@ always None Q q = tt
 always (Some x) Q q = q x
 
 -- a run over a sink that was sure of all replies doesn't end with its fault
-pub Ends-sure : (s t : Supply) (k m : Effects) (end : RunEnd) → Ends s t k m end → IfSome s.left (λ bytes. length (replies_text (events_of opening (whole_commands bytes))) ≤ k.sink.sure → end ≢ WriteFault)
+pub Ends-sure : (s t : Supply) (k m : Effects) (end : RunEnd) → Ends s t k m end → IfSome s.left (λ bytes. length (replies_text (events_of (opened k.rows) (whole_commands bytes))) ≤ k.sink.sure → end ≢ WriteFault)
 Ends-sure s t k m WriteFault fault = if_some s.left _ _ (λ bytes unsure sure is. unsure sure) (unsure_left s.left t.left s t k m refl refl fault fault.gave.consumed)
 Ends-sure s t k m (Done refused) ends = always s.left _ (λ bytes sure is. absurd (cc))
 Ends-sure s t k m BadWords ends = always s.left _ (λ bytes sure is. absurd (cc))

@@ -185,12 +185,12 @@ module _ (stock : Stock) (beside : AreBeside stock.ads stock.slots) (place : ℕ
   listed_in : (own : List ℕ) → list_all (lists stock.slots) own ≡ true → is_listed advert.name (map (name_in stock) own) ≡ lists own slot
   listed_in own held = listed-named stock.ads stock.slots beside place advert slot at slot_at own held
 
-  offer_seen : (standing : Standing) → list_all (lists stock.slots) (slots_of standing) ≡ true → is_listed advert.name (offer_names (named_standing stock standing)) ≡ lists (offer_of standing) slot
+  pub offer_seen : (standing : Standing) → list_all (lists stock.slots) (slots_of standing) ≡ true → is_listed advert.name (offer_names (named_standing stock standing)) ≡ lists (offer_of standing) slot
   offer_seen Standing.Idle held = refl
   offer_seen (Standing.Matched own) held = listed_in own held
   offer_seen (Standing.Claimed own) held = refl
 
-  claim_seen : (standing : Standing) → list_all (lists stock.slots) (slots_of standing) ≡ true → is_listed advert.name (claim_names (named_standing stock standing)) ≡ lists (claim_of standing) slot
+  pub claim_seen : (standing : Standing) → list_all (lists stock.slots) (slots_of standing) ≡ true → is_listed advert.name (claim_names (named_standing stock standing)) ≡ lists (claim_of standing) slot
   claim_seen Standing.Idle held = refl
   claim_seen (Standing.Matched own) held = refl
   claim_seen (Standing.Claimed own) held = listed_in own held

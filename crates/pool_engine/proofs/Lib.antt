@@ -10,13 +10,16 @@ mod FailingLemmas
 mod FoundLemmas
 mod GangLemmas
 mod GrantedLemmas
+mod HeardLemmas
 mod HitLemmas
 mod IndexLemmas
 mod JobLemmas
+mod LossLemmas
 mod LosersLemmas
 mod MarketLemmas
 mod MatchedLemmas
 mod NameLemmas
+mod PostingLemmas
 mod OneJobLemmas
 mod PoolLemmas
 mod PortLemmas

@@ -12,9 +12,9 @@ use Rattle.pool_engine.specs.declared.run.RunEnd.TheVariants.{Done, BadWords, Re
 use Rattle.pool_engine.specs.Ends.{AreDue, Effects, Ends, Gave, IsDone, IsReadFault, IsTooLong, Lost, before_last, end_of}
 use Rattle.pool_engine.specs.Limits.{input_limit}
 use Rattle.pool_engine.specs.Session.{Stopped, Took}
-use Rattle.pool_engine.specs.State.{State, opening}
-use Rattle.pool_engine.proofs.EventLemmas.{refusals-le}
-use Rattle.pool_engine.proofs.TookLemmas.{Costs-none, Took-append, broke_behind, cost_to, wrote_behind}
+use Rattle.pool_engine.specs.Heard.{Heard, opened}
+use Rattle.pool_engine.proofs.EventLemmas.{Posted-none, refusals-le}
+use Rattle.pool_engine.proofs.TookLemmas.{Costs-none, Took-append, broke_behind, cost_to, posted_either, posted_to, wrote_behind}
 use Rattle.pool_engine.proofs.WroteLemmas.{Wrote-nil}
 
 -- ---- what reads gave
@@ -39,7 +39,7 @@ Lost-read s t u bytes buf e gave read = record {
 -- ---- what was read so far
 
 -- the bytes that were read, for which the script stands, and the commands that have ended in them, which ran
-pub record Reading (s t : Supply) (k m : Effects) (script : Kept) (pool : State) (refused left : ℕ) : Type 0 where
+pub record Reading (s t : Supply) (k m : Effects) (script : Kept) (pool : Heard) (refused left : ℕ) : Type 0 where
   pub bytes : List ℕ
   pub count : length bytes + left ≡ input_limit
   pub gave : Gave s t bytes
@@ -47,9 +47,9 @@ pub record Reading (s t : Supply) (k m : Effects) (script : Kept) (pool : State)
   pub stands : Stands script bytes taken
   pub over : script.over ≡ false
   pub waiting : script.waiting ≡ []
-  pub took : Took opening pool k m (ended_commands bytes) 0 refused
+  pub took : Took (opened k.rows) pool k m (ended_commands bytes) 0 refused
 
-pub Reading-start : (s : Supply) (k : Effects) (script : Kept) (pool : State) (refused : ℕ) → Stands script [] 0 → script.over ≡ false → script.waiting ≡ [] → pool ≡ opening → refused ≡ 0 → Reading s s k k script pool refused input_limit
+pub Reading-start : (s : Supply) (k : Effects) (script : Kept) (pool : Heard) (refused : ℕ) → Stands script [] 0 → script.over ≡ false → script.waiting ≡ [] → pool ≡ (opened k.rows) → refused ≡ 0 → Reading s s k k script pool refused input_limit
 Reading-start s k script pool refused stands over waiting at none = record {
   bytes = [];
   count = omega arith;
@@ -58,7 +58,7 @@ Reading-start s k script pool refused stands over waiting at none = record {
   stands = stands;
   over = over;
   waiting = waiting;
-  took = record { state = at; wrote = Wrote-nil k.sink; counted = none; cost = Costs-none k [] };
+  took = record { state = at; wrote = Wrote-nil k.sink; counted = none; cost = Costs-none k []; posted = Posted-none (opened k.rows) k.rows };
 }
 
 -- the commands of a further piece, and those of the end
@@ -70,18 +70,18 @@ whole_more script bytes n stands over =
     ap (λ (b : List ℕ). whole_commands b) (sym (append-nil bytes)) ∙ (stands.resumes over).whole [] ∙ ap (λ (b : List ℕ). ended_commands bytes ++ whole_commands b) (append-nil script.rest)
 
 -- the refusals are fewer than 64 bits count
-pub Reading-room : (s t : Supply) (k m : Effects) (script : Kept) (pool : State) (refused left : ℕ) (piece : List ℕ) → Reading s t k m script pool refused left → length piece ≤ left → refused + length (ended_commands (script.rest ++ piece)) < 2 ^ 64
+pub Reading-room : (s t : Supply) (k m : Effects) (script : Kept) (pool : Heard) (refused left : ℕ) (piece : List ℕ) → Reading s t k m script pool refused left → length piece ≤ left → refused + length (ended_commands (script.rest ++ piece)) < 2 ^ 64
 Reading-room s t k m script pool refused left piece r fits =
     let more = ap length (ended_more script r.bytes piece r.taken r.stands r.over) in
-    omega (arith, r.took.counted, r.count, refusals-le opening (ended_commands r.bytes), commands_of-length false (r.bytes ++ piece), length-append r.bytes piece, more, length-append (ended_commands r.bytes) (ended_commands (script.rest ++ piece)))
+    omega (arith, r.took.counted, r.count, refusals-le (opened k.rows) (ended_commands r.bytes), commands_of-length false (r.bytes ++ piece), length-append r.bytes piece, more, length-append (ended_commands r.bytes) (ended_commands (script.rest ++ piece)))
 
-pub Reading-room_last : (s t : Supply) (k m : Effects) (script : Kept) (pool : State) (refused left : ℕ) → Reading s t k m script pool refused left → refused + length (whole_commands script.rest) < 2 ^ 64
+pub Reading-room_last : (s t : Supply) (k m : Effects) (script : Kept) (pool : Heard) (refused left : ℕ) → Reading s t k m script pool refused left → refused + length (whole_commands script.rest) < 2 ^ 64
 Reading-room_last s t k m script pool refused left r =
     let more = ap length (whole_more script r.bytes r.taken r.stands r.over) in
-    omega (arith, r.took.counted, r.count, refusals-le opening (ended_commands r.bytes), commands_of-length true r.bytes, more, length-append (ended_commands r.bytes) (whole_commands script.rest))
+    omega (arith, r.took.counted, r.count, refusals-le (opened k.rows) (ended_commands r.bytes), commands_of-length true r.bytes, more, length-append (ended_commands r.bytes) (whole_commands script.rest))
 
 -- a further piece is read, and its commands run
-pub Reading-piece : {E : Type 0} (s t u : Supply) (k m n : Effects) (script next : Kept) (pool behind : State) (buf : List ℕ) (refused more left count : ℕ) → Reading s t k m script pool refused left → Reads {E = E} t u (Ok count) buf → length (take count buf) ≡ count → count ≤ left → Took pool behind m n (ended_commands (script.rest ++ take count buf)) refused more → next.waiting ≡ [] → next.over ≡ false → ((bytes : List ℕ) (i : ℕ) → Stands script bytes i → (j : ℕ) × Stands next (bytes ++ take count buf) j) → Reading s u k n next behind more (left - count)
+pub Reading-piece : {E : Type 0} (s t u : Supply) (k m n : Effects) (script next : Kept) (pool behind : Heard) (buf : List ℕ) (refused more left count : ℕ) → Reading s t k m script pool refused left → Reads {E = E} t u (Ok count) buf → length (take count buf) ≡ count → count ≤ left → Took pool behind m n (ended_commands (script.rest ++ take count buf)) refused more → next.waiting ≡ [] → next.over ≡ false → ((bytes : List ℕ) (i : ℕ) → Stands script bytes i → (j : ℕ) × Stands next (bytes ++ take count buf) j) → Reading s u k n next behind more (left - count)
 Reading-piece s t u k m n script next pool behind buf refused more left count r read all fits took waiting over stands =
     let piece : List ℕ = take count buf in
     let after = stands r.bytes r.taken r.stands in
@@ -93,7 +93,7 @@ Reading-piece s t u k m n script next pool behind buf refused more left count r 
       stands = after.1;
       over = over;
       waiting = waiting;
-      took = subst (λ (l : List Command). Took opening behind k n l 0 more) (sym (ended_more script r.bytes piece r.taken r.stands r.over)) (Took-append opening pool behind k m n (ended_commands r.bytes) (ended_commands (script.rest ++ piece)) 0 refused more r.took took);
+      took = subst (λ (l : List Command). Took (opened k.rows) behind k n l 0 more) (sym (ended_more script r.bytes piece r.taken r.stands r.over)) (Took-append (opened k.rows) pool behind k m n (ended_commands r.bytes) (ended_commands (script.rest ++ piece)) 0 refused more r.took took);
     }
 
 -- ---- the ends of a run
@@ -106,7 +106,7 @@ pub before_end : (u : Supply) (bytes : List ℕ) → u.latest ≡ 0 → before_l
 before_end u bytes is = take_all (length bytes - u.latest) bytes (omega (arith, is))
 
 -- running stopped at commands that were due: those before the last read ran
-stopped_ends : (s t : Supply) (k m n : Effects) (pool : State) (bytes : List ℕ) (a b : List Command) (refused : ℕ) (end : RunEnd) → length bytes ≤ input_limit → Gave s t bytes → AreDue t bytes (a ++ b) → length (ended_commands (before_last t bytes)) ≤ length a → Took opening pool k m a 0 refused → Stopped pool m n b end → Ends s t k n end
+stopped_ends : (s t : Supply) (k m n : Effects) (pool : Heard) (bytes : List ℕ) (a b : List Command) (refused : ℕ) (end : RunEnd) → length bytes ≤ input_limit → Gave s t bytes → AreDue t bytes (a ++ b) → length (ended_commands (before_last t bytes)) ≤ length a → Took (opened k.rows) pool k m a 0 refused → Stopped pool m n b end → Ends s t k n end
 stopped_ends s t k m n pool bytes a b refused WriteFault within gave due in_time took stopped =
     let split : a ++ b ≡ (a ++ stopped.front) ++ (stopped.cut ∷ stopped.others) = ap (λ (l : List Command). a ++ l) stopped.split ∙ sym (append_assoc a stopped.front (stopped.cut ∷ stopped.others)) in
     record {
@@ -118,8 +118,9 @@ stopped_ends s t k m n pool bytes a b refused WriteFault within gave due in_time
       others = stopped.others;
       due = subst (λ (l : List Command). AreDue t bytes l) split due;
       in_time = omega (arith, in_time, length-append a stopped.front);
-      broke = broke_behind opening pool k.sink m.sink n.sink a stopped.front stopped.cut took.state took.wrote stopped.broke;
-      cost = cost_to opening pool k m n a stopped.front (stopped.cut ∷ []) took.state took.cost stopped.cost;
+      broke = broke_behind (opened k.rows) pool k.sink m.sink n.sink a stopped.front stopped.cut took.state took.wrote stopped.broke;
+      cost = cost_to (opened k.rows) pool k m n a stopped.front (stopped.cut ∷ []) took.state took.cost stopped.cost;
+      posted = posted_to (opened k.rows) pool k.rows m.rows n.rows a stopped.front (stopped.cut ∷ []) took.state took.posted stopped.posted;
     }
 stopped_ends s t k m n pool bytes a b refused OutOfMemory within gave due in_time took stopped =
     let split : a ++ b ≡ (a ++ stopped.front) ++ stopped.others = ap (λ (l : List Command). a ++ l) stopped.split ∙ sym (append_assoc a stopped.front stopped.others) in
@@ -131,8 +132,9 @@ stopped_ends s t k m n pool bytes a b refused OutOfMemory within gave due in_tim
       others = stopped.others;
       due = subst (λ (l : List Command). AreDue t bytes l) split due;
       in_time = omega (arith, in_time, length-append a stopped.front);
-      wrote = wrote_behind opening pool k.sink m.sink n.sink a stopped.front took.state took.wrote stopped.wrote;
-      cost = cost_to opening pool k m n a stopped.front (take 1 stopped.others) took.state took.cost stopped.cost;
+      wrote = wrote_behind (opened k.rows) pool k.sink m.sink n.sink a stopped.front took.state took.wrote stopped.wrote;
+      cost = cost_to (opened k.rows) pool k m n a stopped.front (take 1 stopped.others) took.state took.cost stopped.cost;
+      posted = posted_either (opened k.rows) pool k.rows m.rows n.rows a stopped.front (take 1 stopped.others) took.state took.posted stopped.posted;
     }
 stopped_ends s t k m n pool bytes a b refused (Done count) within gave due in_time took stopped = absurd stopped
 stopped_ends s t k m n pool bytes a b refused BadWords within gave due in_time took stopped = absurd stopped
@@ -140,7 +142,7 @@ stopped_ends s t k m n pool bytes a b refused ReadFault within gave due in_time 
 stopped_ends s t k m n pool bytes a b refused TooLong within gave due in_time took stopped = absurd stopped
 
 -- running stopped at a command of a further piece
-pub Reading-stopped : {E : Type 0} (s t u : Supply) (k m n : Effects) (script : Kept) (pool : State) (buf : List ℕ) (refused left count : ℕ) (end : RunEnd) → Reading s t k m script pool refused left → Reads {E = E} t u (Ok count) buf → length (take count buf) ≡ count → count ≤ left → Stopped pool m n (ended_commands (script.rest ++ take count buf)) end → Ends s u k n end
+pub Reading-stopped : {E : Type 0} (s t u : Supply) (k m n : Effects) (script : Kept) (pool : Heard) (buf : List ℕ) (refused left count : ℕ) (end : RunEnd) → Reading s t k m script pool refused left → Reads {E = E} t u (Ok count) buf → length (take count buf) ≡ count → count ≤ left → Stopped pool m n (ended_commands (script.rest ++ take count buf)) end → Ends s u k n end
 Reading-stopped s t u k m n script pool buf refused left count end r read all fits stopped =
     let piece : List ℕ = take count buf in
     let before = ap (λ (b : List ℕ). length (ended_commands b)) (before_piece u r.bytes piece (read.latest ∙ sym all)) in
@@ -155,7 +157,7 @@ pub gave_end : {E : Type 0} (s t u : Supply) (bytes buf : List ℕ) → Gave s t
 gave_end s t u bytes buf gave read = subst (λ (l : List ℕ). Gave s u l) (append-nil bytes) (Gave-read s t u bytes buf 0 gave read)
 
 -- running stopped at a command that the end of the input gave
-Reading-stopped_last : {E : Type 0} (s t u : Supply) (k m n : Effects) (script : Kept) (pool : State) (buf : List ℕ) (refused left : ℕ) (end : RunEnd) → Reading s t k m script pool refused left → Reads {E = E} t u (Ok 0) buf → 0 < length buf → Stopped pool m n (whole_commands script.rest) end → Ends s u k n end
+Reading-stopped_last : {E : Type 0} (s t u : Supply) (k m n : Effects) (script : Kept) (pool : Heard) (buf : List ℕ) (refused left : ℕ) (end : RunEnd) → Reading s t k m script pool refused left → Reads {E = E} t u (Ok 0) buf → 0 < length buf → Stopped pool m n (whole_commands script.rest) end → Ends s u k n end
 Reading-stopped_last s t u k m n script pool buf refused left end r read room stopped =
     let before = ap (λ (b : List ℕ). length (ended_commands b)) (before_end u r.bytes read.latest) in
     stopped_ends s u k m n pool r.bytes (ended_commands r.bytes) (whole_commands script.rest) refused end
@@ -165,10 +167,10 @@ Reading-stopped_last s t u k m n script pool buf refused left end r read room st
     (omega (arith, before)) r.took stopped
 
 -- the end of the input was read, and all commands ran
-Reading-done : {E : Type 0} (s t u : Supply) (k m n : Effects) (script : Kept) (pool behind : State) (buf : List ℕ) (refused left all : ℕ) → Reading s t k m script pool refused left → Reads {E = E} t u (Ok 0) buf → 0 < length buf → Took pool behind m n (whole_commands script.rest) refused all → IsDone s u k n all
+Reading-done : {E : Type 0} (s t u : Supply) (k m n : Effects) (script : Kept) (pool behind : Heard) (buf : List ℕ) (refused left all : ℕ) → Reading s t k m script pool refused left → Reads {E = E} t u (Ok 0) buf → 0 < length buf → Took pool behind m n (whole_commands script.rest) refused all → IsDone s u k n all
 Reading-done s t u k m n script pool behind buf refused left all r read room took =
-    let both = Took-append opening pool behind k m n (ended_commands r.bytes) (whole_commands script.rest) 0 refused all r.took took in
-    let whole : Took opening behind k n (whole_commands r.bytes) 0 all = subst (λ (l : List Command). Took opening behind k n l 0 all) (sym (whole_more script r.bytes r.taken r.stands r.over)) both in
+    let both = Took-append (opened k.rows) pool behind k m n (ended_commands r.bytes) (whole_commands script.rest) 0 refused all r.took took in
+    let whole : Took (opened k.rows) behind k n (whole_commands r.bytes) 0 all = subst (λ (l : List Command). Took (opened k.rows) behind k n l 0 all) (sym (whole_more script r.bytes r.taken r.stands r.over)) both in
     record {
       bytes = r.bytes;
       within = omega (arith, r.count);
@@ -177,26 +179,28 @@ Reading-done s t u k m n script pool behind buf refused left all r read room too
       wrote = whole.wrote;
       counted = omega (arith, whole.counted);
       cost = whole.cost;
+      posted = whole.posted;
     }
 
 -- the end of the input was read, and the session finished or stopped
-pub Reading-finish : {E : Type 0} (s t u : Supply) (k m n : Effects) (script : Kept) (pool : State) (buf : List ℕ) (refused left count : ℕ) (result : Result ℕ RunEnd) → Reading s t k m script pool refused left → Reads {E = E} t u (Ok count) buf → count ≡ 0 → 0 < length buf → IfOk result (λ all. (behind : State) × Took pool behind m n (whole_commands script.rest) refused all) → IfErr result (Stopped pool m n (whole_commands script.rest)) → Ends s u k n (end_of result)
+pub Reading-finish : {E : Type 0} (s t u : Supply) (k m n : Effects) (script : Kept) (pool : Heard) (buf : List ℕ) (refused left count : ℕ) (result : Result ℕ RunEnd) → Reading s t k m script pool refused left → Reads {E = E} t u (Ok count) buf → count ≡ 0 → 0 < length buf → IfOk result (λ all. (behind : Heard) × Took pool behind m n (whole_commands script.rest) refused all) → IfErr result (Stopped pool m n (whole_commands script.rest)) → Ends s u k n (end_of result)
 Reading-finish s t u k m n script pool buf refused left zero (Ok all) r read none room took stopped = Reading-done s t u k m n script pool took.0 buf refused left all r read room took.1
 Reading-finish s t u k m n script pool buf refused left zero (Err end) r read none room took stopped = Reading-stopped_last s t u k m n script pool buf refused left end r read room stopped
 Reading-finish s t u k m n script pool buf refused left (suc count) result r read none room took stopped = absurd (omega arith)
 
 -- the source failed
-pub Reading-lost : {E : Type 0} (s t u : Supply) (k m : Effects) (script : Kept) (pool : State) (buf : List ℕ) (refused left : ℕ) (e : E) → Reading s t k m script pool refused left → Reads {E = E} t u (Err e) buf → IsReadFault s u k m
+pub Reading-lost : {E : Type 0} (s t u : Supply) (k m : Effects) (script : Kept) (pool : Heard) (buf : List ℕ) (refused left : ℕ) (e : E) → Reading s t k m script pool refused left → Reads {E = E} t u (Err e) buf → IsReadFault s u k m
 Reading-lost s t u k m script pool buf refused left e r read = record {
   bytes = r.bytes;
   within = omega (arith, r.count);
   lost = Lost-read s t u r.bytes buf e r.gave read;
   wrote = r.took.wrote;
   cost = r.took.cost;
+  posted = r.took.posted;
 }
 
 -- a byte past the limit was read
-pub Reading-past : {E : Type 0} (s t u : Supply) (k m : Effects) (script : Kept) (pool : State) (buf : List ℕ) (refused left count x : ℕ) → Reading s t k m script pool refused left → left ≡ 0 → Reads {E = E} t u (Ok count) buf → take count buf ≡ x ∷ [] → IsTooLong s u k m
+pub Reading-past : {E : Type 0} (s t u : Supply) (k m : Effects) (script : Kept) (pool : Heard) (buf : List ℕ) (refused left count x : ℕ) → Reading s t k m script pool refused left → left ≡ 0 → Reads {E = E} t u (Ok count) buf → take count buf ≡ x ∷ [] → IsTooLong s u k m
 Reading-past s t u k m script pool buf refused left count x r none read one = record {
   bytes = r.bytes;
   last = x;
@@ -204,6 +208,7 @@ Reading-past s t u k m script pool buf refused left count x r none read one = re
   gave = subst (λ (l : List ℕ). Gave s u (r.bytes ++ l)) one (Gave-read s t u r.bytes buf count r.gave read);
   wrote = r.took.wrote;
   cost = r.took.cost;
+  posted = r.took.posted;
 }
 
 -- a front of one byte

@@ -5,23 +5,23 @@ use Rattle.pool_script.specs.declared.command.Command.{Command}
 use Rattle.pool_engine.specs.declared.run.RunEnd.{RunEnd}
 use Rattle.pool_engine.specs.Ends.{Effects}
 use Rattle.pool_engine.specs.Session.{Stopped, Took}
-use Rattle.pool_engine.specs.State.{State}
+use Rattle.pool_engine.specs.Heard.{Heard}
 use Rattle.pool_engine.proofs.TookLemmas.{Stopped-within, Took-append, Took-from, Took-nil}
 
 -- the first of all commands ran, and the others wait
-pub record Running (s t : State) (k m : Effects) (all waiting : List Command) (before refused : ℕ) : Type 0 where
+pub record Running (s t : Heard) (k m : Effects) (all waiting : List Command) (before refused : ℕ) : Type 0 where
   pub ran : List Command
   pub split : all ≡ ran ++ waiting
   pub took : Took s t k m ran before refused
   pub room : refused + length waiting < 2 ^ 64
 
-pub Running-start : (s : State) (k : Effects) (all : List Command) (refused : ℕ) → refused + length all < 2 ^ 64 → Running s s k k all all refused refused
+pub Running-start : (s : Heard) (k : Effects) (all : List Command) (refused : ℕ) → refused + length all < 2 ^ 64 → Running s s k k all all refused refused
 Running-start s k all refused room = record { ran = []; split = refl; took = Took-nil s k refused; room = room }
 
 split_next : (all ran waiting rest : List Command) (command : Command) → all ≡ ran ++ waiting → waiting ≡ command ∷ rest → all ≡ ran ++ ((command ∷ []) ++ rest)
 split_next all ran waiting rest command split is = split ∙ ap (λ (l : List Command). ran ++ l) is
 
-pub Running-command : (s t u : State) (k m n : Effects) (all waiting rest : List Command) (command : Command) (before refused count : ℕ) → Running s t k m all waiting before refused → waiting ≡ command ∷ rest → Took t u m n (command ∷ []) 0 count → count ≤ 1 → Running s u k n all rest before (refused + count)
+pub Running-command : (s t u : Heard) (k m n : Effects) (all waiting rest : List Command) (command : Command) (before refused count : ℕ) → Running s t k m all waiting before refused → waiting ≡ command ∷ rest → Took t u m n (command ∷ []) 0 count → count ≤ 1 → Running s u k n all rest before (refused + count)
 Running-command s t u k m n all waiting rest command before refused count running is took one = record {
   ran = running.ran ++ (command ∷ []);
   split = split_next all running.ran waiting rest command running.split is ∙ sym (append_assoc running.ran (command ∷ []) rest);
@@ -29,11 +29,11 @@ Running-command s t u k m n all waiting rest command before refused count runnin
   room = omega (arith, running.room, ap length is);
 }
 
-pub Running-stopped : (s t : State) (k m n : Effects) (all waiting rest : List Command) (command : Command) (before refused : ℕ) (end : RunEnd) → Running s t k m all waiting before refused → waiting ≡ command ∷ rest → Stopped t m n (command ∷ []) end → Stopped s k n all end
+pub Running-stopped : (s t : Heard) (k m n : Effects) (all waiting rest : List Command) (command : Command) (before refused : ℕ) (end : RunEnd) → Running s t k m all waiting before refused → waiting ≡ command ∷ rest → Stopped t m n (command ∷ []) end → Stopped s k n all end
 Running-stopped s t k m n all waiting rest command before refused end running is stopped =
     subst (λ (l : List Command). Stopped s k n l end) (sym (split_next all running.ran waiting rest command running.split is)) (Stopped-within s t k m n running.ran (command ∷ []) rest before refused end running.took stopped)
 
-pub Running-end : (s t : State) (k m : Effects) (all waiting : List Command) (before refused : ℕ) → Running s t k m all waiting before refused → waiting ≡ [] → Took s t k m all before refused
+pub Running-end : (s t : Heard) (k m : Effects) (all waiting : List Command) (before refused : ℕ) → Running s t k m all waiting before refused → waiting ≡ [] → Took s t k m all before refused
 Running-end s t k m all waiting before refused running none =
     let whole : all ≡ running.ran = running.split ∙ ap (λ (l : List Command). running.ran ++ l) none ∙ append-nil running.ran in
     subst (λ (l : List Command). Took s t k m l before refused) (sym whole) running.took

@@ -1,5 +1,5 @@
 -- No reply is empty, so a sink that took nothing took no reply.
-use Rattle.std.proofs.Common.{◌≡◌, ◌≢◌, ℕ, ◌<◌, ◌==◌, Bool, true, false, List, [], ◌∷◌, ◌++◌, codes, length, take, nat_lt, if◌then◌else◌, nat_le, ◌+◌, Option, None, Some, Result, Ok, Err, refl, ap, arith, length-append, length-take}
+use Rattle.std.proofs.Common.{◌≡◌, ◌≢◌, ℕ, ◌<◌, ◌==◌, Bool, true, false, List, [], ◌∷◌, ◌++◌, codes, length, take, nat_lt, if◌then◌else◌, nat_le, ◌+◌, Option, None, Some, Result, Ok, Err, refl, sym, ap, subst, arith, length-append, length-take}
 use Rattle.std.specs.Io.KnownBytes.{Appends}
 use Rattle.ad_tree.specs.Inline.{Inline, ad_of, phrase_of, phrase_tree}
 use Rattle.ad_tree.specs.Tree.{Tree}
@@ -37,7 +37,9 @@ use Rattle.pool_engine.specs.Ports.{has_bad_ports}
 use Rattle.pool_engine.specs.Queue.{has_job, job_refusal, job_text}
 use Rattle.claim_table.specs.Jobs.{jobs_limit, text_limit}
 use Rattle.claim_table.specs.declared.answers.JobState.{JobState}
-use Rattle.pool_engine.specs.State.{JobStanding, QueuedJob, State, claimed, idle, matched, opening}
+use Rattle.pool_engine.specs.State.{JobStanding, QueuedJob, State, claimed, idle, matched}
+use Rattle.pool_engine.specs.Heard.{Heard, is_unlisten, listens, opened, step_heard}
+use Rattle.pool_engine.proofs.HeardLemmas.{heard-other}
 use Rattle.pool_engine.specs.Claiming.{checked, claim, claim_as, first_failing, job_named, losers, release, release_as, restood, without_holders}
 use Rattle.pool_engine.specs.Step.{ad_named, advertise, clock, eval, eval_beside, eval_in, put_ad, query, refused, remove, room_of, set_priority, show, step, submit, take_job, withdraw}
 
@@ -316,8 +318,42 @@ step_told s (command.Gang block) = gang_told s s.moment s.ads s.jobs block (ad_o
 step_told s command.Negotiate = cycle_told s _
 step_told s (command.Claim job) = claim_told s job
 step_told s (command.Release job) = release_told s job
-step_told s (command.Unlisten name) = unbuilt_told s
+step_told s (command.Unlisten name) = unknown_told s
 step_told s (command.Bad number) = line_told s number
+
+unlistened_told : (h : Heard) (name : List ℕ) → 0 < length (reply_text (h, reply.Unlistened name).1)
+unfolding reply_text
+unlistened_told h name = front_some (codes "unlistened ") _ (omega arith)
+
+-- the reply of a pool that names listen to
+heard_told : (h : Heard) (c : Command) → 0 < length (reply_text (step_heard h c).1)
+heard_told h c = by c refl
+  where
+    same : is_unlisten c ≡ false → 0 < length (reply_text (step_heard h c).1)
+    same other = subst (λ (p : Heard × Reply). 0 < length (reply_text p.1)) (sym (heard-other h c other)) (step_told h.pool c)
+
+    taken : (name : List ℕ) → c ≡ command.Unlisten name → 0 < length (reply_text (step_heard h c).1)
+    unfolding step_heard
+    taken name is = subst (λ (d : Command). 0 < length (reply_text (step_heard h d).1)) (sym is) (holds_if (λ (p : Heard × Reply). 0 < length (reply_text p.1)) (listens name h.listeners) _ _ (unlistened_told _ name) (unknown_told h.pool))
+
+    by : (b : Command) → c ≡ b → 0 < length (reply_text (step_heard h c).1)
+    by (command.Unlisten name) is = taken name is
+    by (command.Clock n) is = same (ap is_unlisten is)
+    by (command.Advertise name lifetime block) is = same (ap is_unlisten is)
+    by (command.Withdraw name) is = same (ap is_unlisten is)
+    by (command.Show name) is = same (ap is_unlisten is)
+    by command.List is = same (ap is_unlisten is)
+    by (command.Eval text) is = same (ap is_unlisten is)
+    by (command.EvalIn name text) is = same (ap is_unlisten is)
+    by (command.Query block) is = same (ap is_unlisten is)
+    by (command.Submit job user block) is = same (ap is_unlisten is)
+    by (command.Remove job) is = same (ap is_unlisten is)
+    by (command.Priority user n) is = same (ap is_unlisten is)
+    by (command.Gang block) is = same (ap is_unlisten is)
+    by command.Negotiate is = same (ap is_unlisten is)
+    by (command.Claim job) is = same (ap is_unlisten is)
+    by (command.Release job) is = same (ap is_unlisten is)
+    by (command.Bad number) is = same (ap is_unlisten is)
 
 -- ---- a sink that took nothing
 
@@ -335,21 +371,21 @@ none_appended (Some xs) (Some ys) known text from to appends =
     omega (arith, ap length appends, length-append xs text, ap length (some_same xs known from), ap length (some_same ys known to))
 
 -- replies whose text is empty are none
-no_commands : (s : State) (front : List Command) → length (replies_text (events_of s front)) ≡ 0 → front ≡ []
+no_commands : (s : Heard) (front : List Command) → length (replies_text (events_of s front)) ≡ 0 → front ≡ []
 no_commands s [] none = refl
-no_commands s (c ∷ front) none = absurd (omega (arith, none, step_told s c, length-append (reply_text (step s c).1) (replies_text (events_of (step s c).0 front))))
+no_commands s (c ∷ front) none = absurd (omega (arith, none, heard_told s c, length-append (reply_text (step_heard s c).1) (replies_text (events_of (step_heard s c).0 front))))
 
 -- where a write failed and the sink took nothing, it was offered the first reply alone and whole, and no command had ended before
 -- the last read
-pub answers_first : (s t : Supply) (k m : Effects) (fault : IsWriteFault s t k m) (known : List ℕ) → k.sink.taken ≡ Some known → m.sink.taken ≡ Some known → AnswersFirst t m fault.bytes fault.front fault.cut
+pub answers_first : (s t : Supply) (k m : Effects) (fault : IsWriteFault s t k m) (known : List ℕ) → k.sink.taken ≡ Some known → m.sink.taken ≡ Some known → AnswersFirst t k m fault.bytes fault.front fault.cut
 answers_first s t k m fault known from to =
-    let before : List ℕ = replies_text (events_of opening fault.front) in
-    let cut : List ℕ = reply_text (step (state_after opening fault.front) fault.cut).1 in
+    let before : List ℕ = replies_text (events_of (opened k.rows) fault.front) in
+    let cut : List ℕ = reply_text (step_heard (state_after (opened k.rows) fault.front) fault.cut).1 in
     let piece : List ℕ = take fault.broke.count cut in
     let nothing = none_appended k.sink.taken m.sink.taken known (before ++ piece) from to fault.broke.taken in
     let both = length-append before piece in
-    let first : fault.front ≡ [] = no_commands opening fault.front (omega (arith, nothing, both)) in
-    let same = ap (λ (l : List Command). length (reply_text (step (state_after opening l) fault.cut).1)) first in
+    let first : fault.front ≡ [] = no_commands (opened k.rows) fault.front (omega (arith, nothing, both)) in
+    let same = ap (λ (l : List Command). length (reply_text (step_heard (state_after (opened k.rows) l) fault.cut).1)) first in
     record {
       first = first;
       alone = omega (arith, fault.broke.others, fault.broke.proper, nothing, both, length-take fault.broke.count cut, same);

@@ -2,15 +2,15 @@
 use Rattle.std.specs.Prelude.{◌≡◌, ◌⊎◌, ℕ, ◌+◌, ◌-◌, ◌≤◌, ◌<◌, List, [], ◌∷◌, ◌++◌, length, take, Option, None, Some, Result, Ok, Err, IsTrue, ◌==◌, if◌then◌else◌}
 use Rattle.std.specs.Io.KnownBytes.{Appends, Consumes, IsAtEnd}
 use Rattle.pool_io.specs.Flow.{Supply, Intake, Rose}
+use Rattle.notice_desk.specs.Desk.{Row}
 use Rattle.pool_script.specs.Commands.{ended_commands, whole_commands}
 use Rattle.pool_script.specs.declared.command.Command.{Command}
 use Rattle.pool_replies.specs.Replies.{reply_text}
 use Rattle.pool_engine.specs.declared.run.RunEnd.{RunEnd}
 use Rattle.pool_engine.specs.declared.run.RunEnd.TheVariants.{Done, BadWords, ReadFault, WriteFault, TooLong, OutOfMemory}
-use Rattle.pool_engine.specs.Events.{Event, allowed_of, events_of, looks_of, refusals_of, replies_text, state_after}
+use Rattle.pool_engine.specs.Events.{Event, Posted, allowed_of, events_of, looks_of, refusals_of, replies_text, state_after}
 use Rattle.pool_engine.specs.Limits.{input_limit}
-use Rattle.pool_engine.specs.State.{opening}
-use Rattle.pool_engine.specs.Step.{step}
+use Rattle.pool_engine.specs.Heard.{opened, step_heard}
 
 -- ---- what was read and written
 
@@ -42,14 +42,16 @@ pub record Broke (k m : Intake) (text last : List ℕ) : Type 0 where
   pub rose : Rose k.faults m.faults
   pub unsure : k.sure < length text + length last
 
--- what a run changes besides the source and the pool: the sink, and the counts of whole evaluations and of looks at ads
+-- what a run changes besides the source and the pool: the sink, the counts of whole evaluations and of looks at ads, and the
+-- rows of the desk
 pub record Effects : Type 0 where
   pub sink : Intake
   pub tops : ℕ
   pub touch : ℕ
+  pub rows : List Row
 
-abbrev pub effects : Intake → ℕ → ℕ → Effects
-effects sink tops touch = record { sink = sink; tops = tops; touch = touch }
+abbrev pub effects : Intake → ℕ → ℕ → List Row → Effects
+effects sink tops touch rows = record { sink = sink; tops = tops; touch = touch; rows = rows }
 
 -- no more was counted than these commands may count
 pub record Costs (k m : Effects) (events : List Event) : Type 0 where
@@ -62,23 +64,25 @@ before_last t bytes = take (length bytes - t.latest) bytes
 
 -- ---- the ends
 
--- all of the input was read and all replies were taken
+-- all of the input was read, all replies were taken, and all notices posted
 pub record IsDone (s t : Supply) (k m : Effects) (refused : ℕ) : Type 0 where
   pub bytes : List ℕ
   pub within : length bytes ≤ input_limit
   pub gave : Gave s t bytes
   pub at_end : IsAtEnd t.left
-  pub wrote : Wrote k.sink m.sink (replies_text (events_of opening (whole_commands bytes)))
-  pub counted : refused ≡ refusals_of (events_of opening (whole_commands bytes))
-  pub cost : Costs k m (events_of opening (whole_commands bytes))
+  pub wrote : Wrote k.sink m.sink (replies_text (events_of (opened k.rows) (whole_commands bytes)))
+  pub counted : refused ≡ refusals_of (events_of (opened k.rows) (whole_commands bytes))
+  pub cost : Costs k m (events_of (opened k.rows) (whole_commands bytes))
+  pub posted : Posted (opened k.rows) (whole_commands bytes) k.rows m.rows
 
 -- the source failed: the replies to the commands that had ended were taken
 pub record IsReadFault (s t : Supply) (k m : Effects) : Type 0 where
   pub bytes : List ℕ
   pub within : length bytes ≤ input_limit
   pub lost : Lost s t bytes
-  pub wrote : Wrote k.sink m.sink (replies_text (events_of opening (ended_commands bytes)))
-  pub cost : Costs k m (events_of opening (ended_commands bytes))
+  pub wrote : Wrote k.sink m.sink (replies_text (events_of (opened k.rows) (ended_commands bytes)))
+  pub cost : Costs k m (events_of (opened k.rows) (ended_commands bytes))
+  pub posted : Posted (opened k.rows) (ended_commands bytes) k.rows m.rows
 
 -- the commands to run after these bytes: those that have ended, or all of them where nothing is left to read
 abbrev pub AreDue : Supply → List ℕ → List Command → Type 0
@@ -95,13 +99,14 @@ pub record IsWriteFault (s t : Supply) (k m : Effects) : Type 0 where
   pub others : List Command
   pub due : AreDue t bytes (front ++ cut ∷ others)
   pub in_time : length (ended_commands (before_last t bytes)) ≤ length front
-  pub broke : Broke k.sink m.sink (replies_text (events_of opening front)) (reply_text (step (state_after opening front) cut).1)
-  pub cost : Costs k m (events_of opening (front ++ cut ∷ []))
+  pub broke : Broke k.sink m.sink (replies_text (events_of (opened k.rows) front)) (reply_text (step_heard (state_after (opened k.rows) front) cut).1)
+  pub cost : Costs k m (events_of (opened k.rows) (front ++ cut ∷ []))
+  pub posted : Posted (opened k.rows) (front ++ cut ∷ []) k.rows m.rows
 
 -- the first reply was offered alone and whole, and no command had ended before the last read
-pub record AnswersFirst (t : Supply) (m : Effects) (bytes : List ℕ) (front : List Command) (cut : Command) : Type 0 where
+pub record AnswersFirst (t : Supply) (k m : Effects) (bytes : List ℕ) (front : List Command) (cut : Command) : Type 0 where
   pub first : front ≡ []
-  pub alone : m.sink.offered ≡ length (reply_text (step opening cut).1)
+  pub alone : m.sink.offered ≡ length (reply_text (step_heard (opened k.rows) cut).1)
   pub in_time : ended_commands (before_last t bytes) ≡ []
 
 -- one byte past the limit was read: the replies to the commands that had ended before it were taken
@@ -110,8 +115,9 @@ pub record IsTooLong (s t : Supply) (k m : Effects) : Type 0 where
   pub last : ℕ
   pub full : length bytes ≡ input_limit
   pub gave : Gave s t (bytes ++ last ∷ [])
-  pub wrote : Wrote k.sink m.sink (replies_text (events_of opening (ended_commands bytes)))
-  pub cost : Costs k m (events_of opening (ended_commands bytes))
+  pub wrote : Wrote k.sink m.sink (replies_text (events_of (opened k.rows) (ended_commands bytes)))
+  pub cost : Costs k m (events_of (opened k.rows) (ended_commands bytes))
+  pub posted : Posted (opened k.rows) (ended_commands bytes) k.rows m.rows
 
 -- memory was wanting: the replies to the first of the commands that were due were taken, each whole, and no fewer than had
 -- ended before the last read; at most the next command may have made evaluations besides
@@ -123,8 +129,9 @@ pub record IsOutOfMemory (s t : Supply) (k m : Effects) : Type 0 where
   pub others : List Command
   pub due : AreDue t bytes (front ++ others)
   pub in_time : length (ended_commands (before_last t bytes)) ≤ length front
-  pub wrote : Wrote k.sink m.sink (replies_text (events_of opening front))
-  pub cost : Costs k m (events_of opening (front ++ take 1 others))
+  pub wrote : Wrote k.sink m.sink (replies_text (events_of (opened k.rows) front))
+  pub cost : Costs k m (events_of (opened k.rows) (front ++ take 1 others))
+  pub posted : Posted (opened k.rows) front k.rows m.rows ⊎ Posted (opened k.rows) (front ++ take 1 others) k.rows m.rows
 
 -- a run ended so, from these states of source and sink to those
 abbrev pub Ends : Supply → Supply → Effects → Effects → RunEnd → Type 0

@@ -7,11 +7,14 @@ pub mod CommandLine
 pub mod Ends
 pub mod Events
 pub mod Gangs
+pub mod Heard
 pub mod Indexed
 pub mod Limits
 pub mod Negotiation
+pub mod Notices
 pub mod Pool
 pub mod Ports
+pub mod Posting
 pub mod Queue
 pub mod Rows
 pub mod Session

@@ -174,7 +174,7 @@ set_priority s user n =
 
 -- ---- one step
 
--- the state behind a command, and the reply to it
+-- the state behind a command, and the reply to it; nobody listens to a pool that stands alone
 unfoldable pub step : State → Command → State × Reply
 step s (command.Clock n) = clock s n
 step s (command.Advertise name lifetime block) = advertise s name lifetime (length block) (ad_outcome block)
@@ -191,6 +191,7 @@ step s (command.Gang block) = (s, gang s.moment s.ads s.jobs (ad_outcome block))
 step s command.Negotiate = negotiate s
 step s (command.Claim job) = claim s job
 step s (command.Release job) = release s job
+step s (command.Unlisten name) = refused s why.UnknownName
 step s (command.Bad number) = refused s (why.Line number)
 step s other = refused s why.NotBuilt
 

@@ -80,7 +80,7 @@ fn stale(store: &Store, slot: usize) -> Result<Reply, OutOfMemory>
 }
 
 // The names of the resources of the job of a name.
-fn names_given(alloc: Global, books: &Books, job: &[u8]) -> Result<Names, OutOfMemory>
+pub(crate) fn names_given(alloc: Global, books: &Books, job: &[u8]) -> Result<Names, OutOfMemory>
     ensures { IfOk result (λ names. names ≡ answers.names_given job.now (queue_of books.now)) }
 {
     let store = &books.ads.store;

@@ -8,5 +8,5 @@ ghost use Rattle.pool_engine.specs.Ends.{AnswersFirst, Effects, IsWriteFault};
 pub fn the_first_reply_is_offered_at_once()
     ensures { (s t : Supply) (k m : Effects) (fault : IsWriteFault s t k m) (known : List ℕ)
         → k.sink.taken ≡ Some known → m.sink.taken ≡ Some known
-        → AnswersFirst t m fault.bytes fault.front fault.cut }
+        → AnswersFirst t k m fault.bytes fault.front fault.cut }
 {}

@@ -1,11 +1,17 @@
 // The pool and its steps.
 ghost use Rattle.std.specs.Prelude.{◌≡◌, ◌+◌, ◌≤◌, true, false, IfOk, IsErr, IsTrue, OnErr, OnOk};
+ghost use Rattle.std.specs.List.{AllZip};
+ghost use Rattle.notice_desk.specs.Desk.{without};
 ghost use Rattle.pool_script.specs.Form.{is_within_form};
 ghost use Rattle.pool_replies.specs.Refusals.{is_fault_of_text};
 ghost use Rattle.pool_replies.specs.Replies.{is_printable};
 ghost use Rattle.pool_engine.specs.Apart.{AreGivenApart};
 ghost use Rattle.pool_engine.specs.Changes.{changes_nothing, keeps_ads};
-ghost use Rattle.pool_engine.specs.State.{opening};
+ghost use Rattle.pool_engine.specs.Heard as rules;
+ghost use Rattle.pool_engine.specs.Heard.{heard, kept_by, step_heard};
+ghost use Rattle.pool_engine.specs.Notices.{notices};
+ghost use Rattle.pool_engine.specs.Posting.{RowAfter, posts_of_all};
+ghost use Rattle.pool_engine.specs.State.{State, opening};
 ghost use Rattle.pool_engine.specs.Step as steps;
 
 use crate::ads::{advertise, rows, show, withdraw};
@@ -14,14 +20,17 @@ use crate::claiming::{claim, release};
 use crate::eval::{eval, eval_in};
 use crate::gangs::gang;
 use crate::jobs::{remove, set_priority, submit};
+use crate::losses::{granted, stale};
 use crate::negotiation::negotiate;
+use crate::notices::tell;
 use crate::query::query;
 use ad_parser::ParseFault;
 use negotiator::Priorities;
+use notice_desk::Notices;
 use pool_replies::{Refusal, Reply};
 use pool_script::Command;
 use pool_steps::Steps;
-use pool_text::OutOfMemory;
+use pool_text::{OutOfMemory, Text};
 use std::alloc::Global;
 use std::sync::ledger::Ledger;
 
@@ -53,19 +62,27 @@ impl Pool {
         }
     }
 
-    /// Runs a command. It counts in `tops` the whole evaluations, one at most for `eval` and `evalin`, and for any other command
+    /// Runs a command and posts its notices to a desk, whose names listen; `unlisten` takes one of them off. A box that fails is
+    /// dropped before the next post, and changes neither the reply nor the state. Where memory is wanting nothing is posted.
+    ///
+    /// It counts in `tops` the whole evaluations, one at most for `eval` and `evalin`, and for any other command
     /// five at most for each dock that it meets and that literal attributes leave undecided, in `entry` the attributes that they enter, and in `touch` the ads of the store that are looked into.
     #[tactic(auto, unfolding(crate::specs::Pool::state_of, crate::specs::Pool::is_spent))]
-    pub fn step<F: Ledger, E: Ledger, T: Ledger>(
+    pub fn step<D: Notices, F: Ledger, E: Ledger, T: Ledger>(
         &mut self,
         command: &Command,
+        desk: &mut D,
         tops: &mut Steps<F>,
         entry: &mut Steps<E>,
         touch: &mut Steps<T>,
     ) -> Result<Reply, OutOfMemory>
         requires { IsTrue (is_within_form command.now) }
-        ensures step { IfOk result (λ reply. steps.step (state_of self.old) command.now ≡ (state_of self.new, reply)) }
+        ensures step { IfOk result (λ reply. step_heard (heard (state_of self.old) (D.shows desk.old)) command.now
+            ≡ (heard (state_of self.new) (D.shows desk.new), reply)) }
         ensures printable { IfOk result (λ reply. IsTrue (is_printable reply)) }
+        ensures posted { OnOk result (AllZip (RowAfter (posts_of_all (notices (state_of self.old) command.now)))
+            (kept_by command.now (D.shows desk.old)) (D.shows desk.new)) }
+        ensures unposted { OnErr result (D.shows desk.new ≡ D.shows desk.old) }
         ensures fresh { OnOk result (is_spent self.new ≡ false) }
         ensures memory { OnErr result (is_spent self.new ≡ true) }
         ensures cost { tops.new ≤ tops.old + steps.allowance (state_of self.old) command.now }
@@ -75,13 +92,65 @@ impl Pool {
         if self.spent {
             return Err(OutOfMemory);
         }
-        let answered = self.answer(command, tops, entry, touch);
+        let answered = self.answer_heard(command, desk, tops, entry, touch);
         self.spent = answered.is_err();
         answered
     }
 
-    /// Law: each resource is offered to one job at most and claimed by one at most, and each resource of a job is an ad that is
-    /// held. It is so after any list of commands, since it is so of every pool.
+    fn answer_heard<D: Notices, F: Ledger, E: Ledger, T: Ledger>(
+        &mut self,
+        command: &Command,
+        desk: &mut D,
+        tops: &mut Steps<F>,
+        entry: &mut Steps<E>,
+        touch: &mut Steps<T>,
+    ) -> Result<Reply, OutOfMemory>
+        requires { IsTrue (is_within_form command.now) }
+        ensures step { IfOk result (λ reply. step_heard (heard (state_of self.old) (D.shows desk.old)) command.now
+            ≡ (heard (state_of self.new) (D.shows desk.new), reply)) }
+        ensures printable { IfOk result (λ reply. IsTrue (is_printable reply)) }
+        ensures posted { OnOk result (AllZip (RowAfter (posts_of_all (notices (state_of self.old) command.now)))
+            (kept_by command.now (D.shows desk.old)) (D.shows desk.new)) }
+        ensures unposted { OnErr result (D.shows desk.new ≡ D.shows desk.old) }
+        ensures cost { tops.new ≤ tops.old + steps.allowance (state_of self.old) command.now }
+        ensures looks { touch.new ≤ touch.old + steps.looks (state_of self.old) command.now }
+    {
+        match command {
+            Command::Unlisten(name) => unlisten(desk, name),
+            _ => self.answer_and_tell(command, desk, tops, entry, touch),
+        }
+    }
+
+    // Runs a command that takes no name off the desk, and posts its notices.
+    fn answer_and_tell<D: Notices, F: Ledger, E: Ledger, T: Ledger>(
+        &mut self,
+        command: &Command,
+        desk: &mut D,
+        tops: &mut Steps<F>,
+        entry: &mut Steps<E>,
+        touch: &mut Steps<T>,
+    ) -> Result<Reply, OutOfMemory>
+        requires form { IsTrue (is_within_form command.now) }
+        ensures step { IfOk result (λ reply. steps.step (state_of self.old) command.now ≡ (state_of self.new, reply)) }
+        ensures printable { IfOk result (λ reply. IsTrue (is_printable reply)) }
+        ensures posted { OnOk result (AllZip (RowAfter (posts_of_all (notices (state_of self.old) command.now)))
+            (D.shows desk.old) (D.shows desk.new)) }
+        ensures unposted { OnErr result (D.shows desk.new ≡ D.shows desk.old) }
+        ensures cost { tops.new ≤ tops.old + steps.allowance (state_of self.old) command.now }
+        ensures looks { touch.new ≤ touch.old + steps.looks (state_of self.old) command.now }
+    {
+        let granted = granted(self.alloc, &self.books, command)?;
+        let stale = stale(self.alloc, &self.books, command)?;
+        let reply = self.answer(command, tops, entry, touch)?;
+        match tell(self.alloc, &reply, granted, stale, desk) {
+            Ok(()) => Ok(reply),
+            Err(_) => {
+                drop(reply);
+                Err(OutOfMemory)
+            }
+        }
+    }
+
     #[tactic(auto, unfolding(crate::specs::Pool::state_of))]
     pub fn resources_are_apart(&self)
         ensures { AreGivenApart (state_of self.now) }
@@ -218,6 +287,7 @@ impl Pool {
                 entry,
                 touch,
             ),
+            Command::Unlisten(_) => Ok(Reply::Refused(Refusal::UnknownName)),
             Command::Bad(number) => Ok(Reply::Refused(Refusal::Line(*number))),
             _ => Ok(Reply::Refused(Refusal::NotBuilt)),
         }
@@ -235,6 +305,23 @@ impl Pool {
         let expired = self.books.expire(n, touch)?;
         self.moment = n;
         Ok(Reply::Clock { moment: n, expired })
+    }
+}
+
+/// `unlisten`: the name is taken off the desk, and its box is dropped.
+#[tactic(auto, unfolding(pool_replies::specs::Replies::is_printable, pool_replies::specs::Refusals::is_printable_refusal))]
+fn unlisten<D: Notices>(desk: &mut D, name: &Text) -> Result<Reply, OutOfMemory>
+    ensures step { IfOk result (λ reply. (pool : State) → rules.unlisten (heard pool (D.shows desk.old)) name.now
+        ≡ (heard pool (D.shows desk.new), reply)) }
+    ensures printable { IfOk result (λ reply. IsTrue (is_printable reply)) }
+    ensures kept { OnOk result (D.shows desk.new ≡ without name.now (D.shows desk.old)) }
+    ensures unposted { OnErr result (D.shows desk.new ≡ D.shows desk.old) }
+{
+    let named = name.copy()?;
+    if desk.close(name.bytes()) {
+        Ok(Reply::Unlistened(named))
+    } else {
+        Ok(Reply::Refused(Refusal::UnknownName))
     }
 }
 

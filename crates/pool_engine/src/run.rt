@@ -5,12 +5,13 @@ ghost use Rattle.pool_script.specs.Commands.{whole_commands};
 ghost use Rattle.pool_engine.specs.CommandLine.{AskedEnds, asked_by, asked_text};
 ghost use Rattle.pool_engine.specs.Ends.{Ends, IsDoneOrOutOfMemory, LeavesAtMost, effects, end_of, status_of};
 ghost use Rattle.pool_engine.specs.Events.{events_of, replies_text};
+ghost use Rattle.pool_engine.specs.Heard.{opened};
 ghost use Rattle.pool_engine.specs.Limits.{input_limit};
-ghost use Rattle.pool_engine.specs.State.{opening};
 
 use crate::command_line::{Asked, read_words};
 use crate::session::Session;
 use crate::wire::run_wire;
+use notice_desk::Notices;
 use pool_io::{Failed, Sink, Source};
 use pool_steps::Steps;
 use pool_text::{OutOfMemory, Text};
@@ -67,28 +68,30 @@ impl RunEnd {
     }
 }
 
-/// Runs what the words ask for. No word: the script that a source gives. It reads it to its end, runs each command as soon as
-/// it has ended, and offers each reply to the sink as one piece before the next read. No byte is read after the first one
-/// past the limit. It counts in `tops` the whole evaluations of the commands, and in `entry` and `touch` the attributes that
-/// they enter and the ads of the store that are looked into. `--wire R C`, with numbers from 1 to 100: the schedule that the
-/// source gives, on a wire of so many resources and customers, as `run_wire` does, and nothing is counted. Other words are
-/// wrong.
-pub fn run_pool<S: Source, K: Sink, F: Ledger, E: Ledger, T: Ledger>(
+/// Runs what the words ask for. A pool: the script that a source gives. It reads it to its end, runs each command as soon as
+/// it has ended, posts its notices to the desk, whose names listen, and offers each reply to the sink as one piece before the
+/// next read. What the boxes do changes neither replies nor the end. No byte is read after the first one past the limit. It
+/// counts in `tops` the whole evaluations of the commands, and in `entry` and `touch` the attributes that they enter and the
+/// ads of the store that are looked into. A wire: the schedule that the source gives, as `run_wire` runs it; nothing is counted
+/// or posted. Where the words are wrong nothing is read, written or posted.
+pub fn run_pool<S: Source, K: Sink, D: Notices, F: Ledger, E: Ledger, T: Ledger>(
     alloc: Global,
     words: &[Text],
     source: &mut S,
     sink: &mut K,
+    desk: &mut D,
     tops: &mut Steps<F>,
     entry: &mut Steps<E>,
     touch: &mut Steps<T>,
 ) -> RunEnd
     ensures ends { AskedEnds (asked_by words.now) (S.shows source.old) (S.shows source.new)
-        (effects (K.shows sink.old) tops.old touch.old) (effects (K.shows sink.new) tops.new touch.new) result }
+        (effects (K.shows sink.old) tops.old touch.old (D.shows desk.old)) (effects (K.shows sink.new) tops.new touch.new (D.shows desk.new)) result }
 
     // Where the words are wrong nothing was read or written.
     ensures words { (result ≡ RunEnd.BadWords) ↔ (asked_by words.now ≡ Asked.Bad) }
     ensures untouched { result ≡ RunEnd.BadWords → source.new ≡ source.old }
     ensures unwritten { result ≡ RunEnd.BadWords → sink.new ≡ sink.old }
+    ensures unposted { result ≡ RunEnd.BadWords → desk.new ≡ desk.old }
 
     // With good words, an input within the limit and no fault, all is read and answered, or memory is wanting.
     ensures complete { asked_by words.now ≢ Asked.Bad → LeavesAtMost input_limit (S.shows source.old).left
@@ -97,12 +100,12 @@ pub fn run_pool<S: Source, K: Sink, F: Ledger, E: Ledger, T: Ledger>(
         → IsDoneOrOutOfMemory result }
     ensures sure_source { IsTrue (S.shows source.old).sure → result ≢ RunEnd.ReadFault }
     ensures sure_sink { IfSome (S.shows source.old).left (λ bytes.
-        length (asked_text (asked_by words.now) bytes) ≤ (K.shows sink.old).sure
+        length (asked_text (asked_by words.now) (D.shows desk.old) bytes) ≤ (K.shows sink.old).sure
         → result ≢ RunEnd.WriteFault) }
 {
     match read_words(words) {
         Asked::Bad => RunEnd::BadWords,
-        Asked::Pool => run_script(alloc, source, sink, tops, entry, touch),
+        Asked::Pool => run_script(alloc, source, sink, desk, tops, entry, touch),
         Asked::Wire {
             resources,
             customers,
@@ -111,16 +114,17 @@ pub fn run_pool<S: Source, K: Sink, F: Ledger, E: Ledger, T: Ledger>(
 }
 
 // Runs the script that a source gives.
-fn run_script<S: Source, K: Sink, F: Ledger, E: Ledger, T: Ledger>(
+fn run_script<S: Source, K: Sink, D: Notices, F: Ledger, E: Ledger, T: Ledger>(
     alloc: Global,
     source: &mut S,
     sink: &mut K,
+    desk: &mut D,
     tops: &mut Steps<F>,
     entry: &mut Steps<E>,
     touch: &mut Steps<T>,
 ) -> RunEnd
     ensures ends { Ends (S.shows source.old) (S.shows source.new)
-        (effects (K.shows sink.old) tops.old touch.old) (effects (K.shows sink.new) tops.new touch.new) result }
+        (effects (K.shows sink.old) tops.old touch.old (D.shows desk.old)) (effects (K.shows sink.new) tops.new touch.new (D.shows desk.new)) result }
     ensures words { result ≢ RunEnd.BadWords }
     ensures complete { LeavesAtMost input_limit (S.shows source.old).left
         → ¬ Rose (S.shows source.old).faults (S.shows source.new).faults
@@ -128,26 +132,27 @@ fn run_script<S: Source, K: Sink, F: Ledger, E: Ledger, T: Ledger>(
         → IsDoneOrOutOfMemory result }
     ensures sure_source { IsTrue (S.shows source.old).sure → result ≢ RunEnd.ReadFault }
     ensures sure_sink { IfSome (S.shows source.old).left (λ bytes.
-        length (replies_text (events_of opening (whole_commands bytes))) ≤ (K.shows sink.old).sure
+        length (replies_text (events_of (opened (D.shows desk.old)) (whole_commands bytes))) ≤ (K.shows sink.old).sure
         → result ≢ RunEnd.WriteFault) }
 {
-    match run_input(alloc, source, sink, tops, entry, touch) {
+    match run_input(alloc, source, sink, desk, tops, entry, touch) {
         Ok(refused) => RunEnd::Done { refused },
         Err(end) => end,
     }
 }
 
 // The number of refusals of a run that read and answered all, or why another run ended.
-fn run_input<S: Source, K: Sink, F: Ledger, E: Ledger, T: Ledger>(
+fn run_input<S: Source, K: Sink, D: Notices, F: Ledger, E: Ledger, T: Ledger>(
     alloc: Global,
     source: &mut S,
     sink: &mut K,
+    desk: &mut D,
     tops: &mut Steps<F>,
     entry: &mut Steps<E>,
     touch: &mut Steps<T>,
 ) -> Result<u64, RunEnd>
     ensures ends { Ends (S.shows source.old) (S.shows source.new)
-        (effects (K.shows sink.old) tops.old touch.old) (effects (K.shows sink.new) tops.new touch.new) (end_of result) }
+        (effects (K.shows sink.old) tops.old touch.old (D.shows desk.old)) (effects (K.shows sink.new) tops.new touch.new (D.shows desk.new)) (end_of result) }
     ensures words { result ≢ Err RunEnd.BadWords }
 {
     let mut buffer = [0; READ_SIZE];
@@ -158,13 +163,13 @@ fn run_input<S: Source, K: Sink, F: Ledger, E: Ledger, T: Ledger>(
             return Err(RunEnd::ReadFault);
         };
         if count == 0 {
-            return session.finish(sink, tops, entry, touch);
+            return session.finish(sink, desk, tops, entry, touch);
         }
-        session.feed(&buffer[..count], sink, tops, entry, touch)?;
+        session.feed(&buffer[..count], sink, desk, tops, entry, touch)?;
         left -= count;
     }
     match read_piece(source, &mut buffer, 1) {
-        Ok(0) => session.finish(sink, tops, entry, touch),
+        Ok(0) => session.finish(sink, desk, tops, entry, touch),
         Ok(_) => Err(RunEnd::TooLong),
         Err(_) => Err(RunEnd::ReadFault),
     }

@@ -5,11 +5,13 @@ ghost use Rattle.pool_script.specs.Form.{is_within_form};
 ghost use Rattle.pool_script.specs.Standing.{Stands};
 ghost use Rattle.pool_replies.specs.Replies.{is_printable, refusal_count, reply_text};
 ghost use Rattle.pool_engine.specs.Ends.{Wrote, effects};
+ghost use Rattle.pool_engine.specs.Heard.{Heard, heard};
 ghost use Rattle.pool_engine.specs.Pool.{state_of};
 ghost use Rattle.pool_engine.specs.Session.{Lacks, Stopped, Took};
-ghost use Rattle.pool_engine.specs.State.{State, opening};
+ghost use Rattle.pool_engine.specs.State.{opening};
 
 use crate::{Pool, RunEnd};
+use notice_desk::Notices;
 use pool_io::{Sink, write_all};
 use pool_replies::{Reply, print_reply, refusals};
 use pool_script::{Command, Script};
@@ -43,10 +45,11 @@ impl Session {
     }
 
     /// Runs the commands that end in a further piece of the script.
-    pub(crate) fn feed<K: Sink, F: Ledger, E: Ledger, T: Ledger>(
+    pub(crate) fn feed<K: Sink, D: Notices, F: Ledger, E: Ledger, T: Ledger>(
         &mut self,
         piece: &[u8],
         sink: &mut K,
+        desk: &mut D,
         tops: &mut Steps<F>,
         entry: &mut Steps<E>,
         touch: &mut Steps<T>,
@@ -54,11 +57,11 @@ impl Session {
         requires over { self.old.script.over ≡ false }
         requires waiting { self.old.script.waiting ≡ [] }
         requires room { self.old.refused + length (ended_commands (self.old.script.rest ++ piece.now)) < 2 ^ 64 }
-        ensures took { OnOk result (Took (state_of self.old.pool) (state_of self.new.pool)
-            (effects (K.shows sink.old) tops.old touch.old) (effects (K.shows sink.new) tops.new touch.new)
+        ensures took { OnOk result (Took (heard (state_of self.old.pool) (D.shows desk.old)) (heard (state_of self.new.pool) (D.shows desk.new))
+            (effects (K.shows sink.old) tops.old touch.old (D.shows desk.old)) (effects (K.shows sink.new) tops.new touch.new (D.shows desk.new))
             (ended_commands (self.old.script.rest ++ piece.now)) self.old.refused self.new.refused) }
-        ensures stopped { IfErr result (Stopped (state_of self.old.pool)
-            (effects (K.shows sink.old) tops.old touch.old) (effects (K.shows sink.new) tops.new touch.new)
+        ensures stopped { IfErr result (Stopped (heard (state_of self.old.pool) (D.shows desk.old))
+            (effects (K.shows sink.old) tops.old touch.old (D.shows desk.old)) (effects (K.shows sink.new) tops.new touch.new (D.shows desk.new))
             (ended_commands (self.old.script.rest ++ piece.now))) }
         ensures waiting { OnOk result (self.new.script.waiting ≡ []) }
         ensures over { OnOk result (self.new.script.over ≡ false) }
@@ -66,13 +69,14 @@ impl Session {
             → (m : ℕ) × Stands self.new.script (bytes ++ piece.now) m) }
     {
         self.script.feed(piece)?;
-        self.run_waiting(sink, tops, entry, touch)
+        self.run_waiting(sink, desk, tops, entry, touch)
     }
 
     /// Runs the commands that the end of the script gives, and answers how many of all were refused.
-    pub(crate) fn finish<K: Sink, F: Ledger, E: Ledger, T: Ledger>(
+    pub(crate) fn finish<K: Sink, D: Notices, F: Ledger, E: Ledger, T: Ledger>(
         mut self,
         sink: &mut K,
+        desk: &mut D,
         tops: &mut Steps<F>,
         entry: &mut Steps<E>,
         touch: &mut Steps<T>,
@@ -80,32 +84,33 @@ impl Session {
         requires over { self.script.over ≡ false }
         requires waiting { self.script.waiting ≡ [] }
         requires room { self.refused + length (whole_commands self.script.rest) < 2 ^ 64 }
-        ensures took { IfOk result (λ refused. (t : State) × Took (state_of self.pool) t
-            (effects (K.shows sink.old) tops.old touch.old) (effects (K.shows sink.new) tops.new touch.new)
+        ensures took { IfOk result (λ refused. (t : Heard) × Took (heard (state_of self.pool) (D.shows desk.old)) t
+            (effects (K.shows sink.old) tops.old touch.old (D.shows desk.old)) (effects (K.shows sink.new) tops.new touch.new (D.shows desk.new))
             (whole_commands self.script.rest) self.refused refused) }
-        ensures stopped { IfErr result (Stopped (state_of self.pool)
-            (effects (K.shows sink.old) tops.old touch.old) (effects (K.shows sink.new) tops.new touch.new)
+        ensures stopped { IfErr result (Stopped (heard (state_of self.pool) (D.shows desk.old))
+            (effects (K.shows sink.old) tops.old touch.old (D.shows desk.old)) (effects (K.shows sink.new) tops.new touch.new (D.shows desk.new))
             (whole_commands self.script.rest)) }
     {
         self.script.end()?;
-        self.run_waiting(sink, tops, entry, touch)?;
+        self.run_waiting(sink, desk, tops, entry, touch)?;
         Ok(self.refused)
     }
 
     /// Runs the commands that wait.
-    fn run_waiting<K: Sink, F: Ledger, E: Ledger, T: Ledger>(
+    fn run_waiting<K: Sink, D: Notices, F: Ledger, E: Ledger, T: Ledger>(
         &mut self,
         sink: &mut K,
+        desk: &mut D,
         tops: &mut Steps<F>,
         entry: &mut Steps<E>,
         touch: &mut Steps<T>,
     ) -> Result<(), RunEnd>
         requires { self.old.refused + length self.old.script.waiting < 2 ^ 64 }
-        ensures took { OnOk result (Took (state_of self.old.pool) (state_of self.new.pool)
-            (effects (K.shows sink.old) tops.old touch.old) (effects (K.shows sink.new) tops.new touch.new)
+        ensures took { OnOk result (Took (heard (state_of self.old.pool) (D.shows desk.old)) (heard (state_of self.new.pool) (D.shows desk.new))
+            (effects (K.shows sink.old) tops.old touch.old (D.shows desk.old)) (effects (K.shows sink.new) tops.new touch.new (D.shows desk.new))
             self.old.script.waiting self.old.refused self.new.refused) }
-        ensures stopped { IfErr result (Stopped (state_of self.old.pool)
-            (effects (K.shows sink.old) tops.old touch.old) (effects (K.shows sink.new) tops.new touch.new)
+        ensures stopped { IfErr result (Stopped (heard (state_of self.old.pool) (D.shows desk.old))
+            (effects (K.shows sink.old) tops.old touch.old (D.shows desk.old)) (effects (K.shows sink.new) tops.new touch.new (D.shows desk.new))
             self.old.script.waiting) }
         ensures waiting { OnOk result (self.new.script.waiting ≡ []) }
         ensures over { self.new.script.over ≡ self.old.script.over }
@@ -118,6 +123,7 @@ impl Session {
                 &mut self.pool,
                 command,
                 sink,
+                desk,
                 tops,
                 entry,
                 touch,
@@ -128,23 +134,24 @@ impl Session {
 }
 
 /// Runs a command and offers its reply. Answers how many refusals that is, 0 or 1.
-fn run_command<K: Sink, F: Ledger, E: Ledger, T: Ledger>(
+fn run_command<K: Sink, D: Notices, F: Ledger, E: Ledger, T: Ledger>(
     alloc: Global,
     pool: &mut Pool,
     command: Command,
     sink: &mut K,
+    desk: &mut D,
     tops: &mut Steps<F>,
     entry: &mut Steps<E>,
     touch: &mut Steps<T>,
 ) -> Result<u64, RunEnd>
     requires { IsTrue (is_within_form command) }
-    ensures took { IfOk result (λ n. Took (state_of pool.old) (state_of pool.new)
-        (effects (K.shows sink.old) tops.old touch.old) (effects (K.shows sink.new) tops.new touch.new) (command ∷ []) 0 n) }
-    ensures stopped { IfErr result (Stopped (state_of pool.old)
-        (effects (K.shows sink.old) tops.old touch.old) (effects (K.shows sink.new) tops.new touch.new) (command ∷ [])) }
+    ensures took { IfOk result (λ n. Took (heard (state_of pool.old) (D.shows desk.old)) (heard (state_of pool.new) (D.shows desk.new))
+        (effects (K.shows sink.old) tops.old touch.old (D.shows desk.old)) (effects (K.shows sink.new) tops.new touch.new (D.shows desk.new)) (command ∷ []) 0 n) }
+    ensures stopped { IfErr result (Stopped (heard (state_of pool.old) (D.shows desk.old))
+        (effects (K.shows sink.old) tops.old touch.old (D.shows desk.old)) (effects (K.shows sink.new) tops.new touch.new (D.shows desk.new)) (command ∷ [])) }
     ensures one { IfOk result (λ n. n ≤ 1) }
 {
-    let answered = pool.step(&command, tops, entry, touch);
+    let answered = pool.step(&command, desk, tops, entry, touch);
     drop(command);
     let reply = answered?;
     let offered = offer(alloc, &reply, sink);

@@ -58,7 +58,6 @@ refusal_text (refusal.Full room) = room_text room
 refusal_text (refusal.WrongState state) = state_text state
 refusal_text (refusal.Stale name) = codes "refused 12 stale " ++ name ++ codes "\n"
 refusal_text refusal.BadPorts = codes "refused 13 bad ports\n"
-refusal_text refusal.NotBuilt = codes "refused 14 not built\n"
 
 -- want of memory is no fault of a text
 abbrev pub is_fault_of_text : ParseFault → Bool

@@ -40,8 +40,6 @@ pub enum Refusal {
     Stale(Text),
     /// The ports of a gang are no ports.
     BadPorts,
-    /// The command isn't built yet.
-    NotBuilt,
 }
 
 /// The line of a refusal.
@@ -60,7 +58,6 @@ pub(crate) fn print_refusal(alloc: Global, refusal: &Refusal) -> Result<Text, Ou
         Refusal::WrongState(state) => print_state(alloc, *state),
         Refusal::Stale(name) => print_name(alloc, b"refused 12 stale ", name.bytes()),
         Refusal::BadPorts => print_line(alloc, b"refused 13 bad ports"),
-        Refusal::NotBuilt => print_line(alloc, b"refused 14 not built"),
     }
 }
 

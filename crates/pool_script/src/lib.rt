@@ -18,4 +18,5 @@ pub use laws::{
     lines_are_no_more_than_bytes, taken_and_waiting_are_no_more_than_bytes,
 };
 pub use lines::{Line, Lines};
+pub use names::is_name;
 pub use script::Script;

@@ -19,8 +19,8 @@ fn are_name_bytes(bytes: &[u8]) -> bool
     bytes.iter().all(|byte| is_name_byte(*byte))
 }
 
-/// Whether the bytes are a name: 1 to 64 of them, each one that a name may hold.
-pub(crate) fn is_name(bytes: &[u8]) -> bool
+/// Whether the bytes are a name: 1 to 64 of them, each an ASCII letter, a digit, `_`, `-`, `.` or `@`.
+pub fn is_name(bytes: &[u8]) -> bool
     ensures { result ≡ names.is_name bytes.now }
 {
     1 <= bytes.len() && bytes.len() <= 64 && are_name_bytes(bytes)

@@ -103,7 +103,7 @@ const SCRIPTS: [(&[u8], u64, &[u8]); 12] = [
     (
         b"eval\neval \nfly\nEVAL 1\nunlisten m\n",
         5,
-        b"refused 3 wrong words\nrefused 3 wrong words\nrefused 2 unknown command\nrefused 2 unknown command\nrefused 14 not built\n",
+        b"refused 3 wrong words\nrefused 3 wrong words\nrefused 2 unknown command\nrefused 2 unknown command\nrefused 8 name not known\n",
     ),
     (
         b"clock 5\nclock 5\nclock 4\nclock x\nclock 1000000000000\nclock 1000000000001",

@@ -1,5 +1,6 @@
 use Rattle.std.proofs.Common.{arith, length-take}
 use Rattle.std.proofs.lemmas.Result.{err_from_is_err_and}
+use Rattle.pool_engine.specs.Heard.{heard}
 use Rattle.pool_engine.specs.Pool.{state_of}
 use Rattle.pool_engine.proofs.ReadingLemmas.{Reading-finish, Reading-lost, Reading-past, Reading-piece, Reading-room, Reading-room_last, Reading-stopped, take_one}
 use Rattle.pool_engine.proofs.run.run_input.Goals as goal
@@ -21,7 +22,7 @@ returns-in_err-feed-clause-ends g c =
 
 pub loop-left-preserved : goal.loop-left-preserved
 loop-left-preserved g c = record {
-  reading = Reading-piece _ _ _ _ _ _ _ c.feed.new.self.script _ (state_of c.feed.new.self.pool) _ _ _ _ _ c.loop-left.invariant.reading c.in-Ok.ensures.reads (omega (arith, c.in-Ok.ensures.inside, length-take c.in-Ok.count c.read_piece.new.buffer)) c.in-Ok.ensures.within c.in_ok-feed.ensures.took c.in_ok-feed.ensures.waiting c.in_ok-feed.ensures.over c.in_ok-feed.ensures.stands;
+  reading = Reading-piece _ _ _ _ _ _ _ c.feed.new.self.script _ (heard (state_of c.feed.new.self.pool) (g.D.Notices.shows c.feed.new.desk)) _ _ _ _ _ c.loop-left.invariant.reading c.in-Ok.ensures.reads (omega (arith, c.in-Ok.ensures.inside, length-take c.in-Ok.count c.read_piece.new.buffer)) c.in-Ok.ensures.within c.in_ok-feed.ensures.took c.in_ok-feed.ensures.waiting c.in_ok-feed.ensures.over c.in_ok-feed.ensures.stands;
   room = omega (arith, c.read_piece.auto.buffer, c.loop-left.invariant.room);
 }
 

@@ -103,10 +103,6 @@ unknown_told : (s : State) → IsTold (refused s why.UnknownName)
 unfolding reply_text refusal_text
 unknown_told s = omega arith
 
-unbuilt_told : (s : State) → IsTold (refused s why.NotBuilt)
-unfolding reply_text refusal_text
-unbuilt_told s = omega arith
-
 bad_ports_told : (s : State) → IsTold (refused s why.BadPorts)
 unfolding reply_text refusal_text
 bad_ports_told s = omega arith

@@ -10,6 +10,7 @@ pub mod Gangs
 pub mod Heard
 pub mod Indexed
 pub mod Limits
+pub mod Mails
 pub mod Negotiation
 pub mod Notices
 pub mod Pool

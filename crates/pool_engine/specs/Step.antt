@@ -193,7 +193,6 @@ step s (command.Claim job) = claim s job
 step s (command.Release job) = release s job
 step s (command.Unlisten name) = refused s why.UnknownName
 step s (command.Bad number) = refused s (why.Line number)
-step s other = refused s why.NotBuilt
 
 -- how many docks a command meets in a state that literal attributes leave undecided
 unfoldable pub undecided : State → Command → ℕ

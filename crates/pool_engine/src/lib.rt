@@ -13,6 +13,7 @@ mod jobs;
 mod laws;
 mod line_wire;
 mod losses;
+mod mails;
 mod negotiation;
 mod notices;
 mod pool;
@@ -24,8 +25,9 @@ mod wire;
 mod wire_laws;
 mod wire_session;
 
-pub use command_line::Asked;
+pub use command_line::{Asked, read_words};
 pub use laws::the_first_reply_is_offered_at_once;
+pub use mails::{Mail, mails};
 pub use pool::Pool;
 pub use run::{RunEnd, run_pool};
 pub use wire::run_wire;

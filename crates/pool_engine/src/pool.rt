@@ -287,9 +287,9 @@ impl Pool {
                 entry,
                 touch,
             ),
-            Command::Unlisten(_) => Ok(Reply::Refused(Refusal::UnknownName)),
             Command::Bad(number) => Ok(Reply::Refused(Refusal::Line(*number))),
-            _ => Ok(Reply::Refused(Refusal::NotBuilt)),
+            // A pool alone knows no mailbox.
+            _ => Ok(Reply::Refused(Refusal::UnknownName)),
         }
     }
 

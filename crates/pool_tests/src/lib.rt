@@ -8,6 +8,8 @@ mod gangs;
 #[cfg(test)]
 mod jobs;
 #[cfg(test)]
+mod mail;
+#[cfg(test)]
 mod runs;
 #[cfg(test)]
 mod wire;

@@ -3,6 +3,7 @@
 
 ghost use Rattle.std.specs.Prelude.{◌≡◌};
 
+use notice_desk::{Desk, Notices};
 use pool_engine::*;
 use pool_io::{MemorySink, MemorySource};
 use pool_replies::{Refusal, Reply};
@@ -41,11 +42,12 @@ pub(crate) fn run(
 }
 
 // Runs a script with counters of its own.
-fn run_counted<F: Ledger, E: Ledger, T: Ledger>(
+fn run_counted<F: Ledger, E: Ledger, T: Ledger, D: Notices>(
     alloc: Global,
     words: &[Text],
     source: &mut MemorySource,
     sink: &mut MemorySink,
+    desk: &mut D,
     tops: Blank,
     entry: Blank,
     touch: Blank,
@@ -64,21 +66,35 @@ fn run_counted<F: Ledger, E: Ledger, T: Ledger>(
     let mut entry = Steps::<E>::new(entry);
     let mut touch = Steps::<T>::new(touch);
     run_pool(
-        alloc, words, source, sink, &mut tops, &mut entry, &mut touch,
+        alloc, words, source, sink, desk, &mut tops, &mut entry, &mut touch,
     )
 }
 
+// Runs it with a desk that is empty.
 fn run_uncounted(
     alloc: Global,
     words: &[Text],
     source: &mut MemorySource,
     sink: &mut MemorySink,
 ) -> RunEnd {
-    run_counted::<Brand, Brand, Brand>(
+    let mut desk = Desk::new(alloc);
+    run_with(alloc, words, source, sink, &mut desk)
+}
+
+/// Runs a script with a desk, and counters that nothing reads.
+pub(crate) fn run_with<D: Notices>(
+    alloc: Global,
+    words: &[Text],
+    source: &mut MemorySource,
+    sink: &mut MemorySink,
+    desk: &mut D,
+) -> RunEnd {
+    run_counted::<Brand, Brand, Brand, _>(
         alloc,
         words,
         source,
         sink,
+        desk,
         Blank::new(1),
         Blank::new(1),
         Blank::new(1),
@@ -308,9 +324,11 @@ fn two_steps<F: Ledger, E: Ledger, T: Ledger>(
     let mut tops = Steps::<F>::new(tops);
     let mut entry = Steps::<E>::new(entry);
     let mut touch = Steps::<T>::new(touch);
+    let mut desk = Desk::new(alloc);
     let mut pool = Pool::new(alloc);
-    let first = pool.step(&Command::Clock(7), &mut tops, &mut entry, &mut touch)?;
-    let second = pool.step(&Command::Clock(6), &mut tops, &mut entry, &mut touch)?;
+    let (later, back) = (Command::Clock(7), Command::Clock(6));
+    let first = pool.step(&later, &mut desk, &mut tops, &mut entry, &mut touch)?;
+    let second = pool.step(&back, &mut desk, &mut tops, &mut entry, &mut touch)?;
     Ok((first, second))
 }
 

@@ -139,6 +139,9 @@ impl Pool {
         ensures cost { tops.new ≤ tops.old + steps.allowance (state_of self.old) command.now }
         ensures looks { touch.new ≤ touch.old + steps.looks (state_of self.old) command.now }
     {
+        if desk.len() == 0 {
+            return self.answer(command, tops, entry, touch);
+        }
         let granted = granted(self.alloc, &self.books, command)?;
         let stale = stale(self.alloc, &self.books, command)?;
         let reply = self.answer(command, tops, entry, touch)?;

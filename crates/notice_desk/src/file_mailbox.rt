@@ -1,5 +1,6 @@
 // A mailbox over a file of std. It is a trusted edge: what the file holds is not proved.
-ghost use Rattle.std.specs.Prelude.{◌≡◌, option_map, None, OnErr, OnOk};
+ghost use Rattle.std.specs.Prelude.{◌≡◌, ◌++◌, ◌∷◌, [], option_map, IfSome, IsSome, None, OnErr, OnOk};
+ghost use Rattle.std.specs.Io.KnownBytes.{Appends};
 ghost use Rattle.pool_io.specs.Memory.{next_count};
 ghost use Rattle.notice_desk.specs.Boxes.{untold};
 ghost use Rattle.notice_desk.specs.Mail.{Takes, Refuses};
@@ -52,7 +53,11 @@ fn write_line<R: Files>(
     path: &[u8],
     file: &mut Option<R::File>,
     notice: &[u8],
-) -> Option<()> {
+) -> Option<()>
+    ensures open { IfSome result (λ _. IsSome file.new) }
+    ensures appended { IfSome result (λ _. IfSome file.old (λ old. IfSome file.new (λ new.
+        Appends (R.File.contents old) (R.File.contents new) (notice.now ++ 10 ∷ [])))) }
+{
     if file.is_none() {
         *file = Some(fs::create(runtime, str::from_utf8(path).ok()?).ok()?);
     }

@@ -1,5 +1,5 @@
 -- Pools that say the same of each place have the same gangs, and as many open docks.
-use Rattle.std.proofs.Common.{◌≡◌, ◌<◌, ◌≤◌, ◌+◌, ℕ, zero, suc, Bool, false, not, ◌&&◌, cond, refl, List, [], ◌∷◌, filter, length, Option, slice_get, is_some, ap, ◌∙◌, arith}
+use Rattle.std.proofs.Common.{◌≡◌, ◌<◌, ◌≤◌, ◌+◌, ◌*◌, ℕ, zero, suc, Bool, false, not, ◌&&◌, cond, refl, List, [], ◌∷◌, filter, length, Option, slice_get, is_some, ap, ◌∙◌, arith}
 use Rattle.std.specs.List.{range_with_len}
 use Rattle.std.specs.Option.{option_map_or}
 use Rattle.ad_tree.specs.Frames.{Frame}
@@ -8,7 +8,9 @@ use Rattle.ad_store.specs.Stock.{Advert, is_live}
 use Rattle.bilateral_match.specs.Pool.{Pool}
 use Rattle.eval_scope.specs.World.{PlainWorld, port_frame}
 use Rattle.gang_ports.specs.Choice.{Choice, first_of, is_among, over_prefixes, tuples}
-use Rattle.gang_ports.specs.Gangs.{choice_of, docks_open, free_places, gang, is_free, is_open, open_docks, open_places}
+use Rattle.gang_ports.specs.FreePorts.{is_free_port}
+use Rattle.gang_ports.specs.Gangs.{choice_of, docks_open, docks_weighed, free_places, gang, is_free, is_open, open_docks, open_places, weighed_at}
+use Rattle.gang_ports.proofs.ListLemmas.{sum_by-same}
 
 -- ---- places of a range
 
@@ -51,3 +53,12 @@ module _ (moment : ℕ) (ads : List Advert) (off_a off_b : ℕ → Bool) (held_a
 
       pub docks-same : docks_open one request ports ≡ docks_open other request ports
       docks-same = λ i. over_prefixes (choice-same i) (λ before. length (behind-same before i)) (length ports) []
+
+      -- the docks of a port, and how often each is weighed
+      weighed-at-same : (i : ℕ) → weighed_at one request ports i ≡ weighed_at other request ports i
+      unfolding weighed_at open_places
+      weighed-at-same i =
+          λ j. length (filter (is_open one request ports (port_frame ports (suc i))) (free-same j)) * (cond (is_free_port request ports i) 1 (length (tuples (choice-same j) i [])))
+
+      pub weighed-same : docks_weighed one request ports ≡ docks_weighed other request ports
+      weighed-same = sum_by-same (weighed_at one request ports) (weighed_at other request ports) weighed-at-same (range_with_len 0 (length ports))

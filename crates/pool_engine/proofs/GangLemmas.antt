@@ -9,13 +9,13 @@ use Rattle.ad_tree.specs.Inline.{Inline}
 use Rattle.ad_parser.specs.declared.fault.ParseFault.{ParseFault}
 use Rattle.ad_parser.specs.Outcomes.{IsAdAnswer}
 use Rattle.ad_store.specs.Stock.{Advert}
-use Rattle.gang_ports.specs.Gangs.{docks_open, looks_most}
+use Rattle.gang_ports.specs.Gangs.{looks_most}
 use Rattle.gang_ports.specs.Ports.{ports_of}
 use Rattle.pool_replies.specs.Refusals.{is_fault_of_text}
 use Rattle.pool_replies.specs.declared.refusal.Refusal.TheVariants.{AdText, BadPorts}
 use Rattle.pool_replies.specs.declared.reply.Reply.{Reply}
 use Rattle.pool_replies.specs.declared.reply.Reply.TheVariants.{Refused}
-use Rattle.pool_engine.specs.Gangs.{gang, gang_names, line, narrowest_for_gang, undecided_for_gang}
+use Rattle.pool_engine.specs.Gangs.{gang, gang_names, line, narrowest_for_gang, open_docks_of, undecided_for_gang}
 use Rattle.pool_engine.specs.Negotiation.{pool_in}
 use Rattle.pool_engine.specs.State.{QueuedJob}
 use Rattle.pool_engine.proofs.StepLemmas.{no_fault}
@@ -32,7 +32,7 @@ module _ (moment : ℕ) (ads : List Advert) (jobs : List QueuedJob) where
   gang_by frames listed = option_map_or (λ ports. line (gang_names moment ads jobs frames ports)) listed (Refused BadPorts)
 
   abbrev undecided_by : List Frame → Option (List Port) → ℕ
-  undecided_by frames listed = option_map_or (λ ports. docks_open (pool_in moment ads jobs) frames ports) listed 0
+  undecided_by frames listed = option_map_or (λ ports. open_docks_of (pool_in moment ads jobs) frames ports) listed 0
 
   abbrev narrowest_by : List Frame → Option (List Port) → ℕ
   narrowest_by frames listed = option_map_or (λ ports. looks_most ads frames ports) listed 0
@@ -57,7 +57,7 @@ module _ (moment : ℕ) (ads : List Advert) (jobs : List QueuedJob) where
       pub gang-parsed : (names : Option (List (List ℕ))) (told : Reply) → names ≡ gang_names moment ads jobs (ad_frames ad) ports → told ≡ line names → gang moment ads jobs outcome ≡ told
       gang-parsed names told are is = gang-read outcome ad fits ∙ ap (gang_by (ad_frames ad)) listed ∙ sym (is ∙ ap line are)
 
-      pub gang-undecided : undecided_for_gang moment ads jobs outcome ≡ docks_open (pool_in moment ads jobs) (ad_frames ad) ports
+      pub gang-undecided : undecided_for_gang moment ads jobs outcome ≡ open_docks_of (pool_in moment ads jobs) (ad_frames ad) ports
       gang-undecided = undecided-read outcome ad fits ∙ ap (undecided_by (ad_frames ad)) listed
 
       pub gang-narrowest : narrowest_for_gang ads outcome ≡ looks_most ads (ad_frames ad) ports

@@ -1,5 +1,5 @@
 -- The pool of a state, by the names of its resources, and that of a table of jobs, by their slots: they say the same of each place.
-use Rattle.std.proofs.Common.{◌≡◌, ℕ, zero, suc, ◌<◌, All, Bool, true, cond, eqb, Contains, List, [], ◌∷◌, count_by, length, map, slice_get, Option, None, Some, option_map, is_some, IfSome, refl, sym, ◌∙◌, ap, arith}
+use Rattle.std.proofs.Common.{◌≡◌, ℕ, zero, suc, ◌<◌, ◌≤◌, ◌+◌, ◌*◌, All, Bool, true, cond, eqb, Contains, List, [], ◌∷◌, count_by, length, map, slice_get, Option, None, Some, option_map, is_some, IfSome, refl, sym, ◌∙◌, ap, arith}
 use Rattle.std.specs.List.{position_or_len}
 use Rattle.std.specs.Option.{option_map_or}
 use Rattle.std.proofs.lemmas.List.Elements.{All-head, All-tail}
@@ -16,11 +16,11 @@ use Rattle.claim_table.specs.declared.job.Job.{Job}
 use Rattle.claim_table.specs.Holders.{holder_of}
 use Rattle.claim_table.specs.Jobs.{offered_to as offeree}
 use Rattle.eval_scope.specs.World.{PlainWorld}
-use Rattle.gang_ports.specs.Gangs.{docks_open, gang}
-use Rattle.gang_ports.proofs.SameLemmas.{docks-same, gang-same}
+use Rattle.gang_ports.specs.Gangs.{docks_open, docks_weighed, gang}
+use Rattle.gang_ports.proofs.SameLemmas.{docks-same, gang-same, weighed-same}
 use Rattle.negotiator.specs.Markets as market
 use Rattle.negotiator.proofs.GangLemmas.{gang-all, gang-below, slots-stored}
-use Rattle.pool_engine.specs.Gangs.{gang_names}
+use Rattle.pool_engine.specs.Gangs.{gang_names, open_docks_of}
 use Rattle.pool_engine.specs.Negotiation as seen
 use Rattle.pool_engine.specs.Pool.{name_in, queued}
 use Rattle.pool_engine.specs.Queue.{claimed_by, offered_to}
@@ -106,6 +106,19 @@ module _ (stock : Stock) (beside : AreBeside stock.ads stock.slots) where
 
     pub docks-seen : (request : List Frame) (ports : List Port) → docks_open (seen.pool_in moment stock.ads (map (queued stock) jobs)) request ports ≡ docks_open (market.pool_for moment stock jobs) request ports
     docks-seen request ports = docks-same moment stock.ads off_named off_slots held_named held_slots same-at request ports
+
+    weighed-seen : (request : List Frame) (ports : List Port) → docks_weighed (seen.pool_in moment stock.ads (map (queued stock) jobs)) request ports ≡ docks_weighed (market.pool_for moment stock jobs) request ports
+    weighed-seen request ports = weighed-same moment stock.ads off_named off_slots held_named held_slots same-at request ports
+
+    -- a search makes no more evaluations than both numbers of docks allow
+    pub gang-cost : (request : List Frame) (ports : List Port) (before behind : ℕ)
+        → behind ≤ before + 3 * docks_open (market.pool_for moment stock jobs) request ports
+        → behind ≤ before + 3 * docks_weighed (market.pool_for moment stock jobs) request ports
+        → behind ≤ before + 3 * open_docks_of (seen.pool_in moment stock.ads (map (queued stock) jobs)) request ports
+    gang-cost request ports before behind prefixes once =
+        let docks = docks-seen request ports in
+        let weighed = weighed-seen request ports in
+        omega (arith, docks, weighed, prefixes, once)
 
     names-of : (places : List ℕ) → All (λ p. p < length stock.ads) places → map names_at places ≡ map (name_in stock) (map (slot_at stock) places)
     names-of [] within = refl

@@ -206,6 +206,7 @@ undecided s other = 0
 unfoldable pub allowance : State → Command → ℕ
 allowance s (command.Eval expr) = 1
 allowance s (command.EvalIn name expr) = 1
+allowance s (command.Gang block) = 3 * undecided s (command.Gang block)
 allowance s other = 5 * undecided s other
 
 -- how many ads of the store a command may look into in a state

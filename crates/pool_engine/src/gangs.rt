@@ -3,7 +3,7 @@ ghost use Rattle.std.specs.Prelude.{◌≡◌, ◌+◌, ◌*◌, ◌≤◌, IfOk
 ghost use Rattle.ad_parser.proofs.Outcomes.{ad_outcome};
 ghost use Rattle.ad_tree.specs.Ad.{ad_frames};
 ghost use Rattle.ad_tree.specs.Requests.{ArePorts};
-ghost use Rattle.gang_ports.specs.Gangs.{docks_open, looks_most};
+ghost use Rattle.gang_ports.specs.Gangs.{looks_most};
 ghost use Rattle.gang_ports.specs.Ports.{ports_of};
 ghost use Rattle.pool_script.specs.Form.{is_block_text};
 ghost use Rattle.pool_replies.specs.Replies.{is_printable};
@@ -26,8 +26,8 @@ use std::convert::AsSlice;
 use std::sync::ledger::Ledger;
 
 /// `gang`: the resources that the ports of the request of the block are given among those that are free. Nothing is offered. It
-/// counts in `tops` five at most for each dock that literal attributes leave undecided, and in `touch` no more than the ads
-/// that the narrowest test of each port leaves.
+/// counts in `tops` three at most for each dock that literal attributes leave undecided, where a port that no choice for the ports
+/// before it bears on counts once alone, and in `touch` no more than the ads that the narrowest test of each port leaves.
 #[tactic(auto, unfolding(pool_replies::specs::Replies::is_printable, pool_replies::specs::Refusals::is_printable_refusal))]
 pub(crate) fn gang<F: Ledger, E: Ledger, T: Ledger>(
     alloc: Global,
@@ -41,7 +41,7 @@ pub(crate) fn gang<F: Ledger, E: Ledger, T: Ledger>(
     requires { IsTrue (is_block_text block.now) }
     ensures reply { IfOk result (λ reply. steps.gang moment (ads_of books.now.ads) (queue_of books.now) (ad_outcome block.now) ≡ reply) }
     ensures printable { IfOk result (λ reply. IsTrue (is_printable reply)) }
-    ensures cost { tops.new ≤ tops.old + 5 * steps.undecided_for_gang moment (ads_of books.now.ads) (queue_of books.now) (ad_outcome block.now) }
+    ensures cost { tops.new ≤ tops.old + 3 * steps.undecided_for_gang moment (ads_of books.now.ads) (queue_of books.now) (ad_outcome block.now) }
     ensures looks { touch.new ≤ touch.old + steps.narrowest_for_gang (ads_of books.now.ads) (ad_outcome block.now) }
 {
     let ad = match parse_ad(alloc, block) {
@@ -83,7 +83,7 @@ fn gang_names<F: Ledger, E: Ledger, T: Ledger>(
     ensures names { IfOk result (λ names. names
         ≡ steps.gang_names moment (ads_of books.now.ads) (queue_of books.now) (ad_frames request.now.ad) request.now.ports) }
     ensures cost { tops.new ≤ tops.old
-        + 3 * docks_open (pool_in moment (ads_of books.now.ads) (queue_of books.now)) (ad_frames request.now.ad) request.now.ports }
+        + 3 * steps.open_docks_of (pool_in moment (ads_of books.now.ads) (queue_of books.now)) (ad_frames request.now.ad) request.now.ports }
     ensures looks { touch.new ≤ touch.old + looks_most (ads_of books.now.ads) (ad_frames request.now.ad) request.now.ports }
 {
     let ads = &books.ads;

@@ -65,8 +65,9 @@ impl Pool {
     /// Runs a command and posts its notices to a desk, whose names listen; `unlisten` takes one of them off. A box that fails is
     /// dropped before the next post, and changes neither the reply nor the state. Where memory is wanting nothing is posted.
     ///
-    /// It counts in `tops` the whole evaluations, one at most for `eval` and `evalin`, and for any other command
-    /// five at most for each dock that it meets and that literal attributes leave undecided, in `entry` the attributes that they enter, and in `touch` the ads of the store that are looked into.
+    /// It counts in `tops` the whole evaluations, one at most for `eval` and `evalin`, and for any other command five at most
+    /// for each dock that it meets and that literal attributes leave undecided (three for `gang`), in `entry` the attributes
+    /// that they enter, and in `touch` the ads of the store that are looked into.
     #[tactic(auto, unfolding(crate::specs::Pool::state_of, crate::specs::Pool::is_spent))]
     pub fn step<D: Notices, F: Ledger, E: Ledger, T: Ledger>(
         &mut self,

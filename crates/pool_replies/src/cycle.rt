@@ -1,5 +1,5 @@
 // The text of a negotiation cycle.
-ghost use Rattle.std.specs.Prelude.{◌≡◌, ◌+◌, ◌++◌, IfOk, IfSome, OnOk, sum_by};
+ghost use Rattle.std.specs.Prelude.{◌≡◌, ◌≤◌, ◌+◌, ◌^◌, ◌++◌, IfNone, IfOk, IfSome, OnOk, sum_by};
 ghost use Rattle.pool_replies.specs.Cycles as texts;
 
 use crate::writing::append_names;
@@ -81,7 +81,8 @@ fn append_offer(out: &mut Text, user: &[u8], offer: &OfferRow) -> Result<(), Out
 
 /// How many offers the spins made, where 64 bits count them.
 pub(crate) fn offers_of_spins(spins: &[SpinRow]) -> Option<u64>
-    ensures { IfSome result (λ n. n ≡ sum_by texts.offers_of_spin spins.now) }
+    ensures some { IfSome result (λ n. n ≡ sum_by texts.offers_of_spin spins.now) }
+    ensures none { IfNone result (2 ^ 64 ≤ sum_by texts.offers_of_spin spins.now) }
 {
     let mut count = 0;
     for spin in spins {
@@ -91,7 +92,8 @@ pub(crate) fn offers_of_spins(spins: &[SpinRow]) -> Option<u64>
 }
 
 fn offers_of_turns(before: u64, turns: &[TurnRow]) -> Option<u64>
-    ensures { IfSome result (λ n. n ≡ before + sum_by texts.offers_of_turn turns.now) }
+    ensures some { IfSome result (λ n. n ≡ before + sum_by texts.offers_of_turn turns.now) }
+    ensures none { IfNone result (2 ^ 64 ≤ before + sum_by texts.offers_of_turn turns.now) }
 {
     let mut count = before;
     for turn in turns {

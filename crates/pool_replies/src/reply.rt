@@ -1,5 +1,5 @@
 // The replies of the pool, and the text of each.
-ghost use Rattle.std.specs.Prelude.{◌≡◌, ◌++◌, ◌∷◌, [], codes, decimal, length, IfOk, IfSome, OnOk, IsTrue};
+ghost use Rattle.std.specs.Prelude.{◌≡◌, ◌≤◌, ◌^◌, ◌++◌, ◌∷◌, [], codes, decimal, length, IfNone, IfOk, IfSome, OnOk, IsTrue};
 ghost use Rattle.std.specs.Fmt.{signed_decimal};
 ghost use Rattle.std.specs.List.{flat_map};
 ghost use Rattle.pool_replies.specs.Replies as texts;
@@ -85,10 +85,11 @@ pub fn hits(reply: &Reply) -> u64
     }
 }
 
-/// How many offers the reply tells of, where 64 bits count them.
+/// How many offers the reply tells of, `None` exactly where 64 bits don't count them.
 #[tactic(auto, unfolding(crate::specs::Replies::offer_count))]
 pub fn offers(reply: &Reply) -> Option<u64>
-    ensures { IfSome result (λ n. n ≡ texts.offer_count reply.now) }
+    ensures some { IfSome result (λ n. n ≡ texts.offer_count reply.now) }
+    ensures none { IfNone result (2 ^ 64 ≤ texts.offer_count reply.now) }
 {
     match reply {
         Reply::Cycle(spins) => offers_of_spins(spins.as_slice()),

@@ -1,6 +1,6 @@
 // The summary of a run.
-ghost use Rattle.std.specs.Prelude.{◌≡◌, ◌+◌, ◌++◌, IfOk, OnErr, OnOk};
-ghost use Rattle.workload.specs.Summary.{count_line, summary_text};
+ghost use Rattle.std.specs.Prelude.{◌≡◌, ◌≤◌, ◌+◌, ◌^◌, ◌++◌, IfErr, IfOk, IsOk, OnErr, OnOk};
+ghost use Rattle.workload.specs.Summary.{HaveRoom, count_line, summary_text};
 
 use pool_text::{OutOfMemory, Text, append_count};
 use std::alloc::Global;
@@ -38,7 +38,7 @@ impl Summary {
         }
     }
 
-    /// Adds the summary of further commands. A count past 64 bits is refused as want of memory.
+    /// Adds the summary of further commands. It is refused, as want of memory, exactly where a count is past 64 bits.
     pub fn add(&mut self, more: &Summary) -> Result<(), OutOfMemory>
         ensures commands { OnOk result (self.new.commands ≡ self.old.commands + more.now.commands) }
         ensures refused { OnOk result (self.new.refused ≡ self.old.refused + more.now.refused) }
@@ -46,6 +46,7 @@ impl Summary {
         ensures offers { OnOk result (self.new.offers ≡ self.old.offers + more.now.offers) }
         ensures bytes { OnOk result (self.new.bytes ≡ self.old.bytes + more.now.bytes) }
         ensures err { OnErr result (self.new ≡ self.old) }
+        ensures fits { HaveRoom self.old more.now → IsOk result }
     {
         *self = Summary {
             commands: sum(self.commands, more.commands)?,
@@ -74,7 +75,8 @@ impl Summary {
 
 /// The sum, where it has 64 bits.
 fn sum(a: u64, b: u64) -> Result<u64, OutOfMemory>
-    ensures { IfOk result (λ n. n ≡ a + b) }
+    ensures ok { IfOk result (λ n. n ≡ a + b) }
+    ensures err { IfErr result (λ _. 2 ^ 64 ≤ a + b) }
 {
     a.checked_add(b).ok_or(OutOfMemory)
 }

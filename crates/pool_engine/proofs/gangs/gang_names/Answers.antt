@@ -1,11 +1,11 @@
-use Rattle.std.proofs.Common.{ℕ, ◌*◌, ◌≤◌, ◌+◌, All, Contains, List, Option, IfSome, Some, map, option_map, sym, ◌∙◌, ap, subst}
+use Rattle.std.proofs.Common.{ℕ, All, Contains, List, Option, IfSome, Some, map, option_map, sym, ◌∙◌, ap, subst}
 use Rattle.ad_tree.specs.Ad.{ad_frames}
 use Rattle.ad_store.specs.Store.{stock_of}
 use Rattle.claim_table.specs.Table.{jobs_of}
 use Rattle.pool_engine.specs.Pool.{name_in}
 use Rattle.pool_engine.proofs.AdLemmas.{stock-length}
 use Rattle.pool_engine.proofs.NameLemmas.{AreBeside}
-use Rattle.pool_engine.proofs.PoolLemmas.{docks-seen, gang-names, gang-stored}
+use Rattle.pool_engine.proofs.PoolLemmas.{gang-cost, gang-names, gang-stored}
 use Rattle.pool_engine.proofs.gangs.gang_names.Goals as goal
 
 pub returns-in_err-found-clause-cost : goal.returns-in_err-found-clause-cost
@@ -14,7 +14,7 @@ returns-in_err-found-clause-cost g c =
     let stock = stock_of books.ads.store in
     let beside : AreBeside stock.ads stock.slots = record { long = stock-length books.ads.store; names = c.names_are_apart.ensures; apart = c.slots_are_apart.ensures } in
     let request = c.args.request.now in
-    subst (λ (n : ℕ). c.first_gang.new.tops ≤ c.args.tops.now + 3 * n) (sym (docks-seen stock beside c.args.moment (jobs_of books.claims) books.listed books.owned (ad_frames request.ad) request.ports)) c.first_gang.ensures.evaluations
+    gang-cost stock beside c.args.moment (jobs_of books.claims) books.listed books.owned (ad_frames request.ad) request.ports c.args.tops.now c.first_gang.new.tops c.first_gang.ensures.evaluations c.first_gang.ensures.once
 
 pub returns-in_default-clause-cost : goal.returns-in_default-clause-cost
 returns-in_default-clause-cost g c =
@@ -22,7 +22,7 @@ returns-in_default-clause-cost g c =
     let stock = stock_of books.ads.store in
     let beside : AreBeside stock.ads stock.slots = record { long = stock-length books.ads.store; names = c.names_are_apart.ensures; apart = c.slots_are_apart.ensures } in
     let request = c.args.request.now in
-    subst (λ (n : ℕ). c.first_gang.new.tops ≤ c.args.tops.now + 3 * n) (sym (docks-seen stock beside c.args.moment (jobs_of books.claims) books.listed books.owned (ad_frames request.ad) request.ports)) c.first_gang.ensures.evaluations
+    gang-cost stock beside c.args.moment (jobs_of books.claims) books.listed books.owned (ad_frames request.ad) request.ports c.args.tops.now c.first_gang.new.tops c.first_gang.ensures.evaluations c.first_gang.ensures.once
 
 pub returns-in_err-names_of-clause-cost : goal.returns-in_err-names_of-clause-cost
 returns-in_err-names_of-clause-cost g c =
@@ -30,7 +30,7 @@ returns-in_err-names_of-clause-cost g c =
     let stock = stock_of books.ads.store in
     let beside : AreBeside stock.ads stock.slots = record { long = stock-length books.ads.store; names = c.names_are_apart.ensures; apart = c.slots_are_apart.ensures } in
     let request = c.args.request.now in
-    subst (λ (n : ℕ). c.first_gang.new.tops ≤ c.args.tops.now + 3 * n) (sym (docks-seen stock beside c.args.moment (jobs_of books.claims) books.listed books.owned (ad_frames request.ad) request.ports)) c.first_gang.ensures.evaluations
+    gang-cost stock beside c.args.moment (jobs_of books.claims) books.listed books.owned (ad_frames request.ad) request.ports c.args.tops.now c.first_gang.new.tops c.first_gang.ensures.evaluations c.first_gang.ensures.once
 
 pub returns-clause-cost : goal.returns-clause-cost
 returns-clause-cost g c =
@@ -38,7 +38,7 @@ returns-clause-cost g c =
     let stock = stock_of books.ads.store in
     let beside : AreBeside stock.ads stock.slots = record { long = stock-length books.ads.store; names = c.names_are_apart.ensures; apart = c.slots_are_apart.ensures } in
     let request = c.args.request.now in
-    subst (λ (n : ℕ). c.first_gang.new.tops ≤ c.args.tops.now + 3 * n) (sym (docks-seen stock beside c.args.moment (jobs_of books.claims) books.listed books.owned (ad_frames request.ad) request.ports)) c.first_gang.ensures.evaluations
+    gang-cost stock beside c.args.moment (jobs_of books.claims) books.listed books.owned (ad_frames request.ad) request.ports c.args.tops.now c.first_gang.new.tops c.first_gang.ensures.evaluations c.first_gang.ensures.once
 
 pub returns-in_default-clause-names : goal.returns-in_default-clause-names
 returns-in_default-clause-names g c =

@@ -13,7 +13,9 @@ use Rattle.pool_engine.specs.declared.run.RunEnd.TheVariants as ends
 use Rattle.pool_engine.specs.Ends.{Effects, Ends}
 use Rattle.pool_engine.specs.Events.{events_of, replies_text}
 use Rattle.pool_engine.specs.Heard.{opened}
+use Rattle.pool_engine.specs.Mails.{mails_of}
 use Rattle.pool_engine.specs.Options.{are_options, count_of}
+use Rattle.pool_engine.specs.declared.mail.Mail.{Mail}
 use Rattle.pool_engine.specs.WireEnds.{WireEnds}
 use Rattle.pool_engine.specs.WireReplies.{wire_text}
 use Rattle.pool_engine.specs.Workloads.{WorkloadEnds, summary_of, workload_events}
@@ -38,6 +40,10 @@ pool_asked None = asks.Pool
 -- options ask for a pool or a workload, as no word asks for a pool; else it may be a wire
 abbrev pub asked_by : List (List ℕ) → Asked
 asked_by words = if are_options words then pool_asked (count_of words) else wire_of words
+
+-- the mailboxes that the words ask for: those of options
+abbrev pub asked_mails : List (List ℕ) → List Mail
+asked_mails words = if are_options words then mails_of words else []
 
 -- the numbers of a wire are from 1 to 100
 abbrev pub IsWithin : Asked → Type 0

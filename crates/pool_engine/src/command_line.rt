@@ -1,11 +1,14 @@
 // What the words of a command line ask for.
-ghost use Rattle.std.specs.Prelude.{◌≡◌, IfSome};
+ghost use Rattle.std.specs.Prelude.{◌≡◌, IfOk, IfSome};
 ghost use Rattle.claim_wire.specs.Wires.{IsNumber};
 ghost use Rattle.pool_script.specs.Names.{number_within};
-ghost use Rattle.pool_engine.specs.CommandLine.{IsWithin, asked_by, wire_asked, wire_of};
+ghost use Rattle.pool_engine.specs.CommandLine.{IsWithin, asked_by, asked_mails, wire_asked, wire_of};
 
+use crate::Mail;
+use crate::mail::mails_of;
 use crate::options::{are_options, count_of};
-use pool_text::{Text, read_number};
+use pool_text::{OutOfMemory, Text, read_number};
+use std::alloc::Global;
 
 /// What the words of a command line ask for.
 #[derive(Clone, Copy, Debug, PartialEq, Eq)]
@@ -34,6 +37,17 @@ pub fn read_words(words: &[Text]) -> Asked
         Some(machines) => Asked::Workload { machines },
         None => Asked::Pool,
     }
+}
+
+/// The mailboxes that the words ask for, in their order: those of a pool or of a workload. A wire has none, and wrong words ask
+/// for none.
+pub fn mails(alloc: Global, words: &[Text]) -> Result<Vec<Mail>, OutOfMemory>
+    ensures { IfOk result (λ mails. mails.items ≡ asked_mails words.now) }
+{
+    if !are_options(words) {
+        return Ok(Vec::new(alloc));
+    }
+    mails_of(alloc, words)
 }
 
 // A wire, where the words ask for one.

@@ -27,9 +27,9 @@ mod wire_laws;
 mod wire_session;
 mod workload_run;
 
-pub use command_line::{Asked, read_words};
+pub use command_line::{Asked, mails, read_words};
 pub use laws::the_first_reply_is_offered_at_once;
-pub use mail::{Mail, mails};
+pub use mail::Mail;
 pub use pool::Pool;
 pub use run::{RunEnd, run_pool};
 pub use wire::run_wire;

@@ -13,8 +13,8 @@ pub struct Mail {
     pub file: Text,
 }
 
-/// The mailboxes that the words of a pool or of a workload ask for, in their order.
-pub fn mails(alloc: Global, words: &[Text]) -> Result<Vec<Mail>, OutOfMemory>
+/// The mailboxes of options, in their order.
+pub(crate) fn mails_of(alloc: Global, words: &[Text]) -> Result<Vec<Mail>, OutOfMemory>
     ensures { IfOk result (λ mails. mails.items ≡ rules.mails_of words.now) }
 {
     let mut mails = Vec::new(alloc);

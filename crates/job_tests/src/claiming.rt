@@ -14,6 +14,7 @@ use pool_text::{BinOp, Lit, OutOfMemory, Slots, Text};
 use std::alloc::Global;
 use std::convert::AsSlice;
 use std::marker::Brand;
+use std::process::Abort;
 use std::sync::ledger::{Blank, Ledger};
 use std::test::Fail;
 
@@ -134,12 +135,40 @@ impl Pool {
         self.claim_counted::<Brand, Brand, Brand>(name, Blank::new(1), Blank::new(1), Blank::new(1))
     }
 
-    // Why a job can't claim what is offered to it.
-    fn fault(&mut self, name: &[u8]) -> Option<ClaimFault>
+    // What a claim comes to: the jobs that lose their resources, or the fault.
+    fn outcome(&mut self, name: &[u8]) -> Result<String, Fail>
         requires { AreStored self.old.store self.old.table }
         ensures { AreStored self.new.store self.new.table }
     {
-        self.claim(name).err()
+        let alloc = self.alloc;
+        match self.claim(name) {
+            Ok(freed) => told(alloc, &freed),
+            Err(fault) => Ok(format!(in alloc; "{fault:?}")?),
+        }
+    }
+
+    // A claim comes to this.
+    fn assert_claim(&mut self, rt: &impl Abort, name: &[u8], wanted: &str) -> Result<(), Fail>
+        requires { AreStored self.old.store self.old.table }
+        ensures { AreStored self.new.store self.new.table }
+    {
+        let outcome = self.outcome(name)?;
+        assert_eq!(rt; outcome.as_str(), wanted);
+        Ok(())
+    }
+
+    // The jobs stand like this.
+    fn assert_jobs(&self, rt: &impl Abort, wanted: &str) -> Result<(), Fail> {
+        let jobs = jobs_told(self.alloc, &self.table)?;
+        assert_eq!(rt; jobs.as_str(), wanted);
+        Ok(())
+    }
+
+    // No slot is offered, and these jobs have claimed the slots 0 and 1.
+    fn assert_claimed_by(&self, rt: &impl Abort, first: Option<usize>, second: Option<usize>) {
+        assert!(rt; self.is_free(0) && self.is_free(1));
+        assert_eq!(rt; self.table.claimed_by(0), first);
+        assert_eq!(rt; self.table.claimed_by(1), second);
     }
 }
 
@@ -182,6 +211,39 @@ fn tell(alloc: Global, job: &Freed, out: &mut String) -> Result<(), Fail> {
     }
     out.push_str("; ")?;
     Ok(())
+}
+
+// A job with its state and its slots, as `g Claimed 0 1; `.
+fn tell_job(alloc: Global, table: &ClaimTable, i: usize, out: &mut String) -> Result<(), Fail>
+    requires { i < length (jobs_of table.now) }
+{
+    let name = table.job(i).bytes();
+    out.push_str(str::from_utf8(name).unwrap_or("?"))?;
+    out.push_str(state_name(table.state(name)))?;
+    for slot in table.slots(name) {
+        let entry = format!(in alloc; " {slot}")?;
+        out.push_str(&entry)?;
+    }
+    out.push_str("; ")?;
+    Ok(())
+}
+
+fn state_name(state: Option<JobState>) -> &'static str {
+    match state {
+        Some(JobState::Idle) => " Idle",
+        Some(JobState::Matched) => " Matched",
+        Some(JobState::Claimed) => " Claimed",
+        None => " absent",
+    }
+}
+
+// The jobs in order.
+fn jobs_told(alloc: Global, table: &ClaimTable) -> Result<String, Fail> {
+    let mut out = String::new(alloc);
+    for i in 0..table.len() {
+        tell_job(alloc, table, i, &mut out)?;
+    }
+    Ok(out)
 }
 
 // ---- ads
@@ -292,13 +354,39 @@ fn machines(alloc: Global, m: i64, n: i64) -> Result<Pool, Fail>
     Ok(pool)
 }
 
-// Job `a` of ann has claimed the resource in slot 0, and job `b` of bob that in slot 1; these are their sizes.
-fn two_at_work(alloc: Global, a: i64, b: i64) -> Result<Pool, Fail>
+// A job of ann, whose size is 1, waits for one resource.
+fn with_job(alloc: Global) -> Result<Pool, Fail>
+    ensures { IfOk result (λ pool. AreStored pool.store pool.table) }
+{
+    let mut pool = machines(alloc, 1, 2)?;
+    pool.submit(b"g", b"ann", job(alloc, 1)?)?;
+    Ok(pool)
+}
+
+// A gang of ann, whose size is 1, waits for two resources.
+fn with_gang(alloc: Global) -> Result<Pool, Fail>
+    ensures { IfOk result (λ pool. AreStored pool.store pool.table) }
+{
+    let mut pool = machines(alloc, 1, 2)?;
+    pool.submit(b"g", b"ann", gang(alloc, 1)?)?;
+    Ok(pool)
+}
+
+// Job `a` of ann and job `b` of bob wait; these are their sizes.
+fn with_two(alloc: Global, a: i64, b: i64) -> Result<Pool, Fail>
     ensures { IfOk result (λ pool. AreStored pool.store pool.table) }
 {
     let mut pool = machines(alloc, 2, 1)?;
     pool.submit(b"a", b"ann", job(alloc, a)?)?;
     pool.submit(b"b", b"bob", job(alloc, b)?)?;
+    Ok(pool)
+}
+
+// Job `a` of ann has claimed the resource in slot 0, and job `b` of bob that in slot 1; these are their sizes.
+fn two_at_work(alloc: Global, a: i64, b: i64) -> Result<Pool, Fail>
+    ensures { IfOk result (λ pool. AreStored pool.store pool.table) }
+{
+    let mut pool = with_two(alloc, a, b)?;
     pool.offer_one(0, 0)?;
     pool.offer_one(1, 1)?;
     pool.claim(b"a")?;
@@ -306,12 +394,31 @@ fn two_at_work(alloc: Global, a: i64, b: i64) -> Result<Pool, Fail>
     Ok(pool)
 }
 
+// Beside them job `c` of cid, which has this size, is offered the resource of job `a`.
+fn with_third(alloc: Global, c: i64) -> Result<Pool, Fail>
+    ensures { IfOk result (λ pool. AreStored pool.store pool.table) }
+{
+    let mut pool = two_at_work(alloc, 1, 1)?;
+    pool.submit(b"c", b"cid", job(alloc, c)?)?;
+    pool.offer_one(2, 0)?;
+    Ok(pool)
+}
+
+// Beside job `a`, which has this size, and job `b` a gang of gil, whose size is 2, is offered the resources of both.
+fn with_greater_gang(alloc: Global, a: i64) -> Result<Pool, Fail>
+    ensures { IfOk result (λ pool. AreStored pool.store pool.table) }
+{
+    let mut pool = two_at_work(alloc, a, 1)?;
+    pool.submit(b"g", b"gil", gang(alloc, 2)?)?;
+    pool.offer_two(2, 1, 0)?;
+    Ok(pool)
+}
+
 // A gang `g` of ann, whose size is 1, has claimed both resources.
 fn gang_at_work(alloc: Global) -> Result<Pool, Fail>
     ensures { IfOk result (λ pool. AreStored pool.store pool.table) }
 {
-    let mut pool = machines(alloc, 1, 2)?;
-    pool.submit(b"g", b"ann", gang(alloc, 1)?)?;
+    let mut pool = with_gang(alloc)?;
     pool.offer_two(0, 0, 1)?;
     pool.claim(b"g")?;
     Ok(pool)
@@ -321,148 +428,100 @@ fn gang_at_work(alloc: Global) -> Result<Pool, Fail>
 
 #[test]
 fn a_claim_is_granted(rt: HostRuntime) -> Result<(), Fail> {
-    let alloc = rt.alloc();
-    let mut pool = machines(alloc, 1, 2)?;
-    pool.submit(b"g", b"ann", job(alloc, 1)?)?;
+    let mut pool = with_job(rt.alloc())?;
     pool.offer_one(0, 1)?;
-    let freed = pool.claim(b"g")?;
-    assert_eq!(rt; freed.len(), 0);
-    assert_eq!(rt; pool.table.state(b"g"), Some(JobState::Claimed));
-    assert_eq!(rt; pool.table.slots(b"g"), [1].as_slice());
-    assert_eq!(rt; pool.table.claimed_by(1), Some(0));
-    assert_eq!(rt; pool.table.offered_to(1), None);
+    pool.assert_claim(&rt, b"g", "")?;
+    pool.assert_jobs(&rt, "g Claimed 1; ")?;
+    pool.assert_claimed_by(&rt, None, Some(0));
     Ok(())
 }
 
 #[test]
 fn a_job_claims_once(rt: HostRuntime) -> Result<(), Fail> {
-    let alloc = rt.alloc();
-    let mut pool = machines(alloc, 1, 2)?;
-    pool.submit(b"g", b"ann", job(alloc, 1)?)?;
-    assert_eq!(rt; pool.fault(b"h"), Some(ClaimFault::NoJob));
-    assert_eq!(rt;
-        pool.fault(b"g"),
-        Some(ClaimFault::WrongState(JobState::Idle))
-    );
+    let mut pool = with_job(rt.alloc())?;
+    pool.assert_claim(&rt, b"h", "NoJob")?;
+    pool.assert_claim(&rt, b"g", "WrongState(Idle)")?;
     pool.offer_one(0, 0)?;
-    assert_eq!(rt; pool.fault(b"g"), None);
-    assert_eq!(rt;
-        pool.fault(b"g"),
-        Some(ClaimFault::WrongState(JobState::Claimed))
-    );
+    pool.assert_claim(&rt, b"g", "")?;
+    pool.assert_claim(&rt, b"g", "WrongState(Claimed)")?;
     Ok(())
 }
 
 #[test]
 fn an_offer_is_stale_where_the_resource_has_changed(rt: HostRuntime) -> Result<(), Fail> {
-    let alloc = rt.alloc();
-    let mut pool = machines(alloc, 1, 2)?;
-    pool.submit(b"g", b"ann", job(alloc, 1)?)?;
+    let mut pool = with_job(rt.alloc())?;
     pool.offer_one(0, 1)?;
-    pool.put(b"n", ad(alloc, 2, false)?)?;
-    assert_eq!(rt; pool.fault(b"g"), Some(ClaimFault::Stale(1)));
-    assert_eq!(rt; pool.table.state(b"g"), Some(JobState::Idle));
-    assert_eq!(rt; pool.table.offered_to(1), None);
-    assert_eq!(rt; pool.table.claimed_by(1), None);
-    assert_eq!(rt;
-        pool.fault(b"g"),
-        Some(ClaimFault::WrongState(JobState::Idle))
-    );
+    pool.put(b"n", ad(rt.alloc(), 2, false)?)?;
+    pool.assert_claim(&rt, b"g", "Stale(1)")?;
+    pool.assert_jobs(&rt, "g Idle; ")?;
+    pool.assert_claimed_by(&rt, None, None);
+    pool.assert_claim(&rt, b"g", "WrongState(Idle)")?;
     Ok(())
 }
 
 #[test]
 fn a_greater_job_takes_a_claimed_resource(rt: HostRuntime) -> Result<(), Fail> {
-    let alloc = rt.alloc();
-    let mut pool = two_at_work(alloc, 1, 1)?;
-    pool.submit(b"c", b"cid", job(alloc, 2)?)?;
-    pool.offer_one(2, 0)?;
-    let freed = pool.claim(b"c")?;
-    assert_eq!(rt; told(alloc, &freed)?.as_str(), "a of ann: 0; ");
-    assert_eq!(rt; pool.table.state(b"a"), Some(JobState::Idle));
-    assert_eq!(rt; pool.table.state(b"b"), Some(JobState::Claimed));
-    assert_eq!(rt; pool.table.claimed_by(0), Some(2));
+    let mut pool = with_third(rt.alloc(), 2)?;
+    pool.assert_claim(&rt, b"c", "a of ann: 0; ")?;
+    pool.assert_jobs(&rt, "a Idle; b Claimed 1; c Claimed 0; ")?;
+    pool.assert_claimed_by(&rt, Some(2), Some(1));
     Ok(())
 }
 
 #[test]
 fn an_equal_job_takes_nothing(rt: HostRuntime) -> Result<(), Fail> {
-    let alloc = rt.alloc();
-    let mut pool = two_at_work(alloc, 1, 1)?;
-    pool.submit(b"c", b"cid", job(alloc, 1)?)?;
-    pool.offer_one(2, 0)?;
-    assert_eq!(rt; pool.fault(b"c"), Some(ClaimFault::Stale(0)));
-    assert_eq!(rt; pool.table.state(b"c"), Some(JobState::Idle));
-    assert_eq!(rt; pool.table.state(b"a"), Some(JobState::Claimed));
-    assert_eq!(rt; pool.table.claimed_by(0), Some(0));
+    let mut pool = with_third(rt.alloc(), 1)?;
+    pool.assert_claim(&rt, b"c", "Stale(0)")?;
+    pool.assert_jobs(&rt, "a Claimed 0; b Claimed 1; c Idle; ")?;
+    pool.assert_claimed_by(&rt, Some(0), Some(1));
     Ok(())
 }
 
 #[test]
 fn a_gang_takes_from_two_jobs(rt: HostRuntime) -> Result<(), Fail> {
-    let alloc = rt.alloc();
-    let mut pool = two_at_work(alloc, 1, 1)?;
-    pool.submit(b"g", b"gil", gang(alloc, 2)?)?;
-    pool.offer_two(2, 1, 0)?;
-    let freed = pool.claim(b"g")?;
-    assert_eq!(rt; told(alloc, &freed)?.as_str(), "b of bob: 1; a of ann: 0; ");
-    assert_eq!(rt; pool.table.state(b"a"), Some(JobState::Idle));
-    assert_eq!(rt; pool.table.state(b"b"), Some(JobState::Idle));
-    assert_eq!(rt; pool.table.slots(b"g"), [1, 0].as_slice());
-    assert_eq!(rt; pool.table.claimed_by(0), Some(2));
-    assert_eq!(rt; pool.table.claimed_by(1), Some(2));
+    let mut pool = with_greater_gang(rt.alloc(), 1)?;
+    pool.assert_claim(&rt, b"g", "b of bob: 1; a of ann: 0; ")?;
+    pool.assert_jobs(&rt, "a Idle; b Idle; g Claimed 1 0; ")?;
+    pool.assert_claimed_by(&rt, Some(2), Some(2));
     Ok(())
 }
 
 #[test]
 fn a_gang_that_wins_one_of_two_takes_nothing(rt: HostRuntime) -> Result<(), Fail> {
-    let alloc = rt.alloc();
-    let mut pool = two_at_work(alloc, 2, 1)?;
-    pool.submit(b"g", b"gil", gang(alloc, 2)?)?;
-    pool.offer_two(2, 1, 0)?;
-    assert_eq!(rt; pool.fault(b"g"), Some(ClaimFault::Stale(0)));
-    assert_eq!(rt; pool.table.state(b"g"), Some(JobState::Idle));
-    assert_eq!(rt; pool.table.claimed_by(0), Some(0));
-    assert_eq!(rt; pool.table.claimed_by(1), Some(1));
+    let mut pool = with_greater_gang(rt.alloc(), 2)?;
+    pool.assert_claim(&rt, b"g", "Stale(0)")?;
+    pool.assert_jobs(&rt, "a Claimed 0; b Claimed 1; g Idle; ")?;
+    pool.assert_claimed_by(&rt, Some(0), Some(1));
     Ok(())
 }
 
 #[test]
 fn a_gang_that_loses_all_is_told_once(rt: HostRuntime) -> Result<(), Fail> {
-    let alloc = rt.alloc();
-    let mut pool = gang_at_work(alloc)?;
-    pool.submit(b"h", b"hal", gang(alloc, 2)?)?;
+    let mut pool = gang_at_work(rt.alloc())?;
+    pool.submit(b"h", b"hal", gang(rt.alloc(), 2)?)?;
     pool.offer_two(1, 0, 1)?;
-    let freed = pool.claim(b"h")?;
-    assert_eq!(rt; told(alloc, &freed)?.as_str(), "g of ann: 0 1; ");
-    assert_eq!(rt; pool.table.state(b"g"), Some(JobState::Idle));
-    assert_eq!(rt; pool.table.slots(b"h"), [0, 1].as_slice());
+    pool.assert_claim(&rt, b"h", "g of ann: 0 1; ")?;
+    pool.assert_jobs(&rt, "g Idle; h Claimed 0 1; ")?;
     Ok(())
 }
 
 #[test]
 fn a_gang_claims_what_nobody_has(rt: HostRuntime) -> Result<(), Fail> {
-    let alloc = rt.alloc();
-    let mut pool = machines(alloc, 1, 2)?;
-    pool.submit(b"g", b"ann", gang(alloc, 1)?)?;
+    let mut pool = with_gang(rt.alloc())?;
     pool.offer_two(0, 0, 1)?;
-    let freed = pool.claim(b"g")?;
-    assert_eq!(rt; freed.len(), 0);
-    assert_eq!(rt; pool.table.state(b"g"), Some(JobState::Claimed));
-    assert_eq!(rt; pool.table.claimed_by(0), Some(0));
-    assert_eq!(rt; pool.table.claimed_by(1), Some(0));
+    pool.assert_claim(&rt, b"g", "")?;
+    pool.assert_jobs(&rt, "g Claimed 0 1; ")?;
+    pool.assert_claimed_by(&rt, Some(0), Some(0));
     Ok(())
 }
 
 #[test]
 fn a_port_sees_the_resources_before_it(rt: HostRuntime) -> Result<(), Fail> {
-    let alloc = rt.alloc();
-    let mut pool = machines(alloc, 1, 2)?;
-    pool.submit(b"g", b"ann", gang(alloc, 1)?)?;
+    let mut pool = with_gang(rt.alloc())?;
     pool.offer_two(0, 1, 0)?;
-    assert_eq!(rt; pool.fault(b"g"), Some(ClaimFault::Stale(0)));
+    pool.assert_claim(&rt, b"g", "Stale(0)")?;
     pool.offer_two(0, 0, 1)?;
-    assert_eq!(rt; pool.fault(b"g"), None);
+    pool.assert_claim(&rt, b"g", "")?;
     Ok(())
 }
 
@@ -473,9 +532,8 @@ fn a_gang_releases_all(rt: HostRuntime) -> Result<(), Fail> {
     let mut pool = gang_at_work(rt.alloc())?;
     let slots = pool.table.release(b"g")?;
     assert_eq!(rt; slots.as_slice(), [0, 1].as_slice());
-    assert_eq!(rt; pool.table.state(b"g"), Some(JobState::Idle));
-    assert_eq!(rt; pool.table.claimed_by(0), None);
-    assert_eq!(rt; pool.table.claimed_by(1), None);
+    pool.assert_jobs(&rt, "g Idle; ")?;
+    pool.assert_claimed_by(&rt, None, None);
     Ok(())
 }
 
@@ -484,20 +542,17 @@ fn a_gang_that_is_removed_leaves_all(rt: HostRuntime) -> Result<(), Fail> {
     let mut pool = gang_at_work(rt.alloc())?;
     let slots = pool.table.remove(b"g")?;
     assert_eq!(rt; slots.as_slice(), [0, 1].as_slice());
-    assert_eq!(rt; pool.table.len(), 0);
-    assert_eq!(rt; pool.table.claimed_by(0), None);
-    assert_eq!(rt; pool.table.claimed_by(1), None);
+    pool.assert_jobs(&rt, "")?;
+    pool.assert_claimed_by(&rt, None, None);
     Ok(())
 }
 
 #[test]
 fn a_gang_whose_resource_leaves_loses_all(rt: HostRuntime) -> Result<(), Fail> {
-    let alloc = rt.alloc();
-    let mut pool = gang_at_work(alloc)?;
+    let mut pool = gang_at_work(rt.alloc())?;
     let freed = pool.table.lose(1)?;
-    assert_eq!(rt; told(alloc, &freed)?.as_str(), "g of ann: 0 1; ");
-    assert_eq!(rt; pool.table.state(b"g"), Some(JobState::Idle));
-    assert_eq!(rt; pool.table.claimed_by(0), None);
-    assert_eq!(rt; pool.table.claimed_by(1), None);
+    assert_eq!(rt; told(rt.alloc(), &freed)?.as_str(), "g of ann: 0 1; ");
+    pool.assert_jobs(&rt, "g Idle; ")?;
+    pool.assert_claimed_by(&rt, None, None);
     Ok(())
 }

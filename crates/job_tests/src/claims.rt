@@ -9,6 +9,7 @@ use claim_table::*;
 use pool_text::{OutOfMemory, Slots, Text};
 use std::alloc::Global;
 use std::convert::AsSlice;
+use std::process::Abort;
 use std::test::Fail;
 
 // A request without ports.
@@ -66,66 +67,113 @@ fn with_offer(alloc: Global) -> Result<ClaimTable, Fail> {
     Ok(table)
 }
 
+// A job of ann comes, with a text of this length.
+fn assert_submit(
+    rt: &impl Abort,
+    alloc: Global,
+    table: &mut ClaimTable,
+    name: &[u8],
+    text_len: u64,
+    wanted: Result<(), SubmitFault>,
+) -> Result<(), Fail> {
+    let request = single(alloc)?;
+    assert_eq!(rt; table.submit(name, b"ann", request, text_len), wanted);
+    Ok(())
+}
+
+fn assert_remove(rt: &impl Abort, table: &mut ClaimTable, name: &[u8], wanted: bool) {
+    assert!(rt; table.remove(name).is_ok() == wanted);
+}
+
+fn assert_text_len(rt: &impl Abort, table: &ClaimTable, wanted: u64) {
+    assert_eq!(rt; table.text_len(), wanted);
+}
+
+fn assert_state(rt: &impl Abort, table: &ClaimTable, name: &[u8], wanted: Option<JobState>) {
+    assert_eq!(rt; table.state(name), wanted);
+}
+
+fn assert_text(rt: &impl Abort, found: &Text, wanted: &[u8]) {
+    assert_eq!(rt; found.bytes(), wanted);
+}
+
+fn assert_slots(rt: &impl Abort, found: &[usize], wanted: &[usize]) {
+    assert_eq!(rt; found, wanted);
+}
+
+// The jobs `h` and `i` of ann.
+fn assert_two(rt: &impl Abort, table: &ClaimTable) {
+    assert!(rt; table.len() == 2);
+    assert_text(rt, table.job(0), b"h");
+    assert_text(rt, table.user(0), b"ann");
+    assert!(rt; table.request(1).ports.len() == 0);
+}
+
+// The jobs `g`, `h` and `i` with all the text that jobs can have.
+fn with_three(rt: &impl Abort, alloc: Global) -> Result<ClaimTable, Fail> {
+    let mut table = with_job(alloc, single(alloc)?)?;
+    assert_submit(rt, alloc, &mut table, b"h", 11, Ok(()))?;
+    assert_submit(rt, alloc, &mut table, b"g", 1, Err(SubmitFault::InUse))?;
+    assert_submit(
+        rt,
+        alloc,
+        &mut table,
+        b"i",
+        33_554_413,
+        Err(SubmitFault::FullText),
+    )?;
+    assert_submit(rt, alloc, &mut table, b"i", 33_554_412, Ok(()))?;
+    Ok(table)
+}
+
 #[test]
 fn jobs_come_and_go(rt: HostRuntime) -> Result<(), Fail> {
-    let alloc = rt.alloc();
-    let mut table = with_job(alloc, single(alloc)?)?;
-    assert_eq!(rt; table.submit(b"h", b"ann", single(alloc)?, 11), Ok(()));
-    assert_eq!(rt;
-        table.submit(b"g", b"ann", single(alloc)?, 1),
-        Err(SubmitFault::InUse)
-    );
-    assert_eq!(rt;
-        table.submit(b"i", b"ann", single(alloc)?, 33_554_413),
-        Err(SubmitFault::FullText)
-    );
-    assert_eq!(rt;
-        table.submit(b"i", b"ann", single(alloc)?, 33_554_412),
-        Ok(())
-    );
-    assert_eq!(rt; table.text_len(), 33_554_432);
-    assert_eq!(rt; table.remove(b"g").is_ok(), true);
-    assert_eq!(rt; table.remove(b"g").is_ok(), false);
-    assert_eq!(rt; table.len(), 2);
-    assert_eq!(rt; table.job(0).bytes(), b"h".as_slice());
-    assert_eq!(rt; table.user(0).bytes(), b"ann".as_slice());
-    assert_eq!(rt; table.request(1).ports.len(), 0);
-    assert_eq!(rt; table.state(b"h"), Some(JobState::Idle));
-    assert_eq!(rt; table.state(b"g"), None);
-    assert_eq!(rt; table.text_len(), 33_554_423);
+    let mut table = with_three(&rt, rt.alloc())?;
+    assert_text_len(&rt, &table, 33_554_432);
+    assert_remove(&rt, &mut table, b"g", true);
+    assert_remove(&rt, &mut table, b"g", false);
+    assert_two(&rt, &table);
+    assert_state(&rt, &table, b"h", Some(JobState::Idle));
+    assert_state(&rt, &table, b"g", None);
+    assert_text_len(&rt, &table, 33_554_423);
     Ok(())
+}
+
+fn assert_offered(rt: &impl Abort, table: &ClaimTable) {
+    assert_state(rt, table, b"g", Some(JobState::Matched));
+    assert_slots(rt, table.slots(b"g"), &[3, 5]);
+    assert!(rt; table.offered_to(5) == Some(0));
+    assert!(rt; !table.offered(4));
+    assert!(rt; table.claimed_by(5).is_none());
+    assert!(rt; table.holder(5).is_none());
 }
 
 #[test]
 fn an_offer_is_given_back(rt: HostRuntime) -> Result<(), Fail> {
     let mut table = with_offer(rt.alloc())?;
-    assert_eq!(rt; table.state(b"g"), Some(JobState::Matched));
-    assert_eq!(rt; table.slots(b"g"), [3, 5].as_slice());
-    assert_eq!(rt; table.offered_to(5), Some(0));
-    assert!(rt; !table.offered(4));
-    assert_eq!(rt; table.claimed_by(5), None);
-    assert!(rt; table.holder(5).is_none());
-    match table.release(b"g") {
-        Ok(slots) => assert_eq!(rt; slots.as_slice(), [3, 5].as_slice()),
-        Err(_) => assert!(rt; false),
-    }
+    assert_offered(&rt, &table);
+    let slots = table.release(b"g")?;
+    assert_slots(&rt, slots.as_slice(), &[3, 5]);
     assert!(rt; !table.offered(5));
-    match table.release(b"g") {
-        Ok(_) => assert!(rt; false),
-        Err(fault) => assert_eq!(rt; fault, JobFault::WrongState(JobState::Idle)),
-    }
+    let fault = table.release(b"g").err();
+    assert_eq!(rt; fault, Some(JobFault::WrongState(JobState::Idle)));
     Ok(())
+}
+
+// The gang `g` of u is told with its slots.
+fn assert_freed(rt: &impl Abort, freed: &FreedList) {
+    assert!(rt; freed.len() == 1);
+    assert_text(rt, &freed.at(0).job, b"g");
+    assert_text(rt, &freed.at(0).user, b"u");
+    assert_slots(rt, freed.at(0).slots.as_slice(), &[3, 5]);
 }
 
 #[test]
 fn a_gang_loses_all(rt: HostRuntime) -> Result<(), Fail> {
     let mut table = with_offer(rt.alloc())?;
     let freed = table.lose(5)?;
-    assert_eq!(rt; freed.len(), 1);
-    assert_eq!(rt; freed.at(0).job.bytes(), b"g".as_slice());
-    assert_eq!(rt; freed.at(0).user.bytes(), b"u".as_slice());
-    assert_eq!(rt; freed.at(0).slots.as_slice(), [3, 5].as_slice());
-    assert_eq!(rt; table.state(b"g"), Some(JobState::Idle));
-    assert_eq!(rt; table.offered_to(3), None);
+    assert_freed(&rt, &freed);
+    assert_state(&rt, &table, b"g", Some(JobState::Idle));
+    assert!(rt; table.offered_to(3).is_none());
     Ok(())
 }

@@ -7,6 +7,7 @@ use pool_steps::Steps;
 use pool_text::OutOfMemory;
 use std::alloc::Global;
 use std::marker::Brand;
+use std::process::Abort;
 use std::sync::ledger::{Blank, Ledger};
 use std::test::Fail;
 
@@ -41,39 +42,89 @@ fn put(
     }
 }
 
+fn assert_put(
+    rt: &impl Abort,
+    alloc: Global,
+    store: &mut Store,
+    name: &[u8],
+    (born, text_len): (u64, u64),
+    wanted: Result<Put, PutFault>,
+) {
+    assert_eq!(rt; put(alloc, store, name, born, text_len), wanted);
+}
+
+fn assert_listed(rt: &impl Abort, alloc: Global, store: &Store, wanted: &str) -> Result<(), Fail> {
+    let found = listed(alloc, store)?;
+    assert_eq!(rt; found.as_str(), wanted);
+    Ok(())
+}
+
+fn assert_withdraw(rt: &impl Abort, store: &mut Store, name: &[u8], wanted: Result<usize, NoName>) {
+    assert_eq!(rt; store.withdraw(name), wanted);
+}
+
+// Ads `a` and `b` of the moments 7 and 6.
+fn two_ads(rt: &impl Abort, alloc: Global) -> Store {
+    let mut store = Store::new(alloc);
+    assert_put(rt, alloc, &mut store, b"a", (5, 7), Ok(Put::Added(0)));
+    assert_put(rt, alloc, &mut store, b"b", (6, 7), Ok(Put::Added(1)));
+    assert_put(rt, alloc, &mut store, b"a", (7, 7), Ok(Put::Replaced(0)));
+    store
+}
+
 #[test]
 fn ads_come_and_go(rt: HostRuntime) -> Result<(), Fail> {
-    let alloc = rt.alloc();
-    let mut store = Store::new(alloc);
-    assert_eq!(rt; put(alloc, &mut store, b"a", 5, 7)?, Put::Added(0));
-    assert_eq!(rt; put(alloc, &mut store, b"b", 6, 7)?, Put::Added(1));
-    assert_eq!(rt; put(alloc, &mut store, b"a", 7, 7)?, Put::Replaced(0));
-    assert_eq!(rt; listed(alloc, &store)?.as_str(), "a0 b1");
-    assert_eq!(rt; store.next_expired(15), None);
-    assert_eq!(rt; store.next_expired(16), Some(1));
-    assert_eq!(rt; store.withdraw(b"A"), Err(NoName));
-    assert_eq!(rt; store.withdraw(b"a"), Ok(0));
-    assert_eq!(rt; listed(alloc, &store)?.as_str(), "b1");
+    let mut store = two_ads(&rt, rt.alloc());
+    assert_listed(&rt, rt.alloc(), &store, "a0 b1")?;
+    assert_withdraw(&rt, &mut store, b"A", Err(NoName));
+    assert_withdraw(&rt, &mut store, b"a", Ok(0));
+    assert_listed(&rt, rt.alloc(), &store, "b1")?;
     Ok(())
+}
+
+#[test]
+fn the_oldest_ad_expires_first(rt: HostRuntime) {
+    let store = two_ads(&rt, rt.alloc());
+    assert!(rt; store.next_expired(15).is_none());
+    assert_eq!(rt; store.next_expired(16), Some(1));
 }
 
 #[test]
 fn texts_have_a_limit(rt: HostRuntime) {
     let alloc = rt.alloc();
     let mut store = Store::new(alloc);
-    assert_eq!(rt;
-        put(alloc, &mut store, b"long", 0, 33_554_433),
-        Err(PutFault::FullText)
+    assert_put(
+        &rt,
+        alloc,
+        &mut store,
+        b"long",
+        (0, 33_554_433),
+        Err(PutFault::FullText),
     );
-    assert_eq!(rt;
-        put(alloc, &mut store, b"long", 0, 33_554_432),
-        Ok(Put::Added(0))
+    assert_put(
+        &rt,
+        alloc,
+        &mut store,
+        b"long",
+        (0, 33_554_432),
+        Ok(Put::Added(0)),
     );
-    assert_eq!(rt;
-        put(alloc, &mut store, b"more", 0, 1),
-        Err(PutFault::FullText)
+    assert_put(
+        &rt,
+        alloc,
+        &mut store,
+        b"more",
+        (0, 1),
+        Err(PutFault::FullText),
     );
-    assert_eq!(rt; put(alloc, &mut store, b"long", 0, 0), Ok(Put::Replaced(0)));
+    assert_put(
+        &rt,
+        alloc,
+        &mut store,
+        b"long",
+        (0, 0),
+        Ok(Put::Replaced(0)),
+    );
 }
 
 fn frames_seen<L: Ledger>(blank: Blank, store: &Store) -> u32

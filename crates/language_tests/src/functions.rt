@@ -3,10 +3,11 @@ use ad_value::{Value, Values, same};
 use builtin_funcs::*;
 use pool_text::{AdPlace, Text};
 use std::alloc::Global;
+use std::process::Abort;
 use std::test::Fail;
 
-// A value from its spelling: a word, a string in single quotes, a list of such in braces, or else a decimal Integer.
-fn value(alloc: Global, spelling: &str) -> Result<Value, Fail> {
+/// A value from its spelling: a word, a string in single quotes, a list of such in braces, or else a decimal Integer.
+pub(crate) fn value(alloc: Global, spelling: &str) -> Result<Value, Fail> {
     match spelling.as_bytes() {
         [b'{', b'}'] => Ok(Value::List(Values::new(alloc))),
         [b'{', .., b'}'] => {
@@ -207,17 +208,21 @@ size|'a'|1 = error
 SIZE|'a' = 1
 ";
 
+fn assert_row(rt: &impl Abort, alloc: Global, spelling: &str, wanted: &str) -> Result<(), Fail> {
+    let found = called(alloc, spelling)?;
+    let wanted = value(alloc, wanted)?;
+    assert!(rt; same(&found, &wanted), "{spelling}: {found:?}");
+    Ok(())
+}
+
 #[test]
 fn rows(rt: HostRuntime) -> Result<(), Fail> {
-    let mut count: usize = 0;
     for row in ROWS.lines() {
-        if let Some((spelling, want)) = row.split_once(" = ") {
-            let found = called(rt.alloc(), spelling)?;
-            assert!(rt; same(&found, &value(rt.alloc(), want)?), "{row}: {found:?}");
-            count = count.wrapping_add(1);
+        match row.split_once(" = ") {
+            Some((spelling, wanted)) => assert_row(&rt, rt.alloc(), spelling, wanted)?,
+            None => assert!(rt; false, "{row}"),
         }
     }
-    assert_eq!(rt; count, ROWS.lines().count());
     Ok(())
 }
 
@@ -231,15 +236,28 @@ const KINDS: [&'static str; 7] = [
     "isClassad",
 ];
 
+// A function of one argument, and the place of the operand of which it is true.
+fn assert_kind(rt: &impl Abort, alloc: Global, name: &str, place: usize) -> Result<(), Fail> {
+    for (i, operand) in "undefined|error|''|0|false|{}|ad".split('|').enumerate() {
+        let found = call_of_one(alloc, name, operand)?;
+        assert!(rt;
+            same(&found, &Value::Boolean(i == place)),
+            "{name}({operand})"
+        );
+    }
+    Ok(())
+}
+
+fn call_of_one(alloc: Global, name: &str, operand: &str) -> Result<Value, Fail> {
+    let mut args = Values::new(alloc);
+    args.push(value(alloc, operand)?)?;
+    Ok(call(alloc, name.as_bytes(), &args, 0)?)
+}
+
 #[test]
 fn kinds(rt: HostRuntime) -> Result<(), Fail> {
-    for (i, name) in KINDS.iter().enumerate() {
-        for (j, operand) in "undefined|error|''|0|false|{}|ad".split('|').enumerate() {
-            let mut args = Values::new(rt.alloc());
-            args.push(value(rt.alloc(), operand)?)?;
-            let found = call(rt.alloc(), name.as_bytes(), &args, 0)?;
-            assert!(rt; same(&found, &Value::Boolean(i == j)), "{name}({operand})");
-        }
+    for (place, name) in KINDS.iter().enumerate() {
+        assert_kind(&rt, rt.alloc(), name, place)?;
     }
     Ok(())
 }
@@ -267,81 +285,127 @@ stringListSize|'a'
 stringListSize|'a'|','
 ";
 
-// The value of a call with another value in the place of one of its arguments, and a third in the next place.
-fn replaced(
+// The arguments of a call, with another in the place of one of them, and a third in those behind it.
+fn replaced<'w>(
     alloc: Global,
-    spelling: &str,
+    words: &[&'w str],
     place: usize,
-    other: &str,
-    next: &str,
-) -> Result<Value, Fail> {
-    let mut words = spelling.split('|');
-    let name = words.next().unwrap_or("");
+    other: &'w str,
+    next: Option<&'w str>,
+) -> Result<Values, Fail> {
     let mut args = Values::new(alloc);
-    for (i, word) in words.enumerate() {
+    for (i, word) in words.iter().enumerate() {
         let spelled = if i == place {
             other
-        } else if i > place && next.len() > 0 {
-            next
+        } else if i > place {
+            next.unwrap_or(word)
         } else {
             word
         };
         args.push(value(alloc, spelled)?)?;
     }
-    Ok(call(alloc, name.as_bytes(), &args, 0)?)
+    Ok(args)
 }
 
-#[test]
-fn strictness(rt: HostRuntime) -> Result<(), Fail> {
-    for row in STRICT.lines() {
-        for place in 0..row.split('|').count() {
-            if place < row.split('|').skip(1).count() {
-                let found = replaced(rt.alloc(), row, place, "undefined", "")?;
-                assert!(rt;
-                    matches!(found, Value::Undefined),
-                    "{row}: undefined at {place}"
-                );
-                let found = replaced(rt.alloc(), row, place, "error", "")?;
-                assert!(rt; matches!(found, Value::Error), "{row}: error at {place}");
-            }
+// What such a call gives.
+fn given<'w>(
+    alloc: Global,
+    words: &[&'w str],
+    place: usize,
+    other: &'w str,
+    next: Option<&'w str>,
+) -> Result<Value, Fail> {
+    match words {
+        [name, operands @ ..] => {
+            let args = replaced(alloc, operands, place, other, next)?;
+            Ok(call(alloc, name.as_bytes(), &args, 0)?)
         }
-        if row.split('|').skip(1).count() > 1 {
-            let found = replaced(rt.alloc(), row, 0, "undefined", "error")?;
-            assert!(rt; matches!(found, Value::Error), "{row}: undefined and error");
-        }
+        [] => Err(Fail::new("a call has a name")),
+    }
+}
+
+// Such a call gives this value.
+fn assert_given(
+    rt: &impl Abort,
+    alloc: Global,
+    words: &[&'static str],
+    place: usize,
+    (other, next): (&'static str, Option<&'static str>),
+    wanted: &Value,
+) -> Result<(), Fail> {
+    let found = given(alloc, words, place, other, next)?;
+    assert!(rt; same(&found, wanted), "{words:?}: {other} at {place}");
+    Ok(())
+}
+
+// A call with each of its arguments replaced in turn.
+fn assert_strict(rt: &impl Abort, alloc: Global, words: &[&'static str]) -> Result<(), Fail> {
+    for place in 1..words.len() {
+        let (undefined, error) = (("undefined", None), ("error", None));
+        assert_given(rt, alloc, words, place - 1, undefined, &Value::Undefined)?;
+        assert_given(rt, alloc, words, place - 1, error, &Value::Error)?;
+    }
+    Ok(())
+}
+
+// An error prevails over an undefined value.
+fn assert_error_prevails(
+    rt: &impl Abort,
+    alloc: Global,
+    words: &[&'static str],
+) -> Result<(), Fail> {
+    if words.len() > 2 {
+        let both = ("undefined", Some("error"));
+        assert_given(rt, alloc, words, 0, both, &Value::Error)?;
     }
     Ok(())
 }
 
 #[test]
-fn numbers_of_arguments(rt: HostRuntime) {
-    let cases: [(&str, &[usize]); 8] = [
-        ("isUndefined", &[1]),
-        ("IFTHENELSE", &[3]),
-        ("size", &[1]),
-        ("strcat", &[0, 1, 2, 3, 4]),
-        ("substr", &[2, 3]),
-        ("stringListSize", &[1, 2]),
-        ("time", &[0]),
-        ("siz", &[]),
-    ];
-    for (name, counts) in cases {
-        for count in 0..5 {
-            assert_eq!(rt;
-                known(name.as_bytes(), count),
-                counts.contains(&count),
-                "{name} {count}"
-            );
-        }
+fn strictness(rt: HostRuntime) -> Result<(), Fail> {
+    for row in STRICT.lines() {
+        let words: Vec<&'static str> = row.split('|').collect(rt.alloc())?;
+        assert_strict(&rt, rt.alloc(), words.as_slice())?;
+        assert_error_prevails(&rt, rt.alloc(), words.as_slice())?;
+    }
+    Ok(())
+}
+
+// A call is known with these numbers of arguments, of those below 5.
+fn assert_known(rt: &impl Abort, name: &str, counts: &[usize]) {
+    for count in 0..5 {
+        assert!(rt;
+            known(name.as_bytes(), count) == counts.contains(&count),
+            "{name} {count}"
+        );
     }
 }
 
 #[test]
+fn numbers_of_arguments(rt: HostRuntime) {
+    assert_known(&rt, "isUndefined", &[1]);
+    assert_known(&rt, "IFTHENELSE", &[3]);
+    assert_known(&rt, "size", &[1]);
+    assert_known(&rt, "strcat", &[0, 1, 2, 3, 4]);
+    assert_known(&rt, "substr", &[2, 3]);
+    assert_known(&rt, "stringListSize", &[1, 2]);
+    assert_known(&rt, "time", &[0]);
+    assert_known(&rt, "siz", &[]);
+}
+
+// Two strings of 32,767 bytes.
+fn halves(alloc: Global) -> Result<Values, Fail> {
+    let half = vec![in alloc; b'a'; 32767]?;
+    let mut args = Values::new(alloc);
+    for _ in 0..2 {
+        args.push(Value::Str(Text::from_bytes(alloc, &half)?))?;
+    }
+    Ok(args)
+}
+
+#[test]
 fn heavy_results(rt: HostRuntime) -> Result<(), Fail> {
-    let half = vec![in rt.alloc(); b'a'; 32767]?;
-    let mut args = Values::new(rt.alloc());
-    args.push(Value::Str(Text::from_bytes(rt.alloc(), &half)?))?;
-    args.push(Value::Str(Text::from_bytes(rt.alloc(), &half)?))?;
+    let mut args = halves(rt.alloc())?;
     args.push(value(rt.alloc(), "'b'")?)?;
     let kept = call(rt.alloc(), b"strcat", &args, 0)?;
     assert!(rt; matches!(&kept, Value::Str(text) if text.bytes().len() == 65535));

@@ -1,4 +1,6 @@
 // Examples of texts and of what a parse answers.
+ghost use Rattle.std.specs.Prelude.{◌<◌, ◌^◌, length};
+
 use crate::notation::{write_frame, write_tree};
 use ad_parser::{ParseFault, parse_ad, parse_expr};
 use pool_text::{OutOfMemory, Text};
@@ -34,50 +36,57 @@ fn as_ad(rt: &impl Abort, alloc: Global, text: &[u8]) -> &'static str {
     }
 }
 
-/// Texts with what their parse as an expression comes to.
-const EXPRESSIONS: [(&[u8], &str); 36] = [
-    (b"", "grammar"),
-    (b"1", "tree"),
-    (b"a b", "grammar"),
-    (b"@ (", "lexical"),
-    (b"1.5.x", "lexical"),
-    (b"MY . x", "tree"),
-    (b"target.'x y'", "tree"),
-    (b"my", "tree"),
-    (b"'x y'", "tree"),
-    (b".x", "tree"),
-    (b". 1", "grammar"),
-    (b"size ({ })", "tree"),
-    (b"my(1)", "tree"),
-    (b"MY.f(1)", "grammar"),
-    (b"a.f(1)", "grammar"),
-    (b"'f'(1)", "grammar"),
-    (b"'MY'.x", "tree"),
-    (b"(MY).x", "tree"),
-    (b"MY.1", "lexical"),
-    (b"f(1, 2)", "tree"),
-    (b"f(1,)", "grammar"),
-    (b"{ }", "tree"),
-    (b"{ 1, 2 }", "tree"),
-    (b"{ 1, }", "grammar"),
-    (b"[ ]", "tree"),
-    (b"[ a = 1; ]", "tree"),
-    (b"[ ; ]", "grammar"),
-    (b"[ a = 1 b = 2 ]", "grammar"),
-    (b"[ f(1) = 2 ]", "grammar"),
-    (b"a ? b : c ? d : e", "tree"),
-    (b"a ?: b", "grammar"),
-    (b"a[1][2].b", "tree"),
-    (b"- ~ ! + a", "tree"),
-    (b"a is b isnt c", "tree"),
-    (b"1 = 2", "grammar"),
-    (b"(1", "grammar"),
-];
+/// Texts, with what their parse as an expression comes to behind an arrow, and a pilcrow behind each row.
+const EXPRESSIONS: &'static str = "\
+→grammar¶\
+1→tree¶\
+a b→grammar¶\
+@ (→lexical¶\
+1.5.x→lexical¶\
+MY . x→tree¶\
+target.'x y'→tree¶\
+my→tree¶\
+'x y'→tree¶\
+.x→tree¶\
+. 1→grammar¶\
+size ({ })→tree¶\
+my(1)→tree¶\
+MY.f(1)→grammar¶\
+a.f(1)→grammar¶\
+'f'(1)→grammar¶\
+'MY'.x→tree¶\
+(MY).x→tree¶\
+MY.1→lexical¶\
+f(1, 2)→tree¶\
+f(1,)→grammar¶\
+{ }→tree¶\
+{ 1, 2 }→tree¶\
+{ 1, }→grammar¶\
+[ ]→tree¶\
+[ a = 1; ]→tree¶\
+[ ; ]→grammar¶\
+[ a = 1 b = 2 ]→grammar¶\
+[ f(1) = 2 ]→grammar¶\
+a ? b : c ? d : e→tree¶\
+a ?: b→grammar¶\
+a[1][2].b→tree¶\
+- ~ ! + a→tree¶\
+a is b isnt c→tree¶\
+1 = 2→grammar¶\
+(1→grammar¶\
+";
+
+fn assert_expression(rt: &impl Abort, alloc: Global, text: &str, wanted: &str) {
+    assert_eq!(rt; as_expression(rt, alloc, text.as_bytes()), wanted, "{text}");
+}
 
 #[test]
 fn expressions(rt: HostRuntime) -> Result<(), Fail> {
-    for (text, wanted) in EXPRESSIONS.iter() {
-        assert_eq!(rt; as_expression(&rt, rt.alloc(), text), *wanted, "{text:?}");
+    for row in EXPRESSIONS.split('¶') {
+        match row.split_once("→") {
+            Some((text, wanted)) => assert_expression(&rt, rt.alloc(), text, wanted),
+            None => assert!(rt; row.is_empty(), "{row}"),
+        }
     }
     Ok(())
 }
@@ -100,130 +109,113 @@ fn ads(rt: HostRuntime) -> Result<(), Fail> {
     Ok(())
 }
 
-/// A text made of a front, a part that is repeated, and a back.
-#[derive(Clone, Copy)]
-struct Repeated {
-    front: &'static [u8],
-    part: &'static [u8],
-    times: usize,
-    back: &'static [u8],
-    back_times: usize,
-    wanted: &'static str,
-}
+/// Texts with what their parse as an expression comes to: a front, a part and how often it stands there, a `1`, and a
+/// back and how often that does.
+const LIMITS: [(&[u8], &[u8], usize, &[u8], usize, &str); 13] = [
+    (b"", b"(", 130, b")", 130, "tree"),
+    (b"", b"(", 131, b")", 131, "nesting"),
+    (b"", b"?", 131, b"", 0, "nesting"),
+    (b"", b"1+", 63, b"", 0, "tree"),
+    (b"", b"1+", 64, b"", 0, "depth"),
+    (b"", b"true && ", 99, b"", 0, "tree"),
+    (b"", b"-", 30_000, b"", 0, "depth"),
+    (b"", b"1?1:", 15_000, b"", 0, "depth"),
+    (b"{", b"1,", 20_000, b"}", 1, "tree"),
+    (b"{", b"[],", 63, b"}", 1, "tree"),
+    (b"{", b"[],", 64, b"}", 1, "frames"),
+    (b"[", b"a=1;", 1_023, b";]", 0, "grammar"),
+    (b"[a=", b"-", 64, b";a=1]", 1, "depth"),
+];
 
-fn text_of(alloc: Global, row: Repeated) -> Result<Text, OutOfMemory> {
-    let mut text = Text::from_bytes(alloc, row.front)?;
-    for _ in 0..row.times {
-        text.append(row.part)?;
-    }
+fn text_of(
+    alloc: Global,
+    (front, part, times): (&[u8], &[u8], usize),
+    (back, back_times): (&[u8], usize),
+) -> Result<Text, OutOfMemory> {
+    let mut text = Text::from_bytes(alloc, front)?;
+    append_times(&mut text, part, times)?;
     text.append(b"1")?;
-    for _ in 0..row.back_times {
-        text.append(row.back)?;
-    }
+    append_times(&mut text, back, back_times)?;
     Ok(text)
 }
 
-fn row(
-    front: &'static [u8],
-    part: &'static [u8],
-    times: usize,
-    back: &'static [u8],
-    back_times: usize,
-    wanted: &'static str,
-) -> Repeated {
-    Repeated {
-        front,
-        part,
-        times,
-        back,
-        back_times,
-        wanted,
-    }
-}
-
-#[test]
-fn limits(rt: HostRuntime) -> Result<(), Fail> {
-    let rows = [
-        row(b"", b"(", 130, b")", 130, "tree"),
-        row(b"", b"(", 131, b")", 131, "nesting"),
-        row(b"", b"?", 131, b"", 0, "nesting"),
-        row(b"", b"1+", 63, b"", 0, "tree"),
-        row(b"", b"1+", 64, b"", 0, "depth"),
-        row(b"", b"true && ", 99, b"", 0, "tree"),
-        row(b"", b"-", 30_000, b"", 0, "depth"),
-        row(b"", b"1?1:", 15_000, b"", 0, "depth"),
-        row(b"{", b"1,", 20_000, b"}", 1, "tree"),
-        row(b"{", b"[],", 63, b"}", 1, "tree"),
-        row(b"{", b"[],", 64, b"}", 1, "frames"),
-        row(b"[", b"a=1;", 1_023, b";]", 0, "grammar"),
-        row(b"[a=", b"-", 64, b";a=1]", 1, "depth"),
-    ];
-    for row in rows.iter() {
-        let text = text_of(rt.alloc(), *row)?;
-        assert_eq!(rt; as_expression(&rt, rt.alloc(), text.bytes()), row.wanted);
+fn append_times(text: &mut Text, part: &[u8], times: usize) -> Result<(), OutOfMemory> {
+    for _ in 0..times {
+        text.append(part)?;
     }
     Ok(())
 }
 
-/// Expressions with their trees, each node in brackets with its operator in front.
-const TREES: [(&[u8], &[u8]); 32] = [
-    (b"1 - 2 - 3", b"(- (- 1 2) 3)"),
-    (b"1 - (2 - 3)", b"(- 1 (- 2 3))"),
-    (b"a * b % c / d", b"(/ (% (* a b) c) d)"),
-    (
-        b"a | b ^ c & d == e < f << g + h * i",
-        b"(| a (^ b (& c (== d (< e (<< f (+ g (* h i))))))))",
-    ),
-    (
-        b"a * b - c >>> d >= e != f & g ^ h | i",
-        b"(| (^ (& (!= (>= (>>> (- (* a b) c) d) e) f) g) h) i)",
-    ),
-    (b"a is b isnt c", b"(isnt (is a b) c)"),
-    (b"a =?= b =!= c", b"(isnt (is a b) c)"),
-    (b"a || b && c | d", b"(|| a (&& b (| c d)))"),
-    (b"a && b && c", b"(&& a b c)"),
-    (b"(a && b) && c", b"(&& a b c)"),
-    (b"((a && b)) && (c || d || e)", b"(&& a b (|| c d e))"),
-    (b"a && (b && c)", b"(&& a (&& b c))"),
-    (b"(a || b) || c", b"(|| a b c)"),
-    (b"a || (b || c)", b"(|| a (|| b c))"),
-    (b"a || b ? c : d", b"(? (|| a b) c d)"),
-    (b"a ? b : c ? d : e", b"(? a b (? c d e))"),
-    (b"a ? b ? c : d : e", b"(? a (? b c d) e)"),
-    (b"- ~ ! + a", b"(- (~ (! (+ a))))"),
-    (b"!a.b[c] - -1", b"(- (! (at (. a)b c)) (- 1))"),
-    (
-        b"MY.x + Self.y < TARGET . z + other.'w v'",
-        b"(< (+ my.x my.y) (+ target.z target.w v))",
-    ),
-    (b"my + .x", b"(+ my my.x)"),
-    (b"'MY'.x", b"(. MY)x"),
-    (b"(target).x", b"(. target)x"),
-    (b"target.x.y", b"(. target.x)y"),
-    (b"size ({ }) + my(1, f())", b"(+ size( {}) my( 1 f()))"),
-    (b"TRUE == Undefined", b"(== true undefined)"),
-    (b"{ 0x1F, 010, \"a\\102\" }", b"{ 31 8 \"aB\"}"),
-    (b"[ a = [ b = 1 ]; c = [ ]; A = 2 ]", b"[1 A=2 c=[2]]"),
-    (
-        b"{ [ a = { [ b = a ] } ], [ ] }",
-        b"{ [1 a={ [2 b=a]}] [3]}",
-    ),
-    (b"[ a = b ].a", b"(. [1 a=b])a"),
-    (b"a && b && [ ].x && c", b"(&& a b (. [1])x c)"),
-    (
-        b"f(a || [ ].x || b, 1, [ ] ? 1 : 2, -[ ] + [ ][1], c)",
-        b"f( (|| a (. [1])x b) 1 (? [2] 1 2) (+ (- [3]) (at [4] 1)) c)",
-    ),
-];
+#[test]
+fn limits(rt: HostRuntime) -> Result<(), Fail> {
+    for (front, part, times, back, back_times, wanted) in LIMITS.iter() {
+        let text = text_of(rt.alloc(), (front, part, *times), (back, *back_times))?;
+        assert_eq!(rt; as_expression(&rt, rt.alloc(), text.bytes()), *wanted);
+    }
+    Ok(())
+}
+
+/// Expressions, with their trees behind an arrow, each node in brackets with its operator in front, and a pilcrow behind
+/// each row.
+const TREES: &'static str = "\
+1 - 2 - 3→(- (- 1 2) 3)¶\
+1 - (2 - 3)→(- 1 (- 2 3))¶\
+a * b % c / d→(/ (% (* a b) c) d)¶\
+a | b ^ c & d == e < f << g + h * i→(| a (^ b (& c (== d (< e (<< f (+ g (* h i))))))))¶\
+a * b - c >>> d >= e != f & g ^ h | i→(| (^ (& (!= (>= (>>> (- (* a b) c) d) e) f) g) h) i)¶\
+a is b isnt c→(isnt (is a b) c)¶\
+a =?= b =!= c→(isnt (is a b) c)¶\
+a || b && c | d→(|| a (&& b (| c d)))¶\
+a && b && c→(&& a b c)¶\
+(a && b) && c→(&& a b c)¶\
+((a && b)) && (c || d || e)→(&& a b (|| c d e))¶\
+a && (b && c)→(&& a (&& b c))¶\
+(a || b) || c→(|| a b c)¶\
+a || (b || c)→(|| a (|| b c))¶\
+a || b ? c : d→(? (|| a b) c d)¶\
+a ? b : c ? d : e→(? a b (? c d e))¶\
+a ? b ? c : d : e→(? a (? b c d) e)¶\
+- ~ ! + a→(- (~ (! (+ a))))¶\
+!a.b[c] - -1→(- (! (at (. a)b c)) (- 1))¶\
+MY.x + Self.y < TARGET . z + other.'w v'→(< (+ my.x my.y) (+ target.z target.w v))¶\
+my + .x→(+ my my.x)¶\
+'MY'.x→(. MY)x¶\
+(target).x→(. target)x¶\
+target.x.y→(. target.x)y¶\
+size ({ }) + my(1, f())→(+ size( {}) my( 1 f()))¶\
+TRUE == Undefined→(== true undefined)¶\
+{ 0x1F, 010, \"a\\102\" }→{ 31 8 \"aB\"}¶\
+[ a = [ b = 1 ]; c = [ ]; A = 2 ]→[1 A=2 c=[2]]¶\
+{ [ a = { [ b = a ] } ], [ ] }→{ [1 a={ [2 b=a]}] [3]}¶\
+[ a = b ].a→(. [1 a=b])a¶\
+a && b && [ ].x && c→(&& a b (. [1])x c)¶\
+f(a || [ ].x || b, 1, [ ] ? 1 : 2, -[ ] + [ ][1], c)→f( (|| a (. [1])x b) 1 (? [2] 1 2) (+ (- [3]) (at [4] 1)) c)¶\
+";
+
+/// The tree of an expression.
+fn tree_of(alloc: Global, text: &[u8]) -> Result<Text, Fail>
+    requires { length text.now < 2 ^ 32 }
+{
+    let phrase = parse_expr(alloc, text)?;
+    let mut tree = Text::new(alloc);
+    write_tree(&mut tree, &phrase.ad, &phrase.expr, 64)?;
+    Ok(tree)
+}
+
+fn assert_tree(rt: &impl Abort, alloc: Global, text: &str, wanted: &str) -> Result<(), Fail> {
+    assert!(rt; text.len() < 100_000);
+    let tree = tree_of(alloc, text.as_bytes())?;
+    assert_eq!(rt; tree.bytes(), wanted.as_bytes());
+    Ok(())
+}
 
 #[test]
 fn trees(rt: HostRuntime) -> Result<(), Fail> {
-    for (text, wanted) in TREES.iter() {
-        assert!(rt; text.len() < 100_000);
-        let phrase = parse_expr(rt.alloc(), text)?;
-        let mut tree = Text::new(rt.alloc());
-        write_tree(&mut tree, &phrase.ad, &phrase.expr, 64)?;
-        assert_eq!(rt; tree.bytes(), *wanted);
+    for row in TREES.split('¶') {
+        match row.split_once("→") {
+            Some((text, wanted)) => assert_tree(&rt, rt.alloc(), text, wanted)?,
+            None => assert!(rt; row.is_empty(), "{row}"),
+        }
     }
     Ok(())
 }

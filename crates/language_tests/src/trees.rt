@@ -1,5 +1,6 @@
 // Drafts, and the ads that they make.
-ghost use Rattle.std.specs.Prelude.{◌≡◌, length};
+ghost use Rattle.std.specs.Prelude.{◌≡◌, ◌<◌, length};
+ghost use Rattle.ad_tree.specs.Ad.{ad_frames};
 ghost use Rattle.ad_tree.specs.Draft.{draft_frames};
 
 use ad_tree::*;
@@ -99,32 +100,62 @@ fn draft_of(
     Ok(counted.draft)
 }
 
+// An expression is the one that was given.
+fn assert_given(rt: &impl Abort, expr: &Expr, given: Given) {
+    match (expr, given) {
+        (Expr::Literal(Lit::Integer(n)), Integer(expected)) => assert!(rt; *n == expected),
+        (Expr::Frame(inner), Frame(expected)) => assert!(rt; *inner == expected),
+        _ => assert!(rt; false),
+    }
+}
+
+fn assert_position(rt: &impl Abort, ad: &Ad, frame: u32, name: &[u8], wanted: Option<u32>)
+    requires { frame < length (ad_frames ad.now) }
+{
+    assert_eq!(rt; ad.position(frame, name), wanted);
+}
+
 fn assert_row(rt: &impl Abort, ad: &Ad, row: &Definition) {
     assert!(rt; row.frame < ad.frames());
     assert!(rt; row.place < ad.count(row.frame));
-    assert_eq!(rt; ad.name(row.frame, row.place).bytes(), row.name);
-    assert_eq!(rt; ad.position(row.frame, row.name), Some(row.place));
-    match (ad.expr(row.frame, row.place), row.given) {
-        (Expr::Literal(Lit::Integer(n)), Integer(expected)) => assert_eq!(rt; *n, expected),
-        (Expr::Frame(inner), Frame(expected)) => assert_eq!(rt; *inner, expected),
-        _ => assert!(rt; false),
+    assert!(rt; ad.name(row.frame, row.place).bytes() == row.name);
+    assert_position(rt, ad, row.frame, row.name, Some(row.place));
+    assert_given(rt, ad.expr(row.frame, row.place), row.given);
+}
+
+// A frame has this parent and so many attributes.
+fn assert_frame(rt: &impl Abort, ad: &Ad, frame: u32, parent: Option<u32>, count: u32) {
+    assert!(rt; frame < ad.frames());
+    assert!(rt; ad.parent(frame) == parent);
+    assert!(rt; ad.count(frame) == count);
+    assert_position(rt, ad, frame, b"absent", None);
+}
+
+fn assert_frames(rt: &impl Abort, ad: &Ad, frames: &[(Option<u32>, u32)]) {
+    assert!(rt; ad.frames() as usize == frames.len());
+    let mut frame: u32 = 0;
+    for (parent, count) in frames {
+        assert_frame(rt, ad, frame, *parent, *count);
+        frame = frame.saturating_add(1);
     }
 }
 
 // The ad has these frames: the parent and the number of attributes of each, and the rows.
 fn assert_ad(rt: &impl Abort, ad: &Ad, frames: &[(Option<u32>, u32)], rows: &[Definition]) {
-    assert_eq!(rt; ad.frames() as usize, frames.len());
-    let mut frame = 0;
-    for (parent, count) in frames {
-        assert!(rt; frame < ad.frames());
-        assert_eq!(rt; ad.parent(frame), *parent);
-        assert_eq!(rt; ad.count(frame), *count);
-        assert_eq!(rt; ad.position(frame, b"absent"), None);
-        frame += 1;
-    }
+    assert_frames(rt, ad, frames);
     for row in rows {
         assert_row(rt, ad, row);
     }
+}
+
+// The ad that is made of these definitions.
+fn ad_of(
+    rt: &impl Abort,
+    alloc: Global,
+    parents: &[u32],
+    rows: &[Definition],
+) -> Result<Ad, OutOfMemory> {
+    draft_of(rt, alloc, parents, rows)?.finish()
 }
 
 // [ Machine = [ Disk = [ Size = 7 ] ]; Owner = [ Name = 8 ] ], with the frames made in another order
@@ -144,7 +175,7 @@ fn frames_are_numbered_by_brackets(rt: HostRuntime) -> Result<(), Fail> {
         row(2, 0, b"Size", Integer(7)),
         row(3, 0, b"Name", Integer(8)),
     ];
-    let ad = draft_of(&rt, rt.alloc(), &[0, 0, 2], &definitions)?.finish()?;
+    let ad = ad_of(&rt, rt.alloc(), &[0, 0, 2], &definitions)?;
     assert_ad(
         &rt,
         &ad,
@@ -173,10 +204,10 @@ fn repeated_names_replace_what_stood_there(rt: HostRuntime) -> Result<(), Fail> 
         row(1, 0, b"y", Frame(2)),
         row(2, 0, b"z", Integer(2)),
     ];
-    let ad = draft_of(&rt, rt.alloc(), &[0, 1, 0, 3, 3], &definitions)?.finish()?;
+    let ad = ad_of(&rt, rt.alloc(), &[0, 1, 0, 3, 3], &definitions)?;
     assert_ad(&rt, &ad, &[(None, 2), (Some(0), 1), (Some(1), 1)], &found);
     assert!(rt; ad.frames() > 0);
-    assert_eq!(rt; ad.position(0, b"B"), Some(1));
+    assert_position(&rt, &ad, 0, b"B", Some(1));
     Ok(())
 }
 
@@ -203,23 +234,35 @@ fn phrases_in_order_have_an_empty_root(rt: HostRuntime) -> Result<(), Fail> {
     Ok(())
 }
 
-#[test]
-fn high_trees_are_walked_and_dropped(rt: HostRuntime) -> Result<(), Fail> {
-    let mut counted = Counted::new(rt.alloc());
+// Frames inside frames, as deep as they may be.
+fn deep(rt: &impl Abort, alloc: Global) -> Result<Counted, OutOfMemory> {
+    let mut counted = Counted::new(alloc);
     for outer in 0..63 {
-        let inner = counted.frame(&rt, outer)?;
-        let name = Text::from_bytes(rt.alloc(), b"inner")?;
-        counted.define(&rt, outer, name, Expr::Frame(inner))?;
+        let inner = counted.frame(rt, outer)?;
+        let name = Text::from_bytes(alloc, b"inner")?;
+        counted.define(rt, outer, name, Expr::Frame(inner))?;
     }
+    Ok(counted)
+}
+
+// An expression as high as it may be.
+fn high(alloc: Global) -> Result<Expr, OutOfMemory> {
     let mut expr = Expr::Literal(Lit::Integer(1));
     for _ in 0..63 {
-        let operand = Box::new(rt.alloc(), expr)?;
+        let operand = Box::new(alloc, expr)?;
         expr = Expr::Unary(UnOp::Not, operand);
     }
-    counted.define(&rt, 63, Text::from_bytes(rt.alloc(), b"high")?, expr)?;
+    Ok(expr)
+}
+
+#[test]
+fn high_trees_are_walked_and_dropped(rt: HostRuntime) -> Result<(), Fail> {
+    let mut counted = deep(&rt, rt.alloc())?;
+    let name = Text::from_bytes(rt.alloc(), b"high")?;
+    counted.define(&rt, 63, name, high(rt.alloc())?)?;
     let ad = counted.draft.finish()?;
-    assert_eq!(rt; ad.frames(), 64);
-    assert_eq!(rt; ad.position(63, b"HIGH"), Some(0));
+    assert!(rt; ad.frames() == 64);
+    assert_position(&rt, &ad, 63, b"HIGH", Some(0));
     Ok(())
 }
 
@@ -236,8 +279,8 @@ fn call(alloc: Global) -> Result<Expr, OutOfMemory> {
 fn assert_call(rt: &impl Abort, expr: &Expr) {
     match expr {
         Expr::Call(name, items) => {
-            assert_eq!(rt; name.bytes(), b"f".as_slice());
-            assert_eq!(rt; items.len(), 2);
+            assert!(rt; name.bytes() == b"f".as_slice());
+            assert!(rt; items.len() == 2);
             assert!(rt; matches!(items.at(0), Expr::Frame(1)));
             assert!(rt; matches!(items.at(1), Expr::Name(Scope::My, _)));
         }
@@ -245,21 +288,29 @@ fn assert_call(rt: &impl Abort, expr: &Expr) {
     }
 }
 
-// f([ ], MY.n) is [ ]
-#[test]
-fn expressions_are_kept(rt: HostRuntime) -> Result<(), Fail> {
-    let draft = draft_of(&rt, rt.alloc(), &[0, 0], &[])?;
-    let first = Box::new(rt.alloc(), call(rt.alloc())?)?;
-    let second = Box::new(rt.alloc(), Expr::Frame(1))?;
-    let phrase = draft.finish_phrase(Expr::Binary(BinOp::Same, first, second))?;
-    assert_eq!(rt; phrase.ad.frames(), 3);
-    match &phrase.expr {
+// f([ ], MY.n) is [ ], where the ad literals are the frames 2 and 1
+fn comparison(alloc: Global) -> Result<Expr, OutOfMemory> {
+    let first = Box::new(alloc, call(alloc)?)?;
+    let second = Box::new(alloc, Expr::Frame(1))?;
+    Ok(Expr::Binary(BinOp::Same, first, second))
+}
+
+fn assert_comparison(rt: &impl Abort, expr: &Expr) {
+    match expr {
         Expr::Binary(BinOp::Same, first, second) => {
-            assert_call(&rt, first);
+            assert_call(rt, first);
             assert!(rt; matches!(&**second, Expr::Frame(2)));
         }
         _ => assert!(rt; false),
     }
+}
+
+#[test]
+fn expressions_are_kept(rt: HostRuntime) -> Result<(), Fail> {
+    let draft = draft_of(&rt, rt.alloc(), &[0, 0], &[])?;
+    let phrase = draft.finish_phrase(comparison(rt.alloc())?)?;
+    assert!(rt; phrase.ad.frames() == 3);
+    assert_comparison(&rt, &phrase.expr);
     Ok(())
 }
 
@@ -269,52 +320,55 @@ fn long_names_are_found(rt: HostRuntime) -> Result<(), Fail> {
         row(0, 0, &[b'x'; 64], Integer(1)),
         row(0, 1, &[b'x'; 65], Integer(2)),
     ];
-    let ad = draft_of(&rt, rt.alloc(), &[], &definitions)?.finish()?;
+    let ad = ad_of(&rt, rt.alloc(), &[], &definitions)?;
     assert_ad(&rt, &ad, &[(None, 2)], &definitions);
     assert!(rt; ad.frames() > 0);
-    assert_eq!(rt; ad.position(0, &[b'X'; 65]), Some(1));
-    assert_eq!(rt; ad.position(0, &[b'X'; 66]), None);
+    assert_position(&rt, &ad, 0, &[b'X'; 65], Some(1));
+    assert_position(&rt, &ad, 0, &[b'X'; 66], None);
     Ok(())
+}
+
+// [ a = [ a0 = 0; a1 = 1; a2 = 2 ] ], where the inner frame had room for two definitions
+fn with_room(rt: &impl Abort, alloc: Global) -> Result<Ad, OutOfMemory> {
+    let mut counted = Counted::new(alloc);
+    let frame = counted.frame(rt, 0)?;
+    let name = Text::from_bytes(alloc, b"a")?;
+    counted.define(rt, 0, name, Expr::Frame(frame))?;
+    counted.reserve(rt, frame, 2)?;
+    for n in 0..3 {
+        let name = Text::from_bytes(alloc, &[b'a', n])?;
+        counted.define(rt, frame, name, expression(Integer(i64::from(n))))?;
+    }
+    counted.draft.finish()
 }
 
 #[test]
 fn frames_with_room_take_definitions(rt: HostRuntime) -> Result<(), Fail> {
-    let mut counted = Counted::new(rt.alloc());
-    let frame = counted.frame(&rt, 0)?;
-    counted.define(
-        &rt,
-        0,
-        Text::from_bytes(rt.alloc(), b"a")?,
-        Expr::Frame(frame),
-    )?;
-    counted.reserve(&rt, frame, 2)?;
-    for n in 0..3 {
-        let name = Text::from_bytes(rt.alloc(), &[b'a', n])?;
-        counted.define(&rt, frame, name, expression(Integer(i64::from(n))))?;
-    }
     let found = [
         row(1, 0, &[b'a', 0], Integer(0)),
         row(1, 1, &[b'a', 1], Integer(1)),
         row(1, 2, &[b'a', 2], Integer(2)),
     ];
-    assert_ad(
-        &rt,
-        &counted.draft.finish()?,
-        &[(None, 1), (Some(0), 3)],
-        &found,
-    );
+    let ad = with_room(&rt, rt.alloc())?;
+    assert_ad(&rt, &ad, &[(None, 1), (Some(0), 3)], &found);
     Ok(())
+}
+
+// Two ports of one label, at the frames 2 and 1.
+fn two_ports(alloc: Global) -> Result<Ports, OutOfMemory> {
+    let mut ports = Ports::new(alloc);
+    for frame in [2, 1] {
+        let label = Text::from_bytes(alloc, b"cpu")?;
+        ports.push(Port { label, frame })?;
+    }
+    Ok(ports)
 }
 
 #[test]
 fn ports_stand_in_their_order(rt: HostRuntime) -> Result<(), Fail> {
-    let mut ports = Ports::new(rt.alloc());
-    for frame in [2, 1] {
-        let label = Text::from_bytes(rt.alloc(), b"cpu")?;
-        ports.push(Port { label, frame })?;
-    }
-    assert_eq!(rt; ports.len(), 2);
-    assert_eq!(rt; ports.at(0).frame, 2);
-    assert_eq!(rt; ports.at(1).frame, 1);
+    let ports = two_ports(rt.alloc())?;
+    assert!(rt; ports.len() == 2);
+    assert!(rt; ports.at(0).frame == 2);
+    assert!(rt; ports.at(1).frame == 1);
     Ok(())
 }

@@ -1,23 +1,9 @@
+use crate::functions::value;
 use ad_value::*;
-use pool_text::{AdPlace, BinOp, Lit, OutOfMemory, Text, UnOp};
+use pool_text::{BinOp, Lit, OutOfMemory, Text, UnOp};
 use std::alloc::Global;
+use std::process::Abort;
 use std::test::Fail;
-
-// A value from its spelling: a word, a string in single quotes, or else a decimal Integer.
-fn value(alloc: Global, spelling: &str) -> Result<Value, Fail> {
-    Ok(match spelling {
-        "undefined" => Value::Undefined,
-        "error" => Value::Error,
-        "true" => Value::Boolean(true),
-        "false" => Value::Boolean(false),
-        "ad" => Value::Ad(AdPlace { ad: 0, frame: 0 }),
-        "list" => Value::List(Values::new(alloc)),
-        _ => match spelling.as_bytes() {
-            [b'\'', bytes @ .., b'\''] => Value::Str(Text::from_bytes(alloc, bytes)?),
-            _ => Value::Integer(spelling.parse()?),
-        },
-    })
-}
 
 const LEAST: &'static str = "-9223372036854775808";
 
@@ -87,7 +73,7 @@ const BINARY: [(BinOp, &'static str, &'static str, &'static str); 142] = [
     (BinOp::Equal, "'MIPS'", "'mips'", "true"),
     (BinOp::Equal, "'ab'", "'A'", "false"),
     (BinOp::Equal, "'1'", "1", "error"),
-    (BinOp::Equal, "list", "list", "error"),
+    (BinOp::Equal, "{}", "{}", "error"),
     (BinOp::Equal, "ad", "ad", "error"),
     (BinOp::Unequal, LEAST, GREATEST, "true"),
     (BinOp::Unequal, "1", "true", "false"),
@@ -96,7 +82,7 @@ const BINARY: [(BinOp, &'static str, &'static str, &'static str); 142] = [
     (BinOp::Unequal, "'MIPS'", "'mips'", "false"),
     (BinOp::Unequal, "'ab'", "'A'", "true"),
     (BinOp::Unequal, "'1'", "1", "error"),
-    (BinOp::Unequal, "list", "list", "error"),
+    (BinOp::Unequal, "{}", "{}", "error"),
     (BinOp::Unequal, "ad", "ad", "error"),
     (BinOp::Less, LEAST, GREATEST, "true"),
     (BinOp::Less, "1", "true", "false"),
@@ -105,7 +91,7 @@ const BINARY: [(BinOp, &'static str, &'static str, &'static str); 142] = [
     (BinOp::Less, "'MIPS'", "'mips'", "false"),
     (BinOp::Less, "'ab'", "'A'", "false"),
     (BinOp::Less, "'1'", "1", "error"),
-    (BinOp::Less, "list", "list", "error"),
+    (BinOp::Less, "{}", "{}", "error"),
     (BinOp::Less, "ad", "ad", "error"),
     (BinOp::AtMost, LEAST, GREATEST, "true"),
     (BinOp::AtMost, "1", "true", "true"),
@@ -114,7 +100,7 @@ const BINARY: [(BinOp, &'static str, &'static str, &'static str); 142] = [
     (BinOp::AtMost, "'MIPS'", "'mips'", "true"),
     (BinOp::AtMost, "'ab'", "'A'", "false"),
     (BinOp::AtMost, "'1'", "1", "error"),
-    (BinOp::AtMost, "list", "list", "error"),
+    (BinOp::AtMost, "{}", "{}", "error"),
     (BinOp::AtMost, "ad", "ad", "error"),
     (BinOp::Greater, LEAST, GREATEST, "false"),
     (BinOp::Greater, "1", "true", "false"),
@@ -123,7 +109,7 @@ const BINARY: [(BinOp, &'static str, &'static str, &'static str); 142] = [
     (BinOp::Greater, "'MIPS'", "'mips'", "false"),
     (BinOp::Greater, "'ab'", "'A'", "true"),
     (BinOp::Greater, "'1'", "1", "error"),
-    (BinOp::Greater, "list", "list", "error"),
+    (BinOp::Greater, "{}", "{}", "error"),
     (BinOp::Greater, "ad", "ad", "error"),
     (BinOp::AtLeast, LEAST, GREATEST, "false"),
     (BinOp::AtLeast, "1", "true", "true"),
@@ -132,7 +118,7 @@ const BINARY: [(BinOp, &'static str, &'static str, &'static str); 142] = [
     (BinOp::AtLeast, "'MIPS'", "'mips'", "true"),
     (BinOp::AtLeast, "'ab'", "'A'", "true"),
     (BinOp::AtLeast, "'1'", "1", "error"),
-    (BinOp::AtLeast, "list", "list", "error"),
+    (BinOp::AtLeast, "{}", "{}", "error"),
     (BinOp::AtLeast, "ad", "ad", "error"),
     (BinOp::Less, "'Z'", "'_'", "false"),
     (BinOp::Less, "'_'", "'z'", "true"),
@@ -154,17 +140,17 @@ const BINARY: [(BinOp, &'static str, &'static str, &'static str); 142] = [
     (BinOp::NotSame, "'a'", "'a'", "false"),
     (BinOp::Same, "'a'", "'A'", "false"),
     (BinOp::NotSame, "'a'", "'A'", "true"),
-    (BinOp::Same, "list", "list", "true"),
-    (BinOp::NotSame, "list", "list", "false"),
+    (BinOp::Same, "{}", "{}", "true"),
+    (BinOp::NotSame, "{}", "{}", "false"),
     (BinOp::Same, "ad", "ad", "true"),
     (BinOp::NotSame, "ad", "ad", "false"),
-    (BinOp::Same, "ad", "list", "false"),
-    (BinOp::NotSame, "ad", "list", "true"),
+    (BinOp::Same, "ad", "{}", "false"),
+    (BinOp::NotSame, "ad", "{}", "true"),
     (BinOp::Same, "0", "undefined", "false"),
     (BinOp::NotSame, "0", "undefined", "true"),
     (BinOp::Add, "'a'", "1", "error"),
     (BinOp::Add, "'a'", "'b'", "error"),
-    (BinOp::BitAnd, "list", "1", "error"),
+    (BinOp::BitAnd, "{}", "1", "error"),
     (BinOp::ShiftLeft, "1", "ad", "error"),
 ];
 
@@ -198,7 +184,7 @@ const UNARY: [(UnOp, &'static str, &'static str); 23] = [
     (UnOp::Minus, "true", "-1"),
     (UnOp::Minus, GREATEST, "-9223372036854775807"),
     (UnOp::Minus, LEAST, "error"),
-    (UnOp::Minus, "list", "error"),
+    (UnOp::Minus, "{}", "error"),
     (UnOp::Minus, "undefined", "undefined"),
     (UnOp::Not, "true", "false"),
     (UnOp::Not, "false", "true"),
@@ -214,43 +200,84 @@ const UNARY: [(UnOp, &'static str, &'static str); 23] = [
     (UnOp::Complement, "error", "error"),
 ];
 
+// What comes of these operands is the value that is spelled.
+fn assert_is(
+    rt: &impl Abort,
+    alloc: Global,
+    operands: [&str; 2],
+    found: &Value,
+    wanted: &str,
+) -> Result<(), Fail> {
+    let wanted = value(alloc, wanted)?;
+    assert!(rt;
+        same(found, &wanted),
+        "{operands:?}: {found:?}, and not {wanted:?}"
+    );
+    Ok(())
+}
+
+fn binary_of(alloc: Global, op: BinOp, left: &str, right: &str) -> Result<Value, Fail> {
+    let left = value(alloc, left)?;
+    let right = value(alloc, right)?;
+    Ok(binary(op, &left, &right))
+}
+
 #[test]
-fn operators(rt: HostRuntime) -> Result<(), Fail> {
-    for (op, left, right, want) in &BINARY {
-        let found = binary(*op, &value(rt.alloc(), left)?, &value(rt.alloc(), right)?);
-        assert!(rt;
-            same(&found, &value(rt.alloc(), want)?),
-            "{left} {op:?} {right}"
-        );
+fn binary_operators(rt: HostRuntime) -> Result<(), Fail> {
+    for (op, left, right, wanted) in &BINARY {
+        let found = binary_of(rt.alloc(), *op, left, right)?;
+        assert_is(&rt, rt.alloc(), [left, right], &found, wanted)?;
     }
-    for op in &STRICT {
-        for other in &["undefined", "true", "1", "'a'", "list", "ad"] {
-            let other = value(rt.alloc(), other)?;
-            assert!(rt;
-                matches!(binary(*op, &Value::Error, &other), Value::Error),
-                "error {op:?}"
-            );
-            assert!(rt;
-                matches!(binary(*op, &other, &Value::Error), Value::Error),
-                "{op:?} error"
-            );
-            assert!(rt;
-                matches!(binary(*op, &Value::Undefined, &other), Value::Undefined),
-                "undefined {op:?}"
-            );
-            assert!(rt;
-                matches!(binary(*op, &other, &Value::Undefined), Value::Undefined),
-                "{op:?} undefined"
-            );
+    Ok(())
+}
+
+// Whether a value on either side of another is what the operator gives.
+fn prevails(op: BinOp, value: &Value, other: &Value) -> bool {
+    same(&binary(op, value, other), value) && same(&binary(op, other, value), value)
+}
+
+fn assert_strict(rt: &impl Abort, op: BinOp, other: &Value) {
+    assert!(rt;
+        prevails(op, &Value::Error, other),
+        "error {op:?} {other:?}"
+    );
+    assert!(rt;
+        prevails(op, &Value::Undefined, other),
+        "undefined {op:?} {other:?}"
+    );
+}
+
+#[test]
+fn strict_operators(rt: HostRuntime) -> Result<(), Fail> {
+    for spelling in &["undefined", "true", "1", "'a'", "{}", "ad"] {
+        let other = value(rt.alloc(), spelling)?;
+        for op in &STRICT {
+            assert_strict(&rt, *op, &other);
         }
+    }
+    Ok(())
+}
+
+#[test]
+fn errors_of_errors(rt: HostRuntime) {
+    for op in &STRICT {
         assert!(rt;
-            matches!(binary(*op, &Value::Error, &Value::Error), Value::Error),
+            prevails(*op, &Value::Error, &Value::Error),
             "error {op:?} error"
         );
     }
-    for (op, operand, want) in &UNARY {
-        let found = unary(*op, &value(rt.alloc(), operand)?);
-        assert!(rt; same(&found, &value(rt.alloc(), want)?), "{op:?} {operand}");
+}
+
+fn unary_of(alloc: Global, op: UnOp, operand: &str) -> Result<Value, Fail> {
+    let operand = value(alloc, operand)?;
+    Ok(unary(op, &operand))
+}
+
+#[test]
+fn unary_operators(rt: HostRuntime) -> Result<(), Fail> {
+    for (op, operand, wanted) in &UNARY {
+        let found = unary_of(rt.alloc(), *op, operand)?;
+        assert_is(&rt, rt.alloc(), [operand, ""], &found, wanted)?;
     }
     Ok(())
 }
@@ -274,29 +301,65 @@ const OR: [&'static str; 5] = [
     "error error error error error",
 ];
 
+fn step_of(alloc: Global, is_and: bool, left: &str, right: &str) -> Result<Value, Fail> {
+    let left = value(alloc, left)?;
+    let right = value(alloc, right)?;
+    Ok(if is_and {
+        and_step(&left, &right)
+    } else {
+        or_step(&left, &right)
+    })
+}
+
+// A left operand with each right one, and what comes of them.
+fn assert_row(
+    rt: &impl Abort,
+    alloc: Global,
+    is_and: bool,
+    left: &'static str,
+    row: &'static str,
+) -> Result<(), Fail> {
+    for (right, wanted) in OPERANDS.iter().zip(row.split(' ')) {
+        let found = step_of(alloc, is_and, left, right)?;
+        assert_is(rt, alloc, [left, right], &found, wanted)?;
+    }
+    Ok(())
+}
+
 #[test]
-fn and_and_or(rt: HostRuntime) -> Result<(), Fail> {
-    for ((left, ands), ors) in OPERANDS.iter().zip(&AND).zip(&OR) {
-        let left = value(rt.alloc(), left)?;
-        for ((right, and), or) in OPERANDS.iter().zip(ands.split(' ')).zip(ors.split(' ')) {
-            let right = value(rt.alloc(), right)?;
-            assert!(rt;
-                same(&and_step(&left, &right), &value(rt.alloc(), and)?),
-                "{left:?} && {right:?}"
-            );
-            assert!(rt;
-                same(&or_step(&left, &right), &value(rt.alloc(), or)?),
-                "{left:?} || {right:?}"
-            );
-        }
+fn and_steps(rt: HostRuntime) -> Result<(), Fail> {
+    for (left, row) in OPERANDS.iter().zip(&AND) {
+        assert_row(&rt, rt.alloc(), true, left, row)?;
     }
-    let ends = [true, false, false, true, true];
-    for (left, ends) in OPERANDS.iter().zip(&ends) {
-        assert_eq!(rt; and_ends(&value(rt.alloc(), left)?), *ends, "{left} &&");
+    Ok(())
+}
+
+#[test]
+fn or_steps(rt: HostRuntime) -> Result<(), Fail> {
+    for (left, row) in OPERANDS.iter().zip(&OR) {
+        assert_row(&rt, rt.alloc(), false, left, row)?;
     }
-    let ends = [false, true, false, true, true];
-    for (left, ends) in OPERANDS.iter().zip(&ends) {
-        assert_eq!(rt; or_ends(&value(rt.alloc(), left)?), *ends, "{left} ||");
+    Ok(())
+}
+
+// The operands with whether they end an `&&`, and whether they end an `||`.
+const ENDS: [(&'static str, bool, bool); 5] = [
+    ("false", true, false),
+    ("true", false, true),
+    ("undefined", false, false),
+    ("error", true, true),
+    ("3", true, true),
+];
+
+fn ends(alloc: Global, operand: &str) -> Result<(bool, bool), Fail> {
+    let operand = value(alloc, operand)?;
+    Ok((and_ends(&operand), or_ends(&operand)))
+}
+
+#[test]
+fn ends_of_and_and_or(rt: HostRuntime) -> Result<(), Fail> {
+    for (operand, and, or) in &ENDS {
+        assert_eq!(rt; ends(rt.alloc(), operand)?, (*and, *or), "{operand}");
     }
     Ok(())
 }
@@ -311,18 +374,34 @@ fn sample(alloc: Global) -> Result<Value, OutOfMemory> {
     Ok(Value::List(values))
 }
 
+fn assert_sample(rt: &impl Abort, values: &Values) {
+    assert!(rt; values.len() == 4);
+    assert!(rt; matches!(values.at(0), Value::Integer(7)));
+    assert!(rt; matches!(values.at(1), Value::Str(text) if text.bytes() == b"Intel".as_slice()));
+}
+
 #[test]
 fn lists(rt: HostRuntime) -> Result<(), Fail> {
     let list = sample(rt.alloc())?;
     assert_eq!(rt; weight(&list), 10);
-    assert!(rt; same(&copy(rt.alloc(), &list)?, &list));
-    let Value::List(values) = &list else {
-        assert!(rt; false, "a list is a list");
-        return Ok(());
-    };
-    assert_eq!(rt; values.len(), 4);
-    assert!(rt; matches!(values.at(0), Value::Integer(7)));
-    assert!(rt; matches!(values.at(1), Value::Str(text) if text.bytes() == b"Intel".as_slice()));
+    match &list {
+        Value::List(values) => assert_sample(&rt, values),
+        _ => assert!(rt; false, "a list is a list"),
+    }
+    Ok(())
+}
+
+#[test]
+fn a_copy_is_the_same(rt: HostRuntime) -> Result<(), Fail> {
+    let list = sample(rt.alloc())?;
+    let other = copy(rt.alloc(), &list)?;
+    assert!(rt; same(&other, &list));
+    Ok(())
+}
+
+#[test]
+fn a_shorter_list_is_another(rt: HostRuntime) -> Result<(), Fail> {
+    let list = sample(rt.alloc())?;
     let shorter = Value::List(Values::new(rt.alloc()));
     assert!(rt; !same(&list, &shorter));
     Ok(())

@@ -1,10 +1,11 @@
 // The best resource for a job, and docks by slots, worked out by hand from the rules.
-ghost use Rattle.std.specs.Prelude.{◌≡◌, ◌==◌, [], false, length, All, Contains, IfOk, IfSome, None, Some, if◌then◌else◌};
+ghost use Rattle.std.specs.Prelude.{◌≡◌, ◌==◌, ◌<◌, [], false, length, All, Contains, IfOk, IfSome, None, OnOk, Some, if◌then◌else◌};
 ghost use Rattle.std.specs.List.{list_any};
 ghost use Rattle.std.specs.Option.{option_and_then, option_map_or};
 ghost use Rattle.ad_store.specs.Store.{stock_of};
+ghost use Rattle.ad_tree.specs.Draft.{draft_frames};
 
-use crate::matching::{index_of, integer, target, truth};
+use crate::matching::{define, index_of, integer, target, truth};
 use ad_store::{Held, Holdings, Store};
 use ad_tree::{Ad, Draft, Expr, Port, Ports, Request};
 use bilateral_match::{best, pair};
@@ -13,6 +14,7 @@ use pool_text::{BinOp, OutOfMemory, Slots, Text};
 use std::alloc::Global;
 use std::convert::AsSlice;
 use std::marker::Brand;
+use std::process::Abort;
 use std::sync::ledger::{Blank, Ledger};
 use std::test::Fail;
 
@@ -88,9 +90,9 @@ fn claimed(alloc: Global, store: &Store, place: usize, request: Request) -> Resu
 // `[ Worth = ..; Rank = ..; Requirements = true ]`
 fn ad(alloc: Global, worth: i64, rank: Expr) -> Result<Ad, OutOfMemory> {
     let mut draft = Draft::new(alloc);
-    draft.define(0, Text::from_bytes(alloc, b"Worth")?, integer(worth))?;
-    draft.define(0, Text::from_bytes(alloc, b"Rank")?, rank)?;
-    draft.define(0, Text::from_bytes(alloc, b"Requirements")?, truth())?;
+    define(alloc, &mut draft, b"Worth", integer(worth))?;
+    define(alloc, &mut draft, b"Rank", rank)?;
+    define(alloc, &mut draft, b"Requirements", truth())?;
     draft.finish()
 }
 
@@ -180,48 +182,77 @@ fn chosen(
     )
 }
 
+// The slot of the best resource is this one.
+fn assert_chosen(
+    rt: &impl Abort,
+    alloc: Global,
+    store: &Store,
+    board: &Board,
+    request: &Request,
+    wanted: Option<usize>,
+) -> Result<(), Fail>
+    requires stored { IfSome board.now.claim (λ c. All (Contains (stock_of store.now).slots) c.slots) }
+    requires single { request.now.ports ≡ [] }
+{
+    let found = chosen(alloc, store, board, request)?;
+    assert_eq!(rt; found, wanted);
+    Ok(())
+}
+
+// The same for a job of this worth that ranks all resources alike.
+fn assert_chosen_plainly(
+    rt: &impl Abort,
+    alloc: Global,
+    store: &Store,
+    board: &Board,
+    worth: i64,
+    wanted: Option<usize>,
+) -> Result<(), Fail>
+    requires stored { IfSome board.now.claim (λ c. All (Contains (stock_of store.now).slots) c.slots) }
+{
+    let request = plain_job(alloc, worth)?;
+    assert_chosen(rt, alloc, store, board, &request, wanted)
+}
+
+// The resource at a place is claimed by a job of this worth.
+fn claimed_plainly(alloc: Global, store: &Store, place: usize, worth: i64) -> Result<Board, Fail>
+    ensures { IfOk result (λ board. IfSome board.claim (λ c. All (Contains (stock_of store.now).slots) c.slots)) }
+{
+    let request = plain_job(alloc, worth)?;
+    claimed(alloc, store, place, request)
+}
+
 #[test]
 fn the_jobs_rank_comes_first(rt: HostRuntime) -> Result<(), Fail> {
     let alloc = rt.alloc();
     let store = two(alloc, [1, 9], integer(7), target(alloc, b"Worth")?)?;
-    let board = claimed(alloc, &store, 1, plain_job(alloc, 3)?)?;
+    let board = claimed_plainly(alloc, &store, 1, 3)?;
     let request = job(alloc, 5, target(alloc, b"Worth")?)?;
-    assert_eq!(rt; chosen(alloc, &store, &board, &request)?, Some(1));
-    Ok(())
+    assert_chosen(&rt, alloc, &store, &board, &request, Some(1))
 }
 
 #[test]
 fn an_unclaimed_one_comes_before_a_claimed_one(rt: HostRuntime) -> Result<(), Fail> {
     let alloc = rt.alloc();
     let store = two(alloc, [1, 1], target(alloc, b"Worth")?, integer(0))?;
-    let request = plain_job(alloc, 5)?;
     // The first stands earlier and ranks the job higher.
-    assert_eq!(rt; chosen(alloc, &store, &empty(), &request)?, Some(0));
-    let board = claimed(alloc, &store, 0, plain_job(alloc, 3)?)?;
-    assert_eq!(rt; chosen(alloc, &store, &board, &request)?, Some(1));
-    Ok(())
+    assert_chosen_plainly(&rt, alloc, &store, &empty(), 5, Some(0))?;
+    let board = claimed_plainly(alloc, &store, 0, 3)?;
+    assert_chosen_plainly(&rt, alloc, &store, &board, 5, Some(1))
 }
 
 #[test]
 fn the_resources_rank_breaks_a_tie(rt: HostRuntime) -> Result<(), Fail> {
     let alloc = rt.alloc();
     let store = two(alloc, [1, 1], integer(1), integer(2))?;
-    assert_eq!(rt;
-        chosen(alloc, &store, &empty(), &plain_job(alloc, 5)?)?,
-        Some(1)
-    );
-    Ok(())
+    assert_chosen_plainly(&rt, alloc, &store, &empty(), 5, Some(1))
 }
 
 #[test]
 fn of_two_alike_the_one_that_stands_first(rt: HostRuntime) -> Result<(), Fail> {
     let alloc = rt.alloc();
     let store = alike(alloc)?;
-    assert_eq!(rt;
-        chosen(alloc, &store, &empty(), &plain_job(alloc, 5)?)?,
-        Some(0)
-    );
-    Ok(())
+    assert_chosen_plainly(&rt, alloc, &store, &empty(), 5, Some(0))
 }
 
 #[test]
@@ -232,25 +263,24 @@ fn an_offered_one_is_not_given_again(rt: HostRuntime) -> Result<(), Fail> {
         offered: Some(0),
         claim: None,
     };
-    assert_eq!(rt;
-        chosen(alloc, &store, &board, &plain_job(alloc, 5)?)?,
-        Some(1)
-    );
-    Ok(())
+    assert_chosen_plainly(&rt, alloc, &store, &board, 5, Some(1))
+}
+
+// One resource, which ranks a job by its worth.
+fn one(alloc: Global) -> Result<Store, Fail> {
+    let mut store = Store::new(alloc);
+    let rank = target(alloc, b"Worth")?;
+    store.put(b"a", 0, 9, 4, ad(alloc, 1, rank)?)?;
+    Ok(store)
 }
 
 #[test]
 fn a_holder_that_is_ranked_as_high_keeps_its_resource(rt: HostRuntime) -> Result<(), Fail> {
     let alloc = rt.alloc();
-    let mut store = Store::new(alloc);
-    store.put(b"a", 0, 9, 4, ad(alloc, 1, target(alloc, b"Worth")?)?)?;
-    let board = claimed(alloc, &store, 0, plain_job(alloc, 5)?)?;
-    assert_eq!(rt; chosen(alloc, &store, &board, &plain_job(alloc, 5)?)?, None);
-    assert_eq!(rt;
-        chosen(alloc, &store, &board, &plain_job(alloc, 6)?)?,
-        Some(0)
-    );
-    Ok(())
+    let store = one(alloc)?;
+    let board = claimed_plainly(alloc, &store, 0, 5)?;
+    assert_chosen_plainly(&rt, alloc, &store, &board, 5, None)?;
+    assert_chosen_plainly(&rt, alloc, &store, &board, 6, Some(0))
 }
 
 // ---- docks by slots
@@ -274,20 +304,34 @@ fn port(alloc: Global, label: &[u8], frame: u32) -> Result<Port, OutOfMemory>
     })
 }
 
+// Adds an ad literal that wants a resource of this worth, as an attribute of the root.
+fn add_port(alloc: Global, draft: &mut Draft, name: &[u8], worth: i64) -> Result<(), OutOfMemory>
+    requires { 0 < length (draft_frames draft.old) }
+    ensures { OnOk result (0 < length (draft_frames draft.new)) }
+{
+    let frame = draft.frame(0)?;
+    let requirements = worth_at_least(alloc, worth)?;
+    draft.define(
+        frame,
+        Text::from_bytes(alloc, b"Requirements")?,
+        requirements,
+    )?;
+    draft.define(0, Text::from_bytes(alloc, name)?, Expr::Frame(frame))
+}
+
+// `[ a = [ Requirements = TARGET.Worth >= 2 ]; b = [ Requirements = TARGET.Worth >= 3 ] ]`
+fn gang_ad(alloc: Global) -> Result<Ad, OutOfMemory> {
+    let mut draft = Draft::new(alloc);
+    add_port(alloc, &mut draft, b"a", 2)?;
+    add_port(alloc, &mut draft, b"b", 3)?;
+    draft.finish()
+}
+
 // A request for a resource of worth 2 and one of worth 3, at least.
 fn gang(alloc: Global) -> Result<Request, Fail>
     ensures { IfOk result (λ request. length request.ports ≡ 2) }
 {
-    let mut draft = Draft::new(alloc);
-    let first = draft.frame(0)?;
-    let second = draft.frame(0)?;
-    let name = Text::from_bytes(alloc, b"Requirements")?;
-    draft.define(first, name, worth_at_least(alloc, 2)?)?;
-    let name = Text::from_bytes(alloc, b"Requirements")?;
-    draft.define(second, name, worth_at_least(alloc, 3)?)?;
-    draft.define(0, Text::from_bytes(alloc, b"a")?, Expr::Frame(first))?;
-    draft.define(0, Text::from_bytes(alloc, b"b")?, Expr::Frame(second))?;
-    let ad = draft.finish()?;
+    let ad = gang_ad(alloc)?;
     if ad.frames() < 3 {
         return Err(Fail::new("an ad literal is lost"));
     }
@@ -346,11 +390,22 @@ fn docked(alloc: Global, store: &Store, places: [usize; 2]) -> Result<bool, Fail
     )
 }
 
+fn assert_docked(
+    rt: &impl Abort,
+    alloc: Global,
+    store: &Store,
+    places: [usize; 2],
+    wanted: bool,
+) -> Result<(), Fail> {
+    let found = docked(alloc, store, places)?;
+    assert!(rt; found == wanted);
+    Ok(())
+}
+
 #[test]
 fn ports_are_docked_in_order(rt: HostRuntime) -> Result<(), Fail> {
     let alloc = rt.alloc();
     let store = two(alloc, [2, 3], integer(0), integer(0))?;
-    assert!(rt; docked(alloc, &store, [0, 1])?);
-    assert!(rt; !docked(alloc, &store, [1, 0])?);
-    Ok(())
+    assert_docked(&rt, alloc, &store, [0, 1], true)?;
+    assert_docked(&rt, alloc, &store, [1, 0], false)
 }

@@ -1,4 +1,5 @@
 // Hits of an index, worked out by hand.
+use crate::matching::{define, integer};
 use ad_tree::{Ad, Draft, Expr};
 use conjunct_plan::Test;
 use literal_index::*;
@@ -11,12 +12,8 @@ use std::test::Fail;
 // An ad of one attribute.
 fn ad(alloc: Global, name: &[u8], expr: Expr) -> Result<Ad, OutOfMemory> {
     let mut draft = Draft::new(alloc);
-    draft.define(0, Text::from_bytes(alloc, name)?, expr)?;
+    define(alloc, &mut draft, name, expr)?;
     draft.finish()
-}
-
-fn integer(n: i64) -> Expr {
-    Expr::Literal(Lit::Integer(n))
 }
 
 fn string(alloc: Global, bytes: &[u8]) -> Result<Lit, OutOfMemory> {
@@ -46,47 +43,6 @@ fn comparison(
 
 fn add(index: &mut Index, slot: usize, ad: Ad) -> Result<(), OutOfMemory> {
     index.add(slot, &ad)
-}
-
-// An ad for each kind of literal that `A` can have, one where it is no literal, and one without it.
-fn machines(alloc: Global) -> Result<Index, OutOfMemory> {
-    let mut index = Index::new(alloc);
-    add(
-        &mut index,
-        11,
-        ad(alloc, b"A", Expr::Literal(string(alloc, b"ARM")?))?,
-    )?;
-    add(
-        &mut index,
-        5,
-        ad(alloc, b"A", Expr::Literal(string(alloc, b"intel")?))?,
-    )?;
-    add(
-        &mut index,
-        4,
-        ad(alloc, b"a", Expr::Literal(string(alloc, b"Intel")?))?,
-    )?;
-    add(&mut index, 9, ad(alloc, b"B", integer(1))?)?;
-    add(&mut index, 1, ad(alloc, b"A", integer(1))?)?;
-    add(&mut index, 3, ad(alloc, b"A", integer(3))?)?;
-    add(
-        &mut index,
-        2,
-        ad(alloc, b"a", Expr::Literal(Lit::Boolean(true)))?,
-    )?;
-    add(
-        &mut index,
-        10,
-        ad(alloc, b"A", Expr::Literal(Lit::Boolean(false)))?,
-    )?;
-    add(
-        &mut index,
-        6,
-        ad(alloc, b"A", Expr::Literal(Lit::Undefined))?,
-    )?;
-    add(&mut index, 7, ad(alloc, b"A", Expr::Literal(Lit::Error))?)?;
-    add(&mut index, 8, ad(alloc, b"A", sum(alloc)?)?)?;
-    Ok(index)
 }
 
 // The slots that a test finds, and their number.
@@ -134,6 +90,42 @@ impl Given {
             Given::Bytes(bytes) => string(alloc, bytes),
         }
     }
+}
+
+fn add_given(
+    alloc: Global,
+    index: &mut Index,
+    slot: usize,
+    name: &[u8],
+    given: Given,
+) -> Result<(), OutOfMemory> {
+    let literal = Expr::Literal(given.lit(alloc)?);
+    add(index, slot, ad(alloc, name, literal)?)
+}
+
+/// A slot for each kind of literal that `A` can have, and one without it.
+const LITERALS: [(usize, &[u8], Given); 10] = [
+    (11, b"A", Given::Bytes(b"ARM")),
+    (5, b"A", Given::Bytes(b"intel")),
+    (4, b"a", Given::Bytes(b"Intel")),
+    (9, b"B", Given::Integer(1)),
+    (1, b"A", Given::Integer(1)),
+    (3, b"A", Given::Integer(3)),
+    (2, b"a", Given::Boolean(true)),
+    (10, b"A", Given::Boolean(false)),
+    (6, b"A", Given::Undefined),
+    (7, b"A", Given::Error),
+];
+
+// These, and one ad where `A` is no literal.
+fn machines(alloc: Global) -> Result<Index, OutOfMemory> {
+    let mut index = Index::new(alloc);
+    for (slot, name, given) in LITERALS {
+        add_given(alloc, &mut index, slot, name, given)?;
+    }
+    let sum = sum(alloc)?;
+    add(&mut index, 8, ad(alloc, b"A", sum)?)?;
+    Ok(index)
 }
 
 /// For each literal and each operator, the slots that `A op literal` finds, and those that `literal op A` finds.
@@ -236,6 +228,21 @@ const TABLES: [(Given, [(&[usize], &[usize]); 8]); 6] = [
     ),
 ];
 
+// The slots that a comparison finds.
+fn finds_compared(
+    rt: &impl Abort,
+    alloc: Global,
+    index: &Index,
+    name: &[u8],
+    op: BinOp,
+    given: Given,
+    attr_left: bool,
+    expected: &[usize],
+) -> Result<(), OutOfMemory> {
+    let test = comparison(alloc, name, op, given.lit(alloc)?, attr_left)?;
+    finds(rt, index, &test, expected)
+}
+
 // What one literal finds with each operator, on either side.
 fn finds_by_table(
     rt: &impl Abort,
@@ -246,36 +253,37 @@ fn finds_by_table(
 ) -> Result<(), OutOfMemory> {
     for (i, op) in OPERATORS.iter().enumerate() {
         let (left, right) = rows[i];
-        let behind = comparison(alloc, b"a", *op, given.lit(alloc)?, true)?;
-        finds(rt, index, &behind, left)?;
-        let before = comparison(alloc, b"A", *op, given.lit(alloc)?, false)?;
-        finds(rt, index, &before, right)?;
+        finds_compared(rt, alloc, index, b"a", *op, given, true, left)?;
+        finds_compared(rt, alloc, index, b"A", *op, given, false, right)?;
     }
     Ok(())
 }
 
 #[test]
 fn literals_are_found_by_the_tables(rt: HostRuntime) -> Result<(), Fail> {
-    let alloc = rt.alloc();
-    let index = machines(alloc)?;
-    for (given, rows) in TABLES {
-        finds_by_table(&rt, alloc, &index, given, &rows)?;
+    let index = machines(rt.alloc())?;
+    for (given, rows) in &TABLES {
+        finds_by_table(&rt, rt.alloc(), &index, *given, rows)?;
     }
     Ok(())
 }
 
 #[test]
 fn words_are_found_by_the_tables(rt: HostRuntime) -> Result<(), Fail> {
+    let index = machines(rt.alloc())?;
+    let name = Text::from_bytes(rt.alloc(), b"a")?;
+    finds(&rt, &index, &Test::Truth { name }, &[2, 8])?;
+    Ok(())
+}
+
+#[test]
+fn one_spelling_and_an_absent_attribute(rt: HostRuntime) -> Result<(), Fail> {
     let alloc = rt.alloc();
     let index = machines(alloc)?;
-    let test = Test::Truth {
-        name: Text::from_bytes(alloc, b"a")?,
-    };
-    finds(&rt, &index, &test, &[2, 8])?;
-    let exact = comparison(alloc, b"A", BinOp::Same, string(alloc, b"Intel")?, true)?;
-    finds(&rt, &index, &exact, &[4, 8])?;
-    let absent = comparison(alloc, b"C", BinOp::Equal, Lit::Integer(1), true)?;
-    finds(&rt, &index, &absent, &[])?;
+    let exact = Given::Bytes(b"Intel");
+    finds_compared(&rt, alloc, &index, b"A", BinOp::Same, exact, true, &[4, 8])?;
+    let one = Given::Integer(1);
+    finds_compared(&rt, alloc, &index, b"C", BinOp::Equal, one, true, &[])?;
     Ok(())
 }
 
@@ -303,22 +311,46 @@ fn take_out_sevens(alloc: Global, index: &mut Index) -> Result<(), OutOfMemory> 
     Ok(())
 }
 
+fn at_least_seven(alloc: Global, name: &[u8]) -> Result<Test, OutOfMemory> {
+    comparison(alloc, name, BinOp::AtLeast, Lit::Integer(7), true)
+}
+
+// So many slots have such a name with 7 or more.
+fn assert_count(
+    rt: &impl Abort,
+    alloc: Global,
+    index: &Index,
+    name: &[u8],
+    wanted: usize,
+) -> Result<(), OutOfMemory> {
+    let test = at_least_seven(alloc, name)?;
+    assert_eq!(rt; index.count(&test), wanted);
+    Ok(())
+}
+
 #[test]
 fn names_that_collide_are_kept_apart(rt: HostRuntime) -> Result<(), Fail> {
-    let alloc = rt.alloc();
-    let mut index = machines_alike(alloc)?;
-    let odd = comparison(alloc, b"an", BinOp::AtLeast, Lit::Integer(7), true)?;
-    let even = comparison(alloc, b"c0", BinOp::AtLeast, Lit::Integer(7), true)?;
-    assert_eq!(rt; index.count(&odd), 60);
-    assert_eq!(rt; index.count(&even), 30);
-    // Without the ads of 7 only those of 9 are left.
-    take_out_sevens(alloc, &mut index)?;
-    let hits = index.hits(&odd)?;
-    assert_eq!(rt; hits.len(), 30);
-    for (k, slot) in hits.as_slice().iter().enumerate() {
-        assert_eq!(rt; *slot % 20, 18);
-        assert_eq!(rt; *slot / 20, k);
+    let index = machines_alike(rt.alloc())?;
+    assert_count(&rt, rt.alloc(), &index, b"an", 60)?;
+    assert_count(&rt, rt.alloc(), &index, b"c0", 30)?;
+    Ok(())
+}
+
+// Every twentieth slot, from the 18th.
+fn assert_nines(rt: &impl Abort, slots: &[usize]) {
+    for (k, slot) in slots.iter().enumerate() {
+        assert!(rt; *slot % 20 == 18 && *slot / 20 == k, "{k}: {slot}");
     }
+}
+
+#[test]
+fn without_the_ads_of_seven_those_of_nine_are_left(rt: HostRuntime) -> Result<(), Fail> {
+    let mut index = machines_alike(rt.alloc())?;
+    take_out_sevens(rt.alloc(), &mut index)?;
+    let test = at_least_seven(rt.alloc(), b"an")?;
+    let hits = index.hits(&test)?;
+    assert!(rt; hits.len() == 30);
+    assert_nines(&rt, hits.as_slice());
     Ok(())
 }
 
@@ -326,11 +358,9 @@ fn names_that_collide_are_kept_apart(rt: HostRuntime) -> Result<(), Fail> {
 fn texts_that_collide_are_kept_apart(rt: HostRuntime) -> Result<(), Fail> {
     let alloc = rt.alloc();
     let mut index = Index::new(alloc);
-    let first = Expr::Literal(string(alloc, b"C0")?);
-    add(&mut index, 1, ad(alloc, b"Os", first)?)?;
-    let second = Expr::Literal(string(alloc, b"an")?);
-    add(&mut index, 2, ad(alloc, b"Os", second)?)?;
-    let named = comparison(alloc, b"OS", BinOp::Equal, string(alloc, b"AN")?, true)?;
-    finds(&rt, &index, &named, &[2])?;
+    add_given(alloc, &mut index, 1, b"Os", Given::Bytes(b"C0"))?;
+    add_given(alloc, &mut index, 2, b"Os", Given::Bytes(b"an"))?;
+    let named = Given::Bytes(b"AN");
+    finds_compared(&rt, alloc, &index, b"OS", BinOp::Equal, named, true, &[2])?;
     Ok(())
 }

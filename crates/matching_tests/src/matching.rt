@@ -1,5 +1,6 @@
 // Queries over a few machines, worked out by hand from the rules.
-ghost use Rattle.std.specs.Prelude.{◌≡◌, IfOk, []};
+ghost use Rattle.std.specs.Prelude.{◌≡◌, ◌<◌, [], length, IfOk, OnOk};
+ghost use Rattle.ad_tree.specs.Draft.{draft_frames};
 ghost use Rattle.ad_store.specs.Store.{stock_of};
 ghost use Rattle.literal_index.specs.Shown.{IsIndex};
 ghost use Rattle.bilateral_match.specs.Rows.{rows_of};
@@ -12,6 +13,7 @@ use pool_steps::Steps;
 use pool_text::{BinOp, Lit, OutOfMemory, Text};
 use std::alloc::Global;
 use std::marker::Brand;
+use std::process::Abort;
 use std::sync::ledger::{Blank, Ledger};
 use std::test::Fail;
 
@@ -27,11 +29,30 @@ pub(crate) fn target(alloc: Global, name: &[u8]) -> Result<Expr, OutOfMemory> {
     Ok(Expr::Name(Scope::Target, Text::from_bytes(alloc, name)?))
 }
 
+// Defines an attribute of the root.
+pub(crate) fn define(
+    alloc: Global,
+    draft: &mut Draft,
+    name: &[u8],
+    expr: Expr,
+) -> Result<(), OutOfMemory>
+    requires { 0 < length (draft_frames draft.old) }
+    ensures { OnOk result (0 < length (draft_frames draft.new)) }
+{
+    let name = Text::from_bytes(alloc, name)?;
+    draft.define(0, name, expr)
+}
+
 // An ad with two definitions.
-fn ad(alloc: Global, names: [&[u8]; 2], first: Expr, second: Expr) -> Result<Ad, OutOfMemory> {
+pub(crate) fn ad(
+    alloc: Global,
+    names: [&[u8]; 2],
+    first: Expr,
+    second: Expr,
+) -> Result<Ad, OutOfMemory> {
     let mut draft = Draft::new(alloc);
-    draft.define(0, Text::from_bytes(alloc, names[0])?, first)?;
-    draft.define(0, Text::from_bytes(alloc, names[1])?, second)?;
+    define(alloc, &mut draft, names[0], first)?;
+    define(alloc, &mut draft, names[1], second)?;
     draft.finish()
 }
 
@@ -73,7 +94,19 @@ pub(crate) fn index_of<T: Ledger>(
     Ok(index)
 }
 
-// The slots and ranks that a query finds, as `0:7 3:7`.
+// Slots and ranks, as `0:7 3:7`.
+fn told(alloc: Global, hits: &Hits) -> Result<String, Fail> {
+    let mut out = String::new(alloc);
+    for i in 0..hits.len() {
+        let hit = *hits.at(i);
+        let gap = if i == 0 { "" } else { " " };
+        let entry = format!(in alloc; "{gap}{}:{}", hit.slot, hit.rank)?;
+        out.push_str(&entry)?;
+    }
+    Ok(out)
+}
+
+// The slots and ranks that a query finds.
 fn hits_of<F: Ledger, E: Ledger, T: Ledger>(
     alloc: Global,
     store: &Store,
@@ -100,14 +133,7 @@ fn hits_of<F: Ledger, E: Ledger, T: Ledger>(
     let hits = query(
         alloc, store, &index, &request, 0, &mut tops, &mut entry, &mut touch,
     )?;
-    let mut out = String::new(alloc);
-    for i in 0..hits.len() {
-        let hit = *hits.at(i);
-        let gap = if i == 0 { "" } else { " " };
-        let entry = format!(in alloc; "{gap}{}:{}", hit.slot, hit.rank)?;
-        out.push_str(&entry)?;
-    }
-    Ok(out)
+    told(alloc, &hits)
 }
 
 fn found(alloc: Global, store: &Store, rank: Expr) -> Result<String, Fail> {
@@ -158,11 +184,23 @@ fn five(alloc: Global) -> Result<Store, Fail> {
     Ok(store)
 }
 
+// A query finds these slots with these ranks.
+fn assert_found(
+    rt: &impl Abort,
+    alloc: Global,
+    store: &Store,
+    rank: Expr,
+    wanted: &str,
+) -> Result<(), Fail> {
+    let hits = found(alloc, store, rank)?;
+    assert_eq!(rt; hits.as_str(), wanted);
+    Ok(())
+}
+
 #[test]
 fn five_machines(rt: HostRuntime) -> Result<(), Fail> {
     let store = five(rt.alloc())?;
-    assert_eq!(rt; found(rt.alloc(), &store, integer(7))?.as_str(), "0:7 3:7");
-    Ok(())
+    assert_found(&rt, rt.alloc(), &store, integer(7), "0:7 3:7")
 }
 
 #[test]
@@ -170,21 +208,22 @@ fn ranks_fall(rt: HostRuntime) -> Result<(), Fail> {
     let mut store = five(rt.alloc())?;
     put(rt.alloc(), &mut store, b"e", integer(256))?;
     let memory = target(rt.alloc(), b"Memory")?;
-    assert_eq!(rt;
-        found(rt.alloc(), &store, memory)?.as_str(),
-        "4:256 0:128 3:128"
-    );
-    Ok(())
+    assert_found(&rt, rt.alloc(), &store, memory, "4:256 0:128 3:128")
+}
+
+// Two machines of one memory, of which the second stands first.
+fn two_machines(alloc: Global) -> Result<Store, Fail> {
+    let mut store = Store::new(alloc);
+    put(alloc, &mut store, b"a", integer(64))?;
+    put(alloc, &mut store, b"b", integer(64))?;
+    store.withdraw(b"a")?;
+    // The new ad takes the slot of the one that left, and stands last.
+    put(alloc, &mut store, b"c", integer(64))?;
+    Ok(store)
 }
 
 #[test]
 fn equal_ranks_by_place(rt: HostRuntime) -> Result<(), Fail> {
-    let mut store = Store::new(rt.alloc());
-    put(rt.alloc(), &mut store, b"a", integer(64))?;
-    put(rt.alloc(), &mut store, b"b", integer(64))?;
-    store.withdraw(b"a")?;
-    // The new ad takes the slot of the one that left, and stands last.
-    put(rt.alloc(), &mut store, b"c", integer(64))?;
-    assert_eq!(rt; found(rt.alloc(), &store, truth())?.as_str(), "1:1 0:1");
-    Ok(())
+    let store = two_machines(rt.alloc())?;
+    assert_found(&rt, rt.alloc(), &store, truth(), "1:1 0:1")
 }

@@ -1,5 +1,5 @@
 // Priorities and cycles, worked by hand from the rules.
-ghost use Rattle.std.specs.Prelude.{◌≡◌, ◌<◌, ◌^◌, IfOk, OnOk, length};
+ghost use Rattle.std.specs.Prelude.{◌≡◌, ◌<◌, ◌≤◌, ◌^◌, IfOk, OnOk, length};
 ghost use Rattle.ad_tree.specs.Ad.{ad_frames};
 ghost use Rattle.ad_store.specs.Store.{stock_of};
 ghost use Rattle.bilateral_match.specs.Rows.{rows_of};
@@ -20,20 +20,31 @@ use pool_text::{BinOp, Lit, OutOfMemory, Text};
 use std::alloc::Global;
 use std::convert::AsSlice;
 use std::marker::Brand;
+use std::process::Abort;
 use std::sync::ledger::{Blank, Ledger};
 use std::test::Fail;
 
+fn assert_priority(rt: &impl Abort, priorities: &Priorities, user: &[u8], wanted: u64) {
+    assert_eq!(rt; priorities.get(user), wanted);
+}
+
+fn assert_set(rt: &impl Abort, priorities: &mut Priorities, user: &[u8], priority: u64)
+    requires least { 1 ≤ priority }
+    requires most { priority ≤ 10 ^ 6 }
+{
+    assert_eq!(rt; priorities.set(user, priority), Ok(()));
+}
+
 #[test]
-fn priorities_are_set_and_changed(rt: HostRuntime) -> Result<(), Fail> {
+fn priorities_are_set_and_changed(rt: HostRuntime) {
     let mut priorities = Priorities::new(rt.alloc());
-    assert_eq!(rt; priorities.get(b"ann"), 1_000);
-    assert_eq!(rt; priorities.set(b"ann", 1), Ok(()));
-    assert_eq!(rt; priorities.set(b"bob", 1_000_000), Ok(()));
-    assert_eq!(rt; priorities.set(b"ann", 3), Ok(()));
-    assert_eq!(rt; priorities.get(b"ann"), 3);
-    assert_eq!(rt; priorities.get(b"bob"), 1_000_000);
-    assert_eq!(rt; priorities.get(b"Ann"), 1_000);
-    Ok(())
+    assert_priority(&rt, &priorities, b"ann", 1_000);
+    assert_set(&rt, &mut priorities, b"ann", 1);
+    assert_set(&rt, &mut priorities, b"bob", 1_000_000);
+    assert_set(&rt, &mut priorities, b"ann", 3);
+    assert_priority(&rt, &priorities, b"ann", 3);
+    assert_priority(&rt, &priorities, b"bob", 1_000_000);
+    assert_priority(&rt, &priorities, b"Ann", 1_000);
 }
 
 // `[ Memory = ..; Requirements = true ]`
@@ -128,6 +139,46 @@ fn submit_gang(alloc: Global, jobs: &mut ClaimTable, name: &[u8], user: &[u8]) -
     Ok(())
 }
 
+// What a job wants: so much memory, or a gang of two.
+#[derive(Clone, Copy)]
+enum Wish {
+    Memory(i64),
+    Gang,
+}
+
+use Wish::{Gang, Memory};
+
+fn submit_row(
+    alloc: Global,
+    jobs: &mut ClaimTable,
+    name: &[u8],
+    user: &[u8],
+    wish: Wish,
+) -> Result<(), Fail>
+    requires { AreFresh (jobs_of jobs.old) }
+    ensures { OnOk result (AreFresh (jobs_of jobs.new)) }
+{
+    match wish {
+        Memory(least) => submit(alloc, jobs, name, user, least),
+        Gang => submit_gang(alloc, jobs, name, user),
+    }
+}
+
+/// Jobs with their users and what they want.
+type Rows<'a> = &'a [(&'a [u8], &'a [u8], Wish)];
+
+// A table of these jobs.
+fn waiting(alloc: Global, rows: Rows) -> Result<ClaimTable, Fail>
+    ensures { IfOk result (λ jobs. AreFresh (jobs_of jobs)) }
+{
+    let mut jobs = ClaimTable::new(alloc);
+    for row in rows {
+        let (name, user, wish) = *row;
+        submit_row(alloc, &mut jobs, name, user, wish)?;
+    }
+    Ok(jobs)
+}
+
 // The spins of a cycle, as `3: ann 1 a0>0 a1>1; ` for a spin with 3 free resources and a turn of ann with a slice of 1.
 fn spins_of<F: Ledger, E: Ledger, T: Ledger>(
     alloc: Global,
@@ -156,16 +207,26 @@ fn spins_of<F: Ledger, E: Ledger, T: Ledger>(
     let spins = cycle(
         alloc, store, &index, jobs, priorities, 0, &mut tops, &mut entry, &mut touch,
     )?;
+    spins_told(alloc, spins.as_slice())
+}
+
+// Each spin with its free resources and its turns.
+fn spins_told(alloc: Global, spins: &[Spin]) -> Result<String, Fail> {
     let mut out = String::new(alloc);
-    for spin in spins.as_slice() {
-        let free = format!(in alloc; "{}:", spin.free)?;
-        out.push_str(&free)?;
-        for turn in spin.turns.as_slice() {
-            tell(alloc, turn, &mut out)?;
-        }
-        out.push_str("; ")?;
+    for spin in spins {
+        tell_spin(alloc, spin, &mut out)?;
     }
     Ok(out)
+}
+
+fn tell_spin(alloc: Global, spin: &Spin, out: &mut String) -> Result<(), Fail> {
+    let free = format!(in alloc; "{}:", spin.free)?;
+    out.push_str(&free)?;
+    for turn in spin.turns.as_slice() {
+        tell(alloc, turn, out)?;
+    }
+    out.push_str("; ")?;
+    Ok(())
 }
 
 // A turn with the name of its user, its slice and its offers by the numbers of their slots.
@@ -200,90 +261,96 @@ fn negotiated(
     )
 }
 
-#[test]
-fn three_users_take_turns_by_priority(rt: HostRuntime) -> Result<(), Fail> {
-    let alloc = rt.alloc();
-    let store = machines(alloc, &[b"a", b"b", b"c", b"d", b"e", b"f"])?;
-    let mut priorities = Priorities::new(alloc);
-    assert_eq!(rt; priorities.set(b"ann", 1_000_000), Ok(()));
-    assert_eq!(rt; priorities.set(b"bob", 1), Ok(()));
-    assert_eq!(rt; priorities.set(b"cid", 3), Ok(()));
-    let mut jobs = ClaimTable::new(alloc);
-    submit(alloc, &mut jobs, b"a1", b"ann", 64)?;
-    submit(alloc, &mut jobs, b"a2", b"ann", 64)?;
-    submit(alloc, &mut jobs, b"b1", b"bob", 64)?;
-    submit(alloc, &mut jobs, b"c1", b"cid", 64)?;
-    submit(alloc, &mut jobs, b"c2", b"cid", 64)?;
-    // Of six free ones bob's slice is 4, cid's 1 and ann's 1; each takes the first that is free.
-    assert_eq!(rt;
-        negotiated(alloc, &store, &mut jobs, &priorities)?.as_str(),
-        "6: 4>0 1>1 1>2; 3: 2>3 1>4; 1:; "
-    );
+// A cycle of these machines and jobs has these spins.
+fn assert_spins(
+    rt: &impl Abort,
+    alloc: Global,
+    names: &[&[u8]],
+    priorities: &Priorities,
+    rows: Rows,
+    wanted: &str,
+) -> Result<(), Fail> {
+    let store = machines(alloc, names)?;
+    let mut jobs = waiting(alloc, rows)?;
+    let spins = negotiated(alloc, &store, &mut jobs, priorities)?;
+    assert_eq!(rt; spins.as_str(), wanted);
     Ok(())
 }
+
+// The same where no priority is set.
+fn assert_equal_spins(
+    rt: &impl Abort,
+    alloc: Global,
+    names: &[&[u8]],
+    rows: Rows,
+    wanted: &str,
+) -> Result<(), Fail> {
+    let priorities = Priorities::new(alloc);
+    assert_spins(rt, alloc, names, &priorities, rows, wanted)
+}
+
+const THREE_USERS: [(&[u8], &[u8], Wish); 5] = [
+    (b"a1", b"ann", Memory(64)),
+    (b"a2", b"ann", Memory(64)),
+    (b"b1", b"bob", Memory(64)),
+    (b"c1", b"cid", Memory(64)),
+    (b"c2", b"cid", Memory(64)),
+];
+
+#[test]
+fn three_users_take_turns_by_priority(rt: HostRuntime) -> Result<(), Fail> {
+    let mut priorities = Priorities::new(rt.alloc());
+    assert_set(&rt, &mut priorities, b"ann", 1_000_000);
+    assert_set(&rt, &mut priorities, b"bob", 1);
+    assert_set(&rt, &mut priorities, b"cid", 3);
+    // Of six free ones bob's slice is 4, cid's 1 and ann's 1; each takes the first that is free.
+    let names: [&[u8]; 6] = [b"a", b"b", b"c", b"d", b"e", b"f"];
+    let wanted = "6: 4>0 1>1 1>2; 3: 2>3 1>4; 1:; ";
+    assert_spins(&rt, rt.alloc(), &names, &priorities, &THREE_USERS, wanted)
+}
+
+const TOO_MUCH: [(&[u8], &[u8], Wish); 5] = [
+    (b"a1", b"ann", Memory(65)),
+    (b"a2", b"ann", Memory(65)),
+    (b"b1", b"bob", Memory(65)),
+    (b"b2", b"bob", Memory(64)),
+    (b"b3", b"bob", Memory(64)),
+];
 
 #[test]
 fn jobs_that_fail_cost_nothing(rt: HostRuntime) -> Result<(), Fail> {
-    let alloc = rt.alloc();
-    let store = machines(alloc, &[b"a", b"b"])?;
-    let priorities = Priorities::new(alloc);
-    let mut jobs = ClaimTable::new(alloc);
-    submit(alloc, &mut jobs, b"a1", b"ann", 65)?;
-    submit(alloc, &mut jobs, b"a2", b"ann", 65)?;
-    submit(alloc, &mut jobs, b"b1", b"bob", 65)?;
-    submit(alloc, &mut jobs, b"b2", b"bob", 64)?;
-    submit(alloc, &mut jobs, b"b3", b"bob", 64)?;
     // ann's jobs fail in each spin, and she keeps her part of what is free.
-    assert_eq!(rt;
-        negotiated(alloc, &store, &mut jobs, &priorities)?.as_str(),
-        "2: 1>0; 1: 1>1; 0:; "
-    );
-    Ok(())
+    let wanted = "2: 1>0; 1: 1>1; 0:; ";
+    assert_equal_spins(&rt, rt.alloc(), &[b"a", b"b"], &TOO_MUCH, wanted)
 }
+
+const GANG_FIRST: [(&[u8], &[u8], Wish); 3] = [
+    (b"ga", b"ann", Gang),
+    (b"s", b"ann", Memory(64)),
+    (b"t", b"bob", Memory(64)),
+];
 
 #[test]
 fn a_gang_takes_a_resource_for_each_port_off_the_slice(rt: HostRuntime) -> Result<(), Fail> {
-    let alloc = rt.alloc();
-    let store = machines(alloc, &[b"m1", b"m2", b"m3"])?;
-    let priorities = Priorities::new(alloc);
-    let mut jobs = ClaimTable::new(alloc);
-    submit_gang(alloc, &mut jobs, b"ga", b"ann")?;
-    submit(alloc, &mut jobs, b"s", b"ann", 64)?;
-    submit(alloc, &mut jobs, b"t", b"bob", 64)?;
     // Nothing was given in ann's turn before the gang, so it is given more than her slice, and the turn ends.
-    assert_eq!(rt;
-        negotiated(alloc, &store, &mut jobs, &priorities)?.as_str(),
-        "3: 1>0>1 1>2; 0:; "
-    );
-    Ok(())
+    let wanted = "3: 1>0>1 1>2; 0:; ";
+    assert_equal_spins(&rt, rt.alloc(), &[b"m1", b"m2", b"m3"], &GANG_FIRST, wanted)
 }
+
+const GANG_SECOND: [(&[u8], &[u8], Wish); 3] = [
+    (b"s", b"ann", Memory(64)),
+    (b"ga", b"ann", Gang),
+    (b"t", b"ann", Memory(64)),
+];
 
 #[test]
 fn a_gang_that_wants_more_than_is_left_ends_the_turn(rt: HostRuntime) -> Result<(), Fail> {
-    let alloc = rt.alloc();
-    let store = machines(alloc, &[b"m1", b"m2"])?;
-    let priorities = Priorities::new(alloc);
-    let mut jobs = ClaimTable::new(alloc);
-    submit(alloc, &mut jobs, b"s", b"ann", 64)?;
-    submit_gang(alloc, &mut jobs, b"ga", b"ann")?;
-    submit(alloc, &mut jobs, b"t", b"ann", 64)?;
     // In the second spin the gang finds one machine alone, which the job behind it is given.
-    assert_eq!(rt;
-        negotiated(alloc, &store, &mut jobs, &priorities)?.as_str(),
-        "2: 2>0; 1: 1>1; 0:; "
-    );
-    Ok(())
+    let wanted = "2: 2>0; 1: 1>1; 0:; ";
+    assert_equal_spins(&rt, rt.alloc(), &[b"m1", b"m2"], &GANG_SECOND, wanted)
 }
 
 #[test]
 fn a_cycle_without_jobs_is_one_spin(rt: HostRuntime) -> Result<(), Fail> {
-    let alloc = rt.alloc();
-    let store = machines(alloc, &[b"a", b"b", b"c"])?;
-    let priorities = Priorities::new(alloc);
-    let mut jobs = ClaimTable::new(alloc);
-    assert_eq!(rt;
-        negotiated(alloc, &store, &mut jobs, &priorities)?.as_str(),
-        "3:; "
-    );
-    Ok(())
+    assert_equal_spins(&rt, rt.alloc(), &[b"a", b"b", b"c"], &[], "3:; ")
 }

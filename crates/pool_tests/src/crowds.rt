@@ -5,6 +5,7 @@ use crate::runs::run;
 use pool_engine::RunEnd;
 use pool_text::{OutOfMemory, Text, append_count};
 use std::alloc::Global;
+use std::process::Abort;
 use std::test::Fail;
 
 // Ads `m0`, `m1` and so on, where that of number i has the attribute `A` with the last three digits of i behind it, which is i.
@@ -22,22 +23,32 @@ fn machines(alloc: Global, count: u64) -> Result<Text, OutOfMemory> {
     Ok(script)
 }
 
+// A run of this script refuses one command, and its last replies are these.
+fn assert_last(
+    rt: &impl Abort,
+    alloc: Global,
+    script: &[u8],
+    read: usize,
+    last: &[u8],
+) -> Result<(), OutOfMemory> {
+    let (end, written) = run(alloc, script, (read, 4096), 0, 0)?;
+    assert!(rt; end == RunEnd::Done { refused: 1 });
+    assert!(rt; written.bytes().ends_with(last));
+    Ok(())
+}
+
+/// What is asked of ten thousand ads.
+const QUERIES: &[u8] =
+    b"query\n[ Requirements = TARGET.A7 >= 5007; Rank = TARGET.A7 ]\n.\nquery\n[ Requirements = TARGET.A12 == 12 || TARGET.A999 is 9999 ]\n.\nadvertise one_more 600\n[ ]\n.\nwithdraw m7\nadvertise one_more 600\n[ ]\n.\nclock 600\n";
+
+const HITS: &[u8] =
+    b"advertised m9999\nhits 5\nm9007 9007\nm8007 8007\nm7007 7007\nm6007 6007\nm5007 5007\nhits 2\nm12 0\nm9999 0\nrefused 10 too many ads\nwithdrawn m7\nadvertised one_more\nclock 600 expired 10000\n";
+
 #[test]
 fn ten_thousand_ads_of_a_thousand_names(rt: HostRuntime) -> Result<(), Fail> {
-    let alloc = rt.alloc();
-    let mut script = machines(alloc, 10_000)?;
-    script.append(b"query\n[ Requirements = TARGET.A7 >= 5007; Rank = TARGET.A7 ]\n.\n")?;
-    script.append(b"query\n[ Requirements = TARGET.A12 == 12 || TARGET.A999 is 9999 ]\n.\n")?;
-    script.append(
-        b"advertise one_more 600\n[ ]\n.\nwithdraw m7\nadvertise one_more 600\n[ ]\n.\nclock 600\n",
-    )?;
-    let ended = run(alloc, script.bytes(), (4096, 4096), 0, 0)?;
-    assert!(rt; ended.0 == RunEnd::Done { refused: 1 });
-    assert!(rt;
-        ended.1.bytes().ends_with(
-            b"advertised m9999\nhits 5\nm9007 9007\nm8007 8007\nm7007 7007\nm6007 6007\nm5007 5007\nhits 2\nm12 0\nm9999 0\nrefused 10 too many ads\nwithdrawn m7\nadvertised one_more\nclock 600 expired 10000\n"
-        )
-    );
+    let mut script = machines(rt.alloc(), 10_000)?;
+    script.append(QUERIES)?;
+    assert_last(&rt, rt.alloc(), script.bytes(), 4096, HITS)?;
     Ok(())
 }
 
@@ -65,20 +76,18 @@ fn long_texts(alloc: Global, count: u64) -> Result<Text, OutOfMemory> {
     Ok(script)
 }
 
+/// Three ads more, of which the second takes the place of a long one.
+const MORE: &[u8] =
+    b"advertise one_more 600\n[]\n.\nadvertise m0 600\n[]\n.\nadvertise one_more 600\n[]\n.\n";
+
+const ONE_REFUSED: &[u8] =
+    b"advertised m511\nrefused 10 too much ad text\nreplaced m0\nadvertised one_more\n";
+
 #[test]
 fn ads_have_32_mebibytes_of_text_together(rt: HostRuntime) -> Result<(), Fail> {
-    let alloc = rt.alloc();
-    let mut script = long_texts(alloc, 512)?;
-    script.append(
-        b"advertise one_more 600\n[]\n.\nadvertise m0 600\n[]\n.\nadvertise one_more 600\n[]\n.\n",
-    )?;
-    let ended = run(alloc, script.bytes(), (65536, 4096), 0, 0)?;
-    assert!(rt; ended.0 == RunEnd::Done { refused: 1 });
-    assert!(rt;
-        ended.1.bytes().ends_with(
-            b"advertised m511\nrefused 10 too much ad text\nreplaced m0\nadvertised one_more\n"
-        )
-    );
+    let mut script = long_texts(rt.alloc(), 512)?;
+    script.append(MORE)?;
+    assert_last(&rt, rt.alloc(), script.bytes(), 65536, ONE_REFUSED)?;
     Ok(())
 }
 
@@ -90,19 +99,38 @@ const ALL_REPLIES: &[u8] =
     b"advertised a\n[ X = 1; Requirements = true ]\nads 1\na 0 9 free\n2\n1\nhits 1\na 0\nsubmitted j\npriority ann 7\nspin 1 free 1\nslice ann 1\noffer j ann a\nspin 2 free 0\noffers 1\nads 1\na 0 9 offered j\nclaimed j a\nreleased j\nremoved j\nwithdrawn a\nclock 5 expired 0\nrefused 2 unknown command\n";
 
 #[test]
-fn each_read_and_each_write_may_fail_among_all_commands(rt: HostRuntime) -> Result<(), Fail> {
-    let alloc = rt.alloc();
-    let whole = run(alloc, ALL, (16, 16), 0, 0)?;
-    assert_eq!(rt; whole.1.bytes(), ALL_REPLIES);
+fn all_commands_are_answered(rt: HostRuntime) -> Result<(), Fail> {
+    let (_, written) = run(rt.alloc(), ALL, (16, 16), 0, 0)?;
+    assert_eq!(rt; written.bytes(), ALL_REPLIES);
+    Ok(())
+}
+
+// A run that fails at these calls ends like this, and what is written is where the replies begin.
+fn assert_fails(
+    rt: &impl Abort,
+    alloc: Global,
+    source_fails: usize,
+    sink_fails: usize,
+    wanted: RunEnd,
+) -> Result<(), OutOfMemory> {
+    let (end, written) = run(alloc, ALL, (16, 16), source_fails, sink_fails)?;
+    assert!(rt; end == wanted);
+    assert!(rt; ALL_REPLIES.starts_with(written.bytes()));
+    Ok(())
+}
+
+#[test]
+fn each_read_may_fail_among_all_commands(rt: HostRuntime) -> Result<(), Fail> {
     for call in 1..=ALL.len() / 16 + 1 {
-        let ended = run(alloc, ALL, (16, 16), call, 0)?;
-        assert!(rt; ended.0 == RunEnd::ReadFault);
-        assert!(rt; ALL_REPLIES.starts_with(ended.1.bytes()));
+        assert_fails(&rt, rt.alloc(), call, 0, RunEnd::ReadFault)?;
     }
+    Ok(())
+}
+
+#[test]
+fn each_write_may_fail_among_all_commands(rt: HostRuntime) -> Result<(), Fail> {
     for call in 1..=ALL_REPLIES.len() / 16 + 1 {
-        let ended = run(alloc, ALL, (16, 16), 0, call)?;
-        assert!(rt; ended.0 == RunEnd::WriteFault);
-        assert!(rt; ALL_REPLIES.starts_with(ended.1.bytes()));
+        assert_fails(&rt, rt.alloc(), 0, call, RunEnd::WriteFault)?;
     }
     Ok(())
 }

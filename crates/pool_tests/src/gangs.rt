@@ -1,5 +1,5 @@
 // Scripts with gangs, with their replies worked out by hand.
-use crate::runs::run;
+use crate::runs::assert_run;
 use pool_engine::RunEnd;
 use std::test::Fail;
 
@@ -39,11 +39,9 @@ const SCRIPTS: [(&[u8], u64, &[u8]); 5] = [
 
 #[test]
 fn gangs_are_answered(rt: HostRuntime) -> Result<(), Fail> {
-    let alloc = rt.alloc();
     for (script, refused, replies) in SCRIPTS {
-        let whole = run(alloc, script, (4096, 4096), 0, 0)?;
-        assert!(rt; whole.0 == RunEnd::Done { refused });
-        assert_eq!(rt; whole.1.bytes(), replies);
+        let end = RunEnd::Done { refused };
+        assert_run(&rt, rt.alloc(), script, (4096, 4096), (0, 0), end, replies)?;
     }
     Ok(())
 }

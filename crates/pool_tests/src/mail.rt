@@ -5,6 +5,7 @@ use pool_engine::*;
 use pool_io::{MemorySink, MemorySource};
 use pool_text::{OutOfMemory, Slots, Text};
 use std::alloc::Global;
+use std::process::Abort;
 use std::test::Fail;
 
 // Every command that tells of a job: each is told to the user `u` and to the resource `m`.
@@ -26,19 +27,17 @@ struct Seen {
     failures: Option<u64>,
 }
 
+// A box that fails at one of its notices, or at none where that is 0.
+fn mailbox(alloc: Global, fails: usize) -> Result<Box<MemoryMailbox>, OutOfMemory> {
+    let mailbox = MemoryMailbox::new(alloc, 1 << 10, calls(alloc, fails)?)?;
+    Ok(Box::new(alloc, mailbox)?)
+}
+
 // Runs a script with a box for `m`, which fails at one of its notices, and a box for `u`.
 fn run_heard(alloc: Global, script: &[u8], fails: usize) -> Result<Seen, OutOfMemory> {
     let mut desk = Desk::new(alloc);
-    let flawed = Box::new(
-        alloc,
-        MemoryMailbox::new(alloc, 1 << 10, calls(alloc, fails)?)?,
-    )?;
-    let sound = Box::new(
-        alloc,
-        MemoryMailbox::new(alloc, 1 << 10, Slots::new(alloc))?,
-    )?;
-    let _added = desk.add(b"m", flawed);
-    let _added = desk.add(b"u", sound);
+    let _added = desk.add(b"m", mailbox(alloc, fails)?);
+    let _added = desk.add(b"u", mailbox(alloc, 0)?);
     let replies = replies(alloc, script, &mut desk)?;
     Ok(Seen {
         replies,
@@ -74,12 +73,21 @@ fn shows(shown: &Option<Text>, bytes: &[u8]) -> bool {
     }
 }
 
+fn assert_replies(rt: &impl Abort, seen: &Seen, wanted: &[u8]) {
+    assert_eq!(rt; seen.replies.bytes(), wanted);
+}
+
+// A box shows these bytes.
+fn assert_shows(rt: &impl Abort, shown: &Option<Text>, wanted: &[u8]) {
+    assert!(rt; shows(shown, wanted));
+}
+
 #[test]
 fn each_name_takes_its_notices_in_order(rt: HostRuntime) -> Result<(), Fail> {
     let seen = run_heard(rt.alloc(), SCRIPT, 0)?;
-    assert_eq!(rt; seen.replies.bytes(), REPLIES);
-    assert!(rt; shows(&seen.m, NOTICES));
-    assert!(rt; shows(&seen.u, NOTICES));
+    assert_replies(&rt, &seen, REPLIES);
+    assert_shows(&rt, &seen.m, NOTICES);
+    assert_shows(&rt, &seen.u, NOTICES);
     Ok(())
 }
 
@@ -87,10 +95,9 @@ fn each_name_takes_its_notices_in_order(rt: HostRuntime) -> Result<(), Fail> {
 fn a_box_that_fails_is_dropped_and_changes_no_reply(rt: HostRuntime) -> Result<(), Fail> {
     for fails in 1..8 {
         let seen = run_heard(rt.alloc(), SCRIPT, fails)?;
-        assert_eq!(rt; seen.replies.bytes(), REPLIES);
-        assert!(rt; seen.m.is_none());
-        assert_eq!(rt; seen.failures, Some(1));
-        assert!(rt; shows(&seen.u, NOTICES));
+        assert_replies(&rt, &seen, REPLIES);
+        assert!(rt; seen.m.is_none() && seen.failures == Some(1));
+        assert_shows(&rt, &seen.u, NOTICES);
     }
     Ok(())
 }
@@ -102,9 +109,9 @@ fn a_name_that_is_taken_off_takes_no_more(rt: HostRuntime) -> Result<(), Fail> {
     let wanted =
         b"advertised m\nunlistened m\nrefused 8 name not known\nsubmitted j\nspin 1 free 1\nslice u 1\noffer j u m\nspin 2 free 0\noffers 1\nclock 9 expired 1\n";
     let seen = run_heard(rt.alloc(), script, 0)?;
-    assert_eq!(rt; seen.replies.bytes(), wanted.as_slice());
+    assert_replies(&rt, &seen, wanted);
     assert!(rt; seen.failures.is_none());
-    assert!(rt; shows(&seen.u, b"matched j m\nfreed j m\n"));
+    assert_shows(&rt, &seen.u, b"matched j m\nfreed j m\n");
     Ok(())
 }
 
@@ -115,9 +122,9 @@ fn a_name_that_is_user_and_resource_is_told_once(rt: HostRuntime) -> Result<(), 
     let wanted =
         b"advertised m\nsubmitted j\nspin 1 free 1\nslice m 1\noffer j m m\nspin 2 free 0\noffers 1\n";
     let seen = run_heard(rt.alloc(), script, 0)?;
-    assert_eq!(rt; seen.replies.bytes(), wanted.as_slice());
-    assert!(rt; shows(&seen.m, b"matched j m\n"));
-    assert!(rt; shows(&seen.u, b""));
+    assert_replies(&rt, &seen, wanted);
+    assert_shows(&rt, &seen.m, b"matched j m\n");
+    assert_shows(&rt, &seen.u, b"");
     Ok(())
 }
 
@@ -146,19 +153,37 @@ pub(crate) fn texts(alloc: Global, words: &[&[u8]]) -> Result<Vec<Text>, OutOfMe
     Ok(texts)
 }
 
+/// Words ask for this.
+pub(crate) fn assert_asked(
+    rt: &impl Abort,
+    alloc: Global,
+    words: &[&[u8]],
+    wanted: Asked,
+) -> Result<(), OutOfMemory> {
+    let words = texts(alloc, words)?;
+    assert!(rt; read_words(&words) == wanted);
+    Ok(())
+}
+
 #[test]
 fn words_ask_for_mailboxes(rt: HostRuntime) -> Result<(), Fail> {
-    let alloc = rt.alloc();
     for (words, asked) in WORDS {
-        assert!(rt; read_words(&texts(alloc, words)?) == asked);
+        assert_asked(&rt, rt.alloc(), words, asked)?;
     }
-    let boxes = mails(
-        alloc,
-        &texts(alloc, &[b"--mail", b"a=x=y", b"--mail", b"b=/z"])?,
-    )?;
-    assert_eq!(rt; boxes.len(), 2);
-    assert_eq!(rt; boxes[0].name.bytes(), b"a".as_slice());
-    assert_eq!(rt; boxes[0].file.bytes(), b"x=y".as_slice());
-    assert_eq!(rt; boxes[1].file.bytes(), b"/z".as_slice());
+    Ok(())
+}
+
+fn assert_text(rt: &impl Abort, found: &Text, wanted: &[u8]) {
+    assert_eq!(rt; found.bytes(), wanted);
+}
+
+#[test]
+fn mailboxes_have_names_and_files(rt: HostRuntime) -> Result<(), Fail> {
+    let words = texts(rt.alloc(), &[b"--mail", b"a=x=y", b"--mail", b"b=/z"])?;
+    let boxes = mails(rt.alloc(), &words)?;
+    assert!(rt; boxes.len() == 2);
+    assert_text(&rt, &boxes[0].name, b"a");
+    assert_text(&rt, &boxes[0].file, b"x=y");
+    assert_text(&rt, &boxes[1].file, b"/z");
     Ok(())
 }

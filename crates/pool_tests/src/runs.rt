@@ -12,6 +12,7 @@ use pool_steps::Steps;
 use pool_text::{OutOfMemory, Slots, Text, append_count};
 use std::alloc::Global;
 use std::marker::Brand;
+use std::process::Abort;
 use std::sync::ledger::{Blank, Ledger};
 use std::test::Fail;
 
@@ -39,6 +40,35 @@ pub(crate) fn run(
     let end = run_uncounted(alloc, &words, &mut source, &mut sink);
     let written = Text::from_bytes(alloc, sink.taken())?;
     Ok((end, written))
+}
+
+/// A run over such a source and such a sink, which fail at these calls, ends like this, with these replies.
+pub(crate) fn assert_run(
+    rt: &impl Abort,
+    alloc: Global,
+    script: &[u8],
+    most: (usize, usize),
+    fails: (usize, usize),
+    end: RunEnd,
+    replies: &[u8],
+) -> Result<(), OutOfMemory> {
+    let (ended, written) = run(alloc, script, most, fails.0, fails.1)?;
+    assert!(rt; ended == end);
+    assert_eq!(rt; written.bytes(), replies);
+    Ok(())
+}
+
+/// A script is answered like this, with so many refusals, however its bytes are cut.
+fn assert_answered(
+    rt: &impl Abort,
+    alloc: Global,
+    script: &[u8],
+    refused: u64,
+    replies: &[u8],
+) -> Result<(), OutOfMemory> {
+    let end = RunEnd::Done { refused };
+    assert_run(rt, alloc, script, (4096, 4096), (0, 0), end, replies)?;
+    assert_run(rt, alloc, script, (1, 1), (0, 0), end, replies)
 }
 
 // Runs a script with counters of its own.
@@ -155,14 +185,8 @@ const SCRIPTS: [(&[u8], u64, &[u8]); 12] = [
 
 #[test]
 fn commands_are_answered(rt: HostRuntime) -> Result<(), Fail> {
-    let alloc = rt.alloc();
     for (script, refused, replies) in SCRIPTS {
-        let whole = run(alloc, script, (4096, 4096), 0, 0)?;
-        assert!(rt; whole.0 == RunEnd::Done { refused });
-        assert_eq!(rt; whole.1.bytes(), replies);
-        let cut = run(alloc, script, (1, 1), 0, 0)?;
-        assert!(rt; cut.0 == whole.0);
-        assert_eq!(rt; cut.1.bytes(), replies);
+        assert_answered(&rt, rt.alloc(), script, refused, replies)?;
     }
     Ok(())
 }
@@ -175,9 +199,17 @@ const REPLIES: &[u8] = b"1\n2\n3\n";
 #[test]
 fn each_read_may_fail(rt: HostRuntime) -> Result<(), Fail> {
     for reads in 0..4 {
-        let ended = run(rt.alloc(), THREE, (7, 4096), reads + 1, 0)?;
-        assert!(rt; ended.0 == RunEnd::ReadFault);
-        assert_eq!(rt; ended.1.bytes(), &REPLIES[..(2 * reads).min(6)]);
+        let replies = &REPLIES[..(2 * reads).min(6)];
+        let end = RunEnd::ReadFault;
+        assert_run(
+            &rt,
+            rt.alloc(),
+            THREE,
+            (7, 4096),
+            (reads + 1, 0),
+            end,
+            replies,
+        )?;
     }
     Ok(())
 }
@@ -185,13 +217,25 @@ fn each_read_may_fail(rt: HostRuntime) -> Result<(), Fail> {
 #[test]
 fn each_write_may_fail(rt: HostRuntime) -> Result<(), Fail> {
     for bytes in 0..6 {
-        let ended = run(rt.alloc(), THREE, (4096, 1), 0, bytes + 1)?;
-        assert!(rt; ended.0 == RunEnd::WriteFault);
-        assert_eq!(rt; ended.1.bytes(), &REPLIES[..bytes]);
+        let replies = &REPLIES[..bytes];
+        let end = RunEnd::WriteFault;
+        assert_run(
+            &rt,
+            rt.alloc(),
+            THREE,
+            (4096, 1),
+            (0, bytes + 1),
+            end,
+            replies,
+        )?;
     }
-    // The first reply was offered before the second read.
-    let ended = run(rt.alloc(), THREE, (7, 4096), 2, 1)?;
-    assert!(rt; ended.0 == RunEnd::WriteFault);
+    Ok(())
+}
+
+#[test]
+fn a_reply_is_offered_before_the_next_read(rt: HostRuntime) -> Result<(), Fail> {
+    let (end, _) = run(rt.alloc(), THREE, (7, 4096), 2, 1)?;
+    assert!(rt; end == RunEnd::WriteFault);
     Ok(())
 }
 
@@ -205,24 +249,28 @@ fn repeated(alloc: Global, first: &[u8], more: &[u8], times: usize) -> Result<Te
     Ok(script)
 }
 
+/// Such lines with their replies.
+const LIMITS: [(&[u8], &[u8], usize, u64, &[u8]); 4] = [
+    (b"1", b" + 1", 63, 0, b"64\n"),
+    (b"1", b" + 1", 64, 1, b"refused 6 depth\n"),
+    (b"", b"(", 131, 1, b"refused 6 nesting\n"),
+    (b"", b"(", 130, 1, b"refused 6 grammar\n"),
+];
+
 #[test]
 fn limits_of_expressions(rt: HostRuntime) -> Result<(), Fail> {
-    let alloc = rt.alloc();
-    let cases: [(&[u8], &[u8], usize, &[u8]); 4] = [
-        (b"1", b" + 1", 63, b"64\n"),
-        (b"1", b" + 1", 64, b"refused 6 depth\n"),
-        (b"", b"(", 131, b"refused 6 nesting\n"),
-        (b"", b"(", 130, b"refused 6 grammar\n"),
-    ];
-    for (first, more, times, reply) in cases {
-        let ended = run(
-            alloc,
-            repeated(alloc, first, more, times)?.bytes(),
+    for (first, more, times, refused, reply) in LIMITS {
+        let script = repeated(rt.alloc(), first, more, times)?;
+        let end = RunEnd::Done { refused };
+        assert_run(
+            &rt,
+            rt.alloc(),
+            script.bytes(),
             (4096, 4096),
-            0,
-            0,
+            (0, 0),
+            end,
+            reply,
         )?;
-        assert_eq!(rt; ended.1.bytes(), reply);
     }
     Ok(())
 }
@@ -243,12 +291,18 @@ fn chain(alloc: Global) -> Result<Text, OutOfMemory> {
 
 #[test]
 fn references_are_bounded(rt: HostRuntime) -> Result<(), Fail> {
-    let alloc = rt.alloc();
-    let ended = run(alloc, chain(alloc)?.bytes(), (4096, 4096), 0, 0)?;
-    assert_eq!(rt;
-        ended.1.bytes(),
-        b"advertised c\n1\nerror\nerror\n".as_slice()
-    );
+    let script = chain(rt.alloc())?;
+    let end = RunEnd::Done { refused: 0 };
+    let replies = b"advertised c\n1\nerror\nerror\n";
+    assert_run(
+        &rt,
+        rt.alloc(),
+        script.bytes(),
+        (4096, 4096),
+        (0, 0),
+        end,
+        replies,
+    )?;
     Ok(())
 }
 
@@ -262,44 +316,59 @@ fn long_line(alloc: Global, length: usize) -> Result<Text, OutOfMemory> {
     Ok(script)
 }
 
-#[test]
-fn a_line_has_65536_bytes_at_most(rt: HostRuntime) -> Result<(), Fail> {
-    let alloc = rt.alloc();
-    let fits = run(alloc, long_line(alloc, 65536)?.bytes(), (4096, 9), 0, 0)?;
-    assert!(rt; fits.0 == RunEnd::Done { refused: 0 });
-    assert_eq!(rt; fits.1.bytes(), b"1\n".as_slice());
-    let long = run(alloc, long_line(alloc, 65537)?.bytes(), (4096, 9), 0, 0)?;
-    assert!(rt; long.0 == RunEnd::Done { refused: 1 });
-    assert_eq!(rt; long.1.bytes(), b"refused 1 line too long\n1\n".as_slice());
-    Ok(())
+// A comment of so many bytes is answered like this.
+fn assert_long_line(
+    rt: &impl Abort,
+    alloc: Global,
+    length: usize,
+    refused: u64,
+    replies: &[u8],
+) -> Result<(), OutOfMemory> {
+    let script = long_line(alloc, length)?;
+    let end = RunEnd::Done { refused };
+    assert_run(rt, alloc, script.bytes(), (4096, 9), (0, 0), end, replies)
 }
 
 #[test]
-fn any_word_is_wrong(rt: HostRuntime) -> Result<(), Fail> {
-    let alloc = rt.alloc();
+fn a_line_has_65536_bytes_at_most(rt: HostRuntime) -> Result<(), Fail> {
+    assert_long_line(&rt, rt.alloc(), 65536, 0, b"1\n")?;
+    assert_long_line(&rt, rt.alloc(), 65537, 1, b"refused 1 line too long\n1\n")?;
+    Ok(())
+}
+
+// How a run of a script ends where it is given this word, and what was written.
+fn run_with_word(alloc: Global, word: &[u8]) -> Result<(RunEnd, Text), OutOfMemory> {
     let mut words = Vec::new(alloc);
-    words.push(Text::from_bytes(alloc, b"--mail")?)?;
+    words.push(Text::from_bytes(alloc, word)?)?;
     let text = Text::from_bytes(alloc, b"eval 1")?;
     let mut source = MemorySource::new(text, 4096, Slots::new(alloc));
     let mut sink = MemorySink::new(alloc, 4096, 100, Slots::new(alloc))?;
     let end = run_uncounted(alloc, &words, &mut source, &mut sink);
-    assert!(rt; end == RunEnd::BadWords);
-    assert_eq!(rt; sink.taken(), b"".as_slice());
-    Ok(())
+    let written = Text::from_bytes(alloc, sink.taken())?;
+    Ok((end, written))
 }
 
 #[test]
+fn any_word_is_wrong(rt: HostRuntime) -> Result<(), Fail> {
+    let (end, written) = run_with_word(rt.alloc(), b"--mail")?;
+    assert!(rt; end == RunEnd::BadWords);
+    assert!(rt; written.bytes().is_empty());
+    Ok(())
+}
+
+const STATUSES: [(RunEnd, u8); 7] = [
+    (RunEnd::Done { refused: 0 }, 0),
+    (RunEnd::Done { refused: 9 }, 1),
+    (RunEnd::BadWords, 2),
+    (RunEnd::ReadFault, 3),
+    (RunEnd::WriteFault, 4),
+    (RunEnd::TooLong, 5),
+    (RunEnd::OutOfMemory, 6),
+];
+
+#[test]
 fn statuses(rt: HostRuntime) {
-    let cases = [
-        (RunEnd::Done { refused: 0 }, 0),
-        (RunEnd::Done { refused: 9 }, 1),
-        (RunEnd::BadWords, 2),
-        (RunEnd::ReadFault, 3),
-        (RunEnd::WriteFault, 4),
-        (RunEnd::TooLong, 5),
-        (RunEnd::OutOfMemory, 6),
-    ];
-    for (end, status) in cases {
+    for (end, status) in STATUSES {
         assert_eq!(rt; end.status(), status);
     }
 }

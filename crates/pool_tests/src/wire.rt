@@ -4,6 +4,7 @@ use pool_engine::{RunEnd, run_wire};
 use pool_io::{MemorySink, MemorySource};
 use pool_text::{OutOfMemory, Text};
 use std::alloc::Global;
+use std::process::Abort;
 use std::test::Fail;
 
 // How a run of one resource and two customers ends over a source and a sink that take so many bytes a call and fail at one
@@ -21,6 +22,35 @@ fn run(
     let end = run_wire(alloc, 1, 2, &mut source, &mut sink);
     let written = Text::from_bytes(alloc, sink.taken())?;
     Ok((end, written))
+}
+
+// A run over such a source and such a sink, which fail at these calls, ends like this, with these replies.
+fn assert_run(
+    rt: &impl Abort,
+    alloc: Global,
+    schedule: &[u8],
+    most: (usize, usize),
+    fails: (usize, usize),
+    end: RunEnd,
+    replies: &[u8],
+) -> Result<(), OutOfMemory> {
+    let (ended, written) = run(alloc, schedule, most, fails.0, fails.1)?;
+    assert!(rt; ended == end);
+    assert_eq!(rt; written.bytes(), replies);
+    Ok(())
+}
+
+// A schedule is answered like this, with so many refusals, however its bytes are cut.
+fn assert_answered(
+    rt: &impl Abort,
+    alloc: Global,
+    schedule: &[u8],
+    refused: u64,
+    replies: &[u8],
+) -> Result<(), OutOfMemory> {
+    let end = RunEnd::Done { refused };
+    assert_run(rt, alloc, schedule, (4096, 4096), (0, 0), end, replies)?;
+    assert_run(rt, alloc, schedule, (1, 1), (0, 0), end, replies)
 }
 
 /// Schedules with how many lines are refused, and the replies.
@@ -51,14 +81,8 @@ const SCHEDULES: [(&[u8], u64, &[u8]); 6] = [
 
 #[test]
 fn lines_are_answered(rt: HostRuntime) -> Result<(), Fail> {
-    let alloc = rt.alloc();
     for (schedule, refused, replies) in SCHEDULES {
-        let whole = run(alloc, schedule, (4096, 4096), 0, 0)?;
-        assert!(rt; whole.0 == RunEnd::Done { refused });
-        assert_eq!(rt; whole.1.bytes(), replies);
-        let cut = run(alloc, schedule, (1, 1), 0, 0)?;
-        assert!(rt; cut.0 == whole.0);
-        assert_eq!(rt; cut.1.bytes(), replies);
+        assert_answered(&rt, rt.alloc(), schedule, refused, replies)?;
     }
     Ok(())
 }
@@ -75,9 +99,17 @@ const ANSWERED: [usize; 4] = [0, 27, 54, 82];
 #[test]
 fn each_read_may_fail(rt: HostRuntime) -> Result<(), Fail> {
     for (lines, bytes) in ANSWERED.iter().enumerate() {
-        let ended = run(rt.alloc(), THREE, (8, 4096), lines + 1, 0)?;
-        assert!(rt; ended.0 == RunEnd::ReadFault);
-        assert_eq!(rt; ended.1.bytes(), &REPLIES[..*bytes]);
+        let replies = &REPLIES[..*bytes];
+        let end = RunEnd::ReadFault;
+        assert_run(
+            &rt,
+            rt.alloc(),
+            THREE,
+            (8, 4096),
+            (lines + 1, 0),
+            end,
+            replies,
+        )?;
     }
     Ok(())
 }
@@ -85,31 +117,59 @@ fn each_read_may_fail(rt: HostRuntime) -> Result<(), Fail> {
 #[test]
 fn each_write_may_fail(rt: HostRuntime) -> Result<(), Fail> {
     for bytes in 0..REPLIES.len() {
-        let ended = run(rt.alloc(), THREE, (4096, 1), 0, bytes + 1)?;
-        assert!(rt; ended.0 == RunEnd::WriteFault);
-        assert_eq!(rt; ended.1.bytes(), &REPLIES[..bytes]);
+        let replies = &REPLIES[..bytes];
+        let end = RunEnd::WriteFault;
+        assert_run(
+            &rt,
+            rt.alloc(),
+            THREE,
+            (4096, 1),
+            (0, bytes + 1),
+            end,
+            replies,
+        )?;
     }
-    // The first reply was offered before the second read.
-    let ended = run(rt.alloc(), THREE, (8, 4096), 2, 1)?;
-    assert!(rt; ended.0 == RunEnd::WriteFault);
     Ok(())
 }
 
 #[test]
-fn a_line_has_65536_bytes_at_most(rt: HostRuntime) -> Result<(), Fail> {
-    let alloc = rt.alloc();
-    for (count, refused, reply) in [
-        (65_536, 0, b"quiet\n".as_slice()),
-        (65_537, 1, b"refused 1 line too long\nquiet\n"),
-    ] {
-        let mut schedule = Text::new(alloc);
-        for _ in 0..count {
-            schedule.append(b"#")?;
-        }
-        schedule.append(b"\nrestart resource 1")?;
-        let ended = run(alloc, schedule.bytes(), (4096, 9), 0, 0)?;
-        assert!(rt; ended.0 == RunEnd::Done { refused });
-        assert_eq!(rt; ended.1.bytes(), reply);
+fn a_reply_is_offered_before_the_next_read(rt: HostRuntime) -> Result<(), Fail> {
+    let (end, _) = run(rt.alloc(), THREE, (8, 4096), 2, 1)?;
+    assert!(rt; end == RunEnd::WriteFault);
+    Ok(())
+}
+
+fn long_line(alloc: Global, length: usize) -> Result<Text, OutOfMemory> {
+    let mut schedule = Text::new(alloc);
+    for _ in 0..length {
+        schedule.append(b"#")?;
     }
+    schedule.append(b"\nrestart resource 1")?;
+    Ok(schedule)
+}
+
+// A comment of so many bytes is answered like this.
+fn assert_long_line(
+    rt: &impl Abort,
+    alloc: Global,
+    length: usize,
+    refused: u64,
+    replies: &[u8],
+) -> Result<(), OutOfMemory> {
+    let schedule = long_line(alloc, length)?;
+    let end = RunEnd::Done { refused };
+    assert_run(rt, alloc, schedule.bytes(), (4096, 9), (0, 0), end, replies)
+}
+
+#[test]
+fn a_line_has_65536_bytes_at_most(rt: HostRuntime) -> Result<(), Fail> {
+    assert_long_line(&rt, rt.alloc(), 65_536, 0, b"quiet\n")?;
+    assert_long_line(
+        &rt,
+        rt.alloc(),
+        65_537,
+        1,
+        b"refused 1 line too long\nquiet\n",
+    )?;
     Ok(())
 }

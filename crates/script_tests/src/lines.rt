@@ -4,6 +4,7 @@ ghost use Rattle.std.specs.Prelude.{◌≡◌, ◌<◌, false};
 use pool_script::{Line, Lines, ended_lines_come_first, lines_are_no_more_than_bytes};
 use pool_text::{OutOfMemory, Text};
 use std::alloc::Global;
+use std::process::Abort;
 use std::test::Fail;
 
 const INPUTS: [(&[u8], &[u8]); 10] = [
@@ -19,16 +20,22 @@ const INPUTS: [(&[u8], &[u8]); 10] = [
     (b"\n\n\n", b"|||"),
 ];
 
+/// The input in pieces of each length gives these lines.
+fn assert_lines(rt: &impl Abort, alloc: Global, input: &[u8], wanted: &[u8]) -> Result<(), Fail> {
+    for most in [65_536, 1, 2, 3, 7] {
+        let read = read_lines(alloc, input, most)?;
+        assert!(rt;
+            read.bytes() == wanted,
+            "{input:?} in pieces of {most}: {read:?}"
+        );
+    }
+    Ok(())
+}
+
 #[test]
 fn lines_are_the_same_however_they_are_cut(rt: HostRuntime) -> Result<(), Fail> {
     for (input, lines) in INPUTS {
-        for most in [65_536, 1, 2, 3, 7] {
-            let read = read_lines(rt.alloc(), input, most)?;
-            assert!(rt;
-                read.bytes() == lines,
-                "{input:?} in pieces of {most}: {read:?}"
-            );
-        }
+        assert_lines(&rt, rt.alloc(), input, lines)?;
     }
     Ok(())
 }
@@ -45,22 +52,37 @@ const LIMITS: [(usize, &[u8], bool, &[u8]); 8] = [
     (200_000, b"\r\n\nb", true, b"|b|"),
 ];
 
+fn long_line(alloc: Global, count: usize, behind: &[u8]) -> Result<Text, OutOfMemory> {
+    let mut input = Text::new(alloc);
+    for _ in 0..count {
+        input.append(b"a")?;
+    }
+    input.append(behind)?;
+    Ok(input)
+}
+
+/// The input in pieces of each length gives lines that begin and end like this.
+fn assert_ends(
+    rt: &impl Abort,
+    alloc: Global,
+    input: &[u8],
+    first: &[u8],
+    others: &[u8],
+) -> Result<(), Fail> {
+    for most in [1_000_000, 1, 1000] {
+        let read = read_lines(alloc, input, most)?;
+        assert!(rt; read.bytes().starts_with(first), "in pieces of {most}");
+        assert!(rt; read.bytes().ends_with(others), "in pieces of {most}");
+    }
+    Ok(())
+}
+
 #[test]
 fn a_long_line_is_one_line(rt: HostRuntime) -> Result<(), Fail> {
     for (count, behind, long, others) in LIMITS {
-        let mut input = Text::new(rt.alloc());
-        for _ in 0..count {
-            input.append(b"a")?;
-        }
-        input.append(behind)?;
-        for most in [1_000_000, 1, 1000] {
-            let read = read_lines(rt.alloc(), input.bytes(), most)?;
-            let first: &[u8] = if long { b"too long|" } else { b"a" };
-            assert!(rt;
-                read.bytes().starts_with(first) && read.bytes().ends_with(others),
-                "{count} and {behind:?} in pieces of {most}"
-            );
-        }
+        let input = long_line(rt.alloc(), count, behind)?;
+        let first: &[u8] = if long { b"too long|" } else { b"a" };
+        assert_ends(&rt, rt.alloc(), input.bytes(), first, others)?;
     }
     Ok(())
 }

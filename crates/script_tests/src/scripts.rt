@@ -6,6 +6,7 @@ ghost use Rattle.pool_script.specs.Standing.{Stands};
 use pool_script::{Command, Script};
 use pool_text::{OutOfMemory, Text, append_count};
 use std::alloc::Global;
+use std::process::Abort;
 use std::test::Fail;
 
 const SCRIPTS: [(&[u8], &[u8]); 32] = [
@@ -85,16 +86,35 @@ const SCRIPTS: [(&[u8], &[u8]); 32] = [
     ),
 ];
 
+/// The commands of the input in pieces of this length, as they are written here.
+fn read(alloc: Global, input: &[u8], most: usize) -> Result<Text, OutOfMemory>
+    requires { 0 < most }
+{
+    let commands = read_commands(alloc, input, most)?;
+    written(alloc, &commands)
+}
+
+/// The input in pieces of each length gives these commands.
+fn assert_commands(
+    rt: &impl Abort,
+    alloc: Global,
+    input: &[u8],
+    wanted: &[u8],
+) -> Result<(), Fail> {
+    for most in [65_536, 1, 2, 3, 7] {
+        let read = read(alloc, input, most)?;
+        assert!(rt;
+            read.bytes() == wanted,
+            "{input:?} in pieces of {most}: {read:?}"
+        );
+    }
+    Ok(())
+}
+
 #[test]
 fn commands_are_the_same_however_they_are_cut(rt: HostRuntime) -> Result<(), Fail> {
     for (input, commands) in SCRIPTS {
-        for most in [65_536, 1, 2, 3, 7] {
-            let read = written(rt.alloc(), &read_commands(rt.alloc(), input, most)?)?;
-            assert!(rt;
-                read.bytes() == commands,
-                "{input:?} in pieces of {most}: {read:?}"
-            );
-        }
+        assert_commands(&rt, rt.alloc(), input, commands)?;
     }
     Ok(())
 }
@@ -115,21 +135,39 @@ const LIMITS: [(&[u8], u8, usize, &[u8], &[u8]); 12] = [
     (b"query\n", b'\n', 65_537, b".\nlist", b"refused 5|list|"),
 ];
 
+/// A text around a run of one byte.
+fn with_run(
+    alloc: Global,
+    before: &[u8],
+    byte: u8,
+    count: usize,
+    behind: &[u8],
+) -> Result<Text, OutOfMemory> {
+    let mut input = Text::from_bytes(alloc, before)?;
+    for _ in 0..count {
+        input.append(&[byte])?;
+    }
+    input.append(behind)?;
+    Ok(input)
+}
+
+/// The input in pieces of each length gives commands that begin like this.
+fn assert_begins(rt: &impl Abort, alloc: Global, input: &[u8], wanted: &[u8]) -> Result<(), Fail> {
+    for most in [1_000_000, 1, 1000] {
+        let read = read(alloc, input, most)?;
+        assert!(rt;
+            read.bytes().starts_with(wanted),
+            "{wanted:?} in pieces of {most}"
+        );
+    }
+    Ok(())
+}
+
 #[test]
 fn limits_are_those_of_the_format(rt: HostRuntime) -> Result<(), Fail> {
     for (before, byte, count, behind, commands) in LIMITS {
-        let mut input = Text::from_bytes(rt.alloc(), before)?;
-        for _ in 0..count {
-            input.append(&[byte])?;
-        }
-        input.append(behind)?;
-        for most in [1_000_000, 1, 1000] {
-            let read = written(rt.alloc(), &read_commands(rt.alloc(), input.bytes(), most)?)?;
-            assert!(rt;
-                read.bytes().starts_with(commands),
-                "{before:?} and {count} in pieces of {most}"
-            );
-        }
+        let input = with_run(rt.alloc(), before, byte, count, behind)?;
+        assert_begins(&rt, rt.alloc(), input.bytes(), commands)?;
     }
     Ok(())
 }
@@ -181,48 +219,54 @@ fn append_command(out: &mut Text, command: &Command) -> Result<(), OutOfMemory> 
             name,
             lifetime,
             block,
-        } => {
-            append_words(out, &[b"advertise", name.bytes()])?;
-            append_with_number(out, b"", *lifetime)?;
-            append_words(out, &[b"", block.bytes()])?;
+        } => append_advertise(out, name, *lifetime, block)?,
+        Command::Withdraw(name) => append_one(out, b"withdraw", name)?,
+        Command::Show(name) => append_one(out, b"show", name)?,
+        Command::List => out.append(b"list")?,
+        Command::Eval(expr) => append_one(out, b"eval", expr)?,
+        Command::EvalIn { name, expr } => append_two(out, b"evalin", name, expr)?,
+        Command::Query(block) => append_one(out, b"query", block)?,
+        Command::Submit { job, user, block } => {
+            append_two(out, b"submit", job, user)?;
+            append_one(out, b"", block)?;
         }
-        Command::Withdraw(name) => append_words(out, &[b"withdraw", name.bytes()])?,
-        Command::Show(name) => append_words(out, &[b"show", name.bytes()])?,
-        Command::List => append_words(out, &[b"list"])?,
-        Command::Eval(expr) => append_words(out, &[b"eval", expr.bytes()])?,
-        Command::EvalIn { name, expr } => append_words(
-            out,
-            &[b"evalin", name.bytes(), expr.bytes()],
-        )?,
-        Command::Query(block) => append_words(out, &[b"query", block.bytes()])?,
-        Command::Submit { job, user, block } => append_words(
-            out,
-            &[b"submit", job.bytes(), user.bytes(), block.bytes()],
-        )?,
-        Command::Remove(job) => append_words(out, &[b"remove", job.bytes()])?,
+        Command::Remove(job) => append_one(out, b"remove", job)?,
         Command::Priority { user, n } => {
-            append_words(out, &[b"priority", user.bytes()])?;
+            append_one(out, b"priority", user)?;
             append_with_number(out, b"", *n)?;
         }
-        Command::Gang(block) => append_words(out, &[b"gang", block.bytes()])?,
-        Command::Negotiate => append_words(out, &[b"negotiate"])?,
-        Command::Claim(job) => append_words(out, &[b"claim", job.bytes()])?,
-        Command::Release(job) => append_words(out, &[b"release", job.bytes()])?,
-        Command::Unlisten(name) => append_words(out, &[b"unlisten", name.bytes()])?,
+        Command::Gang(block) => append_one(out, b"gang", block)?,
+        Command::Negotiate => out.append(b"negotiate")?,
+        Command::Claim(job) => append_one(out, b"claim", job)?,
+        Command::Release(job) => append_one(out, b"release", job)?,
+        Command::Unlisten(name) => append_one(out, b"unlisten", name)?,
         Command::Bad(refusal) => append_with_number(out, b"refused", u64::from(*refusal))?,
     }
     out.append(b"|")
 }
 
-/// Appends words with a blank between two.
-fn append_words(out: &mut Text, words: &[&[u8]]) -> Result<(), OutOfMemory> {
-    for (i, word) in words.iter().enumerate() {
-        if i > 0 {
-            out.append(b" ")?;
-        }
-        out.append(word)?;
-    }
-    Ok(())
+fn append_advertise(
+    out: &mut Text,
+    name: &Text,
+    lifetime: u64,
+    block: &Text,
+) -> Result<(), OutOfMemory> {
+    append_one(out, b"advertise", name)?;
+    append_with_number(out, b"", lifetime)?;
+    append_one(out, b"", block)
+}
+
+/// Appends a word and another behind a blank.
+fn append_one(out: &mut Text, word: &[u8], other: &Text) -> Result<(), OutOfMemory> {
+    out.append(word)?;
+    out.append(b" ")?;
+    out.append(other.bytes())
+}
+
+/// Appends a word and two others, each behind a blank.
+fn append_two(out: &mut Text, word: &[u8], other: &Text, last: &Text) -> Result<(), OutOfMemory> {
+    append_one(out, word, other)?;
+    append_one(out, b"", last)
 }
 
 /// Appends a word, a blank and a number.

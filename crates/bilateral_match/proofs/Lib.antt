@@ -1,4 +1,3 @@
-pub mod AlikeLemmas
 mod ConjunctLemmas
 pub mod DecidedLemmas
 pub mod DockingLemmas
@@ -13,9 +12,7 @@ mod OrderLemmas
 pub mod PlaceLemmas
 pub mod PoolLemmas
 pub mod RowLemmas
-mod SameLemmas
 mod ScanLemmas
-mod ShortlistLemmas
 mod TestLemmas
 pub mod UndecidedLemmas
 mod WeighLemmas

@@ -1,4 +1,3 @@
-pub mod Alike
 pub mod Answers
 pub mod Candidates
 pub mod Counts
@@ -7,4 +6,3 @@ pub mod Members
 pub mod Pool
 pub mod Rows
 pub mod Scan
-pub mod Shortlists

@@ -20,7 +20,7 @@ use std::test::Fail;
 
 // A resource that is claimed by a single job.
 #[derive(Drop)]
-pub(crate) struct Claim {
+struct Claim {
     request: Request,
     slots: Slots,
     ghost single: { request.ports ≡ [] },
@@ -29,9 +29,9 @@ pub(crate) struct Claim {
 
 // One offer and one claim at most.
 #[derive(Drop)]
-pub(crate) struct Board {
-    pub offered: Option<usize>,
-    pub claim: Option<Claim>,
+struct Board {
+    offered: Option<usize>,
+    claim: Option<Claim>,
 }
 
 impl Holdings for Board {
@@ -62,7 +62,7 @@ impl Holdings for Board {
 }
 
 // Nothing is offered or claimed.
-pub(crate) fn empty() -> Board
+fn empty() -> Board
     ensures { result.claim ≡ None }
 {
     Board {
@@ -72,12 +72,7 @@ pub(crate) fn empty() -> Board
 }
 
 // The resource at a place is claimed.
-pub(crate) fn claimed(
-    alloc: Global,
-    store: &Store,
-    place: usize,
-    request: Request,
-) -> Result<Board, Fail>
+fn claimed(alloc: Global, store: &Store, place: usize, request: Request) -> Result<Board, Fail>
     requires { request.ports ≡ [] }
     ensures { IfOk result (λ board. IfSome board.claim (λ c. All (Contains (stock_of store.now).slots) c.slots)) }
 {
@@ -93,7 +88,7 @@ pub(crate) fn claimed(
 }
 
 // `[ Worth = ..; Rank = ..; Requirements = true ]`
-pub(crate) fn ad(alloc: Global, worth: i64, rank: Expr) -> Result<Ad, OutOfMemory> {
+fn ad(alloc: Global, worth: i64, rank: Expr) -> Result<Ad, OutOfMemory> {
     let mut draft = Draft::new(alloc);
     define(alloc, &mut draft, b"Worth", integer(worth))?;
     define(alloc, &mut draft, b"Rank", rank)?;
@@ -102,7 +97,7 @@ pub(crate) fn ad(alloc: Global, worth: i64, rank: Expr) -> Result<Ad, OutOfMemor
 }
 
 // A job of this worth.
-pub(crate) fn job(alloc: Global, worth: i64, rank: Expr) -> Result<Request, OutOfMemory>
+fn job(alloc: Global, worth: i64, rank: Expr) -> Result<Request, OutOfMemory>
     ensures { IfOk result (λ request. request.ports ≡ []) }
 {
     Ok(Request {
@@ -112,7 +107,7 @@ pub(crate) fn job(alloc: Global, worth: i64, rank: Expr) -> Result<Request, OutO
 }
 
 // A job that ranks all resources alike.
-pub(crate) fn plain_job(alloc: Global, worth: i64) -> Result<Request, OutOfMemory>
+fn plain_job(alloc: Global, worth: i64) -> Result<Request, OutOfMemory>
     ensures { IfOk result (λ request. request.ports ≡ []) }
 {
     job(alloc, worth, integer(0))

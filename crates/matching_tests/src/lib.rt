@@ -9,5 +9,3 @@ mod index;
 mod matching;
 #[cfg(test)]
 mod plans;
-#[cfg(test)]
-mod shortlists;

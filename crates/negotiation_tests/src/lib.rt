@@ -2,6 +2,4 @@
 #![tactic(auto)]
 
 #[cfg(test)]
-mod clusters;
-#[cfg(test)]
 mod negotiation;

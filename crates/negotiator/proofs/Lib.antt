@@ -1,7 +1,6 @@
 mod ActiveLemmas
 pub mod AlikeLemmas
 mod BudgetLemmas
-mod ClusterLemmas
 pub mod CycleLemmas
 pub mod GangLemmas
 pub mod JobLemmas

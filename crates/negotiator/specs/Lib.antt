@@ -1,6 +1,5 @@
 pub mod Budget
 pub mod Causes
-pub mod Clusters
 pub mod Cycle
 pub mod Mapped
 pub mod Markets

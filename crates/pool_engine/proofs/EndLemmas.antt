@@ -11,7 +11,7 @@ use Rattle.pool_engine.specs.declared.run.RunEnd.{RunEnd}
 use Rattle.pool_engine.specs.declared.run.RunEnd.TheVariants.{Done, BadWords, ReadFault, WriteFault, TooLong, OutOfMemory}
 use Rattle.pool_engine.specs.Ends.{AreDue, Effects, Ends, IsWriteFault}
 use Rattle.pool_engine.specs.Events.{events_of, replies_text, state_after}
-use Rattle.pool_engine.specs.Heard.{Heard, opened, step_heard}
+use Rattle.pool_state.specs.Heard.{Heard, opened, step_heard}
 use Rattle.pool_engine.proofs.EventLemmas.{replies-append}
 
 -- the commands that are due come first among those of the whole input

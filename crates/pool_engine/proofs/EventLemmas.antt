@@ -9,11 +9,11 @@ use Rattle.pool_replies.specs.declared.reply.Reply.{Reply}
 use Rattle.pool_replies.specs.Replies.{is_refused, refusal_count, reply_text}
 use Rattle.pool_engine.specs.Events.{Event, Posted, allowed_of, event_of, events_of, looks_of, posts_of_event, posts_of_events, refusals_of, replies_text, state_after}
 use Rattle.notice_desk.specs.Desk.{Row}
-use Rattle.pool_engine.specs.Heard.{Heard, kept, step_heard}
-use Rattle.pool_engine.specs.Posting.{Post, RowAfter}
-use Rattle.pool_engine.specs.Step.{allowance, looks}
-use Rattle.pool_engine.proofs.HeardLemmas.{kept-append, kept-zip}
-use Rattle.pool_engine.proofs.PostingLemmas.{rows_both, rows_none}
+use Rattle.pool_state.specs.Heard.{Heard, kept, step_heard}
+use Rattle.pool_state.specs.Posting.{Post, RowAfter}
+use Rattle.pool_state.specs.Step.{allowance, looks}
+use Rattle.pool_state.proofs.HeardLemmas.{kept-append, kept-zip}
+use Rattle.pool_state.proofs.PostingLemmas.{rows_both, rows_none}
 
 pub events_of-append : (s : Heard) (a b : List Command) → events_of s (a ++ b) ≡ events_of s a ++ events_of (state_after s a) b
 events_of-append s [] b = refl

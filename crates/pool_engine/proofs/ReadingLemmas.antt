@@ -12,7 +12,7 @@ use Rattle.pool_engine.specs.declared.run.RunEnd.TheVariants.{Done, BadWords, Re
 use Rattle.pool_engine.specs.Ends.{AreDue, Effects, Ends, Gave, IsDone, IsReadFault, IsTooLong, Lost, before_last, end_of}
 use Rattle.pool_engine.specs.Limits.{input_limit}
 use Rattle.pool_engine.specs.Session.{Stopped, Took}
-use Rattle.pool_engine.specs.Heard.{Heard, opened}
+use Rattle.pool_state.specs.Heard.{Heard, opened}
 use Rattle.pool_engine.proofs.EventLemmas.{Posted-none, refusals-le}
 use Rattle.pool_engine.proofs.TookLemmas.{Costs-none, Took-append, broke_behind, cost_to, posted_either, posted_to, wrote_behind}
 use Rattle.pool_engine.proofs.WroteLemmas.{Wrote-nil}

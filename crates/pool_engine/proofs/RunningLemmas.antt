@@ -5,7 +5,7 @@ use Rattle.pool_script.specs.declared.command.Command.{Command}
 use Rattle.pool_engine.specs.declared.run.RunEnd.{RunEnd}
 use Rattle.pool_engine.specs.Ends.{Effects}
 use Rattle.pool_engine.specs.Session.{Stopped, Took}
-use Rattle.pool_engine.specs.Heard.{Heard}
+use Rattle.pool_state.specs.Heard.{Heard}
 use Rattle.pool_engine.proofs.TookLemmas.{Stopped-within, Took-append, Took-from, Took-nil}
 
 -- the first of all commands ran, and the others wait

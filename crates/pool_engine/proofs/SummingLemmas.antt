@@ -9,7 +9,7 @@ use Rattle.pool_replies.specs.Replies.{hit_count, offer_count, reply_text}
 use Rattle.pool_engine.specs.declared.run.RunEnd.TheVariants.{OutOfMemory}
 use Rattle.pool_engine.specs.Ends.{Effects, effects}
 use Rattle.pool_engine.specs.Events.{Event, event_of, events_of, replies_text, state_after}
-use Rattle.pool_engine.specs.Heard.{Heard, opened}
+use Rattle.pool_state.specs.Heard.{Heard, opened}
 use Rattle.pool_engine.specs.Session.{Stopped, Took}
 use Rattle.pool_engine.specs.Workloads.{IsSummaryOf, IsUnsummed, silent, workload_commands}
 use Rattle.pool_engine.proofs.EventLemmas.{events_of-append, refusals_of-append}

@@ -32,16 +32,16 @@ use Rattle.pool_engine.specs.Ends.{AnswersFirst, Effects, IsWriteFault, before_l
 use Rattle.pool_engine.specs.Events.{events_of, replies_text, state_after}
 use Rattle.ad_printer.specs.Values.{printed_frame}
 use Rattle.negotiator.specs.Priorities.{lacks_place}
-use Rattle.pool_engine.specs.Gangs.{gang, gang_names, line}
-use Rattle.pool_engine.specs.Ports.{has_bad_ports}
-use Rattle.pool_engine.specs.Queue.{has_job, job_refusal, job_text}
+use Rattle.pool_state.specs.Gangs.{gang, gang_names, line}
+use Rattle.pool_state.specs.Ports.{has_bad_ports}
+use Rattle.pool_state.specs.Queue.{has_job, job_refusal, job_text}
 use Rattle.claim_table.specs.Jobs.{jobs_limit, text_limit}
 use Rattle.claim_table.specs.declared.answers.JobState.{JobState}
-use Rattle.pool_engine.specs.State.{JobStanding, QueuedJob, State, claimed, idle, matched}
-use Rattle.pool_engine.specs.Heard.{Heard, is_unlisten, listens, opened, step_heard}
-use Rattle.pool_engine.proofs.HeardLemmas.{heard-other}
-use Rattle.pool_engine.specs.Claiming.{checked, claim, claim_as, first_failing, job_named, losers, release, release_as, restood, without_holders}
-use Rattle.pool_engine.specs.Step.{ad_named, advertise, clock, eval, eval_beside, eval_in, put_ad, query, refused, remove, room_of, set_priority, show, step, submit, take_job, withdraw}
+use Rattle.pool_state.specs.State.{JobStanding, QueuedJob, State, claimed, idle, matched}
+use Rattle.pool_state.specs.Heard.{Heard, is_unlisten, listens, opened, step_heard}
+use Rattle.pool_state.proofs.HeardLemmas.{heard-other}
+use Rattle.pool_state.specs.Claiming.{checked, claim, claim_as, first_failing, job_named, losers, release, release_as, restood, without_holders}
+use Rattle.pool_state.specs.Step.{ad_named, advertise, clock, eval, eval_beside, eval_in, put_ad, query, refused, remove, room_of, set_priority, show, step, submit, take_job, withdraw}
 
 -- ---- no reply is empty
 

@@ -12,10 +12,10 @@ use Rattle.pool_engine.specs.Ends.{Broke, Costs, Effects, Wrote}
 use Rattle.notice_desk.specs.Desk.{Row}
 use Rattle.pool_engine.specs.Events.{Event, Posted, allowed_of, events_of, looks_of, replies_text, state_after}
 use Rattle.pool_engine.specs.Session.{Lacks, Stopped, Took}
-use Rattle.pool_engine.specs.Heard.{Heard, kept_by, step_heard}
-use Rattle.pool_engine.specs.Notices.{notices}
-use Rattle.pool_engine.specs.Posting.{Post, RowAfter, posts_of_all}
-use Rattle.pool_engine.specs.Step.{allowance, looks}
+use Rattle.pool_state.specs.Heard.{Heard, kept_by, step_heard}
+use Rattle.pool_state.specs.Notices.{notices}
+use Rattle.pool_state.specs.Posting.{Post, RowAfter, posts_of_all}
+use Rattle.pool_state.specs.Step.{allowance, looks}
 use Rattle.pool_engine.proofs.EventLemmas.{Posted-append, Posted-none, allowed-append, looks-append, sum-append, refusals-append, replies-append, state_after-append}
 use Rattle.pool_engine.proofs.WroteLemmas.{Broke-after, Wrote-append, Wrote-nil}
 

@@ -12,7 +12,7 @@ use Rattle.pool_engine.specs.declared.run.RunEnd.{RunEnd}
 use Rattle.pool_engine.specs.declared.run.RunEnd.TheVariants as ends
 use Rattle.pool_engine.specs.Ends.{Effects, Ends}
 use Rattle.pool_engine.specs.Events.{events_of, replies_text}
-use Rattle.pool_engine.specs.Heard.{opened}
+use Rattle.pool_state.specs.Heard.{opened}
 use Rattle.pool_engine.specs.Mails.{mails_of}
 use Rattle.pool_engine.specs.Options.{are_options, count_of}
 use Rattle.pool_engine.specs.declared.mail.Mail.{Mail}

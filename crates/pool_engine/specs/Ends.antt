@@ -10,7 +10,7 @@ use Rattle.pool_engine.specs.declared.run.RunEnd.{RunEnd}
 use Rattle.pool_engine.specs.declared.run.RunEnd.TheVariants.{Done, BadWords, ReadFault, WriteFault, TooLong, OutOfMemory}
 use Rattle.pool_engine.specs.Events.{Event, Posted, allowed_of, events_of, looks_of, refusals_of, replies_text, state_after}
 use Rattle.pool_engine.specs.Limits.{input_limit}
-use Rattle.pool_engine.specs.Heard.{opened, step_heard}
+use Rattle.pool_state.specs.Heard.{opened, step_heard}
 
 -- ---- what was read and written
 

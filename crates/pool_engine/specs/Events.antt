@@ -5,10 +5,10 @@ use Rattle.pool_script.specs.declared.command.Command.{Command}
 use Rattle.pool_replies.specs.declared.reply.Reply.{Reply}
 use Rattle.pool_replies.specs.Replies.{refusal_count, reply_text}
 use Rattle.notice_desk.specs.Desk.{Row}
-use Rattle.pool_engine.specs.Heard.{Heard, kept, step_heard}
-use Rattle.pool_engine.specs.Notices.{notices}
-use Rattle.pool_engine.specs.Posting.{Post, RowAfter, posts_of_all}
-use Rattle.pool_engine.specs.Step.{allowance, looks}
+use Rattle.pool_state.specs.Heard.{Heard, kept, step_heard}
+use Rattle.pool_state.specs.Notices.{notices}
+use Rattle.pool_state.specs.Posting.{Post, RowAfter, posts_of_all}
+use Rattle.pool_state.specs.Step.{allowance, looks}
 
 -- a command that ran: the pool and its listeners before it, the command, both behind it, and the reply
 pub record Event : Type 0 where

@@ -7,7 +7,7 @@ use Rattle.pool_engine.specs.declared.run.RunEnd.TheVariants.{WriteFault, OutOfM
 use Rattle.pool_replies.specs.Replies.{reply_text}
 use Rattle.pool_engine.specs.Ends.{Broke, Costs, Effects, Wrote}
 use Rattle.pool_engine.specs.Events.{Posted, events_of, refusals_of, replies_text, state_after}
-use Rattle.pool_engine.specs.Heard.{Heard, step_heard}
+use Rattle.pool_state.specs.Heard.{Heard, step_heard}
 
 -- the commands ran, the replies were taken, and the refusals among them counted on
 pub record Took (s t : Heard) (k m : Effects) (commands : List Command) (before after : ℕ) : Type 0 where

@@ -12,7 +12,7 @@ use Rattle.pool_engine.specs.declared.run.RunEnd.{RunEnd}
 use Rattle.pool_engine.specs.declared.run.RunEnd.TheVariants.{Done, WriteFault, OutOfMemory}
 use Rattle.pool_engine.specs.Ends.{Broke, Costs, Effects, Wrote}
 use Rattle.pool_engine.specs.Events.{Event, Posted, events_of, refusals_of, replies_text}
-use Rattle.pool_engine.specs.Heard.{opened}
+use Rattle.pool_state.specs.Heard.{opened}
 
 -- ---- the summary
 

@@ -2,24 +2,11 @@
 //! schedule of the claiming protocol, and a workload whose script it writes itself.
 #![tactic(auto)]
 
-mod ads;
-mod books;
-mod claiming;
 mod command_line;
-mod eval;
-mod gangs;
-mod indexed;
-mod jobs;
 mod laws;
 mod line_wire;
-mod losses;
 mod mail;
-mod negotiation;
-mod notices;
 mod options;
-mod pool;
-mod posting;
-mod query;
 mod run;
 mod session;
 mod wire;
@@ -30,7 +17,7 @@ mod workload_run;
 pub use command_line::{Asked, mails, read_words};
 pub use laws::the_first_reply_is_offered_at_once;
 pub use mail::Mail;
-pub use pool::Pool;
+pub use pool_state::Pool;
 pub use run::{RunEnd, run_pool};
 pub use wire::run_wire;
 pub use wire_laws::the_first_reply_of_a_wire_is_offered_at_once;

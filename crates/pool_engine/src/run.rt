@@ -5,7 +5,7 @@ ghost use Rattle.pool_script.specs.Commands.{whole_commands};
 ghost use Rattle.pool_engine.specs.CommandLine.{AskedEnds, IsUnread, asked_by, asked_text, input_of};
 ghost use Rattle.pool_engine.specs.Ends.{Ends, IsDoneOrOutOfMemory, LeavesAtMost, effects, end_of, status_of};
 ghost use Rattle.pool_engine.specs.Events.{events_of, replies_text};
-ghost use Rattle.pool_engine.specs.Heard.{opened};
+ghost use Rattle.pool_state.specs.Heard.{opened};
 ghost use Rattle.pool_engine.specs.Limits.{input_limit};
 
 use crate::command_line::{Asked, read_words};

@@ -1,8 +1,8 @@
 use Rattle.std.proofs.Common.{ap, arith, length-take, refl}
 use Rattle.std.proofs.lemmas.Result.{err_from_is_err_and}
-use Rattle.pool_engine.specs.Heard.{heard}
-use Rattle.pool_engine.specs.Pool.{state_of}
-use Rattle.pool_engine.specs.State.{State}
+use Rattle.pool_state.specs.Heard.{heard}
+use Rattle.pool_state.specs.Pool.{state_of}
+use Rattle.pool_state.specs.State.{State}
 use Rattle.pool_engine.proofs.ReadingLemmas.{Reading-finish, Reading-lost, Reading-past, Reading-piece, Reading-room, Reading-room_last, Reading-start, Reading-stopped, take_one}
 use Rattle.pool_engine.proofs.run.run_input.Goals as goal
 

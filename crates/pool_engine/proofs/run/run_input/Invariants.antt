@@ -1,7 +1,7 @@
 use Rattle.std.proofs.Common.{◌≡◌, length}
 use Rattle.pool_engine.specs.Ends.{effects}
-use Rattle.pool_engine.specs.Heard.{heard}
-use Rattle.pool_engine.specs.Pool.{state_of}
+use Rattle.pool_state.specs.Heard.{heard}
+use Rattle.pool_state.specs.Pool.{state_of}
 use Rattle.pool_engine.proofs.ReadingLemmas.{Reading}
 use Rattle.pool_engine.proofs.run.run_input.Given as goal
 

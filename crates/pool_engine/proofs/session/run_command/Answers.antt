@@ -1,8 +1,8 @@
 use Rattle.std.proofs.Common.{refl}
 use Rattle.std.proofs.lemmas.Result.{err_from_is_err_and}
 use Rattle.pool_engine.specs.Ends.{effects}
-use Rattle.pool_engine.specs.Heard.{heard}
-use Rattle.pool_engine.specs.Pool.{state_of}
+use Rattle.pool_state.specs.Heard.{heard}
+use Rattle.pool_state.specs.Pool.{state_of}
 use Rattle.pool_engine.proofs.TookLemmas.{Stopped-offered, Stopped-step}
 use Rattle.pool_engine.proofs.session.run_command.Goals as goal
 

@@ -1,8 +1,8 @@
 use Rattle.std.proofs.Common.{refl}
 use Rattle.pool_engine.specs.declared.run.RunEnd.TheVariants.{OutOfMemory}
 use Rattle.pool_engine.specs.Ends.{effects}
-use Rattle.pool_engine.specs.Heard.{heard}
-use Rattle.pool_engine.specs.Pool.{state_of}
+use Rattle.pool_state.specs.Heard.{heard}
+use Rattle.pool_state.specs.Pool.{state_of}
 use Rattle.pool_engine.specs.Workloads.{silent}
 use Rattle.pool_engine.proofs.SummingLemmas.{always_err}
 use Rattle.pool_engine.proofs.TookLemmas.{Stopped-one, Stopped-step}

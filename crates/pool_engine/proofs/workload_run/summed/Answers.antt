@@ -1,6 +1,6 @@
 use Rattle.std.proofs.Common.{[], ◌∷◌, ap}
 use Rattle.pool_engine.specs.Ends.{effects}
-use Rattle.pool_engine.specs.Heard.{heard, opened}
+use Rattle.pool_state.specs.Heard.{heard, opened}
 use Rattle.pool_engine.specs.Workloads.{silent, workload_commands}
 use Rattle.pool_engine.proofs.SummingLemmas.{Summing-command, Summing-start, Summing-stopped, Took-stopped, always_err}
 use Rattle.pool_engine.proofs.TookLemmas.{Stopped-none}

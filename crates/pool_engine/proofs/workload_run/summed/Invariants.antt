@@ -1,7 +1,7 @@
 use Rattle.std.proofs.Common.{length}
 use Rattle.pool_engine.specs.Ends.{effects}
-use Rattle.pool_engine.specs.Heard.{heard, opened}
-use Rattle.pool_engine.specs.Pool.{state_of}
+use Rattle.pool_state.specs.Heard.{heard, opened}
+use Rattle.pool_state.specs.Pool.{state_of}
 use Rattle.pool_engine.specs.Workloads.{silent, workload_commands}
 use Rattle.pool_engine.proofs.SummingLemmas.{Summing}
 use Rattle.pool_engine.proofs.workload_run.summed.Given as goal

@@ -1,6 +1,6 @@
 use Rattle.std.proofs.Common.{◌++◌}
 use Rattle.std.proofs.lemmas.Result.{err_from_is_err_and}
-use Rattle.pool_engine.proofs.AdLemmas.{always_ok}
+use Rattle.pool_state.proofs.AdLemmas.{always_ok}
 use Rattle.pool_engine.proofs.TookLemmas.{Stopped-none}
 use Rattle.pool_engine.proofs.session.Session.feed.Goals as goal
 

@@ -1,8 +1,8 @@
 use Rattle.std.proofs.Common.{◌≡◌, ℕ, List, length}
 use Rattle.pool_script.specs.Standing.{Stands}
 use Rattle.pool_engine.specs.Ends.{effects}
-use Rattle.pool_engine.specs.Heard.{heard}
-use Rattle.pool_engine.specs.Pool.{state_of}
+use Rattle.pool_state.specs.Heard.{heard}
+use Rattle.pool_state.specs.Pool.{state_of}
 use Rattle.pool_engine.proofs.RunningLemmas.{Running}
 use Rattle.pool_engine.proofs.session.Session.run_waiting.Given as goal
 

@@ -1,5 +1,5 @@
 use Rattle.std.proofs.Common.{◌++◌}
-use Rattle.pool_engine.proofs.AdLemmas.{always_ok}
+use Rattle.pool_state.proofs.AdLemmas.{always_ok}
 use Rattle.pool_engine.proofs.wire_session.WireSession.feed.Goals as goal
 
 pub returns-clause-stands : goal.returns-clause-stands

@@ -1,6 +1,0 @@
-use Rattle.std.proofs.Common.{◌≡◌, ◌∷◌, take}
-use Rattle.pool_engine.specs.Notices.{each_once}
-use Rattle.pool_engine.proofs.notices.listeners.Given as goal
-
-abbrev pub invariant-loop-name : goal.invariant-loop-name
-invariant-loop-name l = l.once ≡ each_once (l.user ∷ take l.name-index l.names)

@@ -1,6 +1,0 @@
-use Rattle.std.proofs.Common.{◌≡◌, take}
-use Rattle.pool_engine.specs.Notices.{matches}
-use Rattle.pool_engine.proofs.notices.matches.Given as goal
-
-abbrev pub invariant-loop-spin : goal.invariant-loop-spin
-invariant-loop-spin l = l.list ≡ matches (take l.spin-index l.spins)

@@ -1,0 +1,136 @@
+-- No two jobs list one resource.
+use Rattle.std.proofs.Common.{◌≡◌, ℕ, zero, suc, All, Bool, true, false, ◌||◌, List, [], ◌∷◌, map, slice_get, Option, None, Some, option_map, bytes_eq, refl, sym, ◌∙◌, ap}
+use Rattle.std.specs.List.{list_all}
+use Rattle.std.specs.Cmp.Lexicographic.{bytes_decides}
+use Rattle.std.proofs.lemmas.List.Elements.{All-cons, All-nil}
+use Rattle.std.proofs.lemmas.Option.{slice_get-map}
+use Rattle.ad_store.specs.Stock.{Advert, Stock, has}
+use Rattle.ad_store.proofs.HeldLemmas.{both}
+use Rattle.claim_table.specs.declared.job.Job.{Job}
+use Rattle.claim_table.specs.declared.job.Standing.{Standing}
+use Rattle.claim_table.specs.Jobs.{AreExclusive as AreApart, claim_of, lists, offer_of, slots_of}
+use Rattle.pool_state.specs.Apart.{AreExclusive}
+use Rattle.pool_state.specs.Pool.{name_in, named_standing, queued}
+use Rattle.pool_state.specs.Queue.{claim_names, is_listed, names_of, offer_names}
+use Rattle.pool_state.specs.State.{JobStanding, QueuedJob}
+use Rattle.pool_state.specs.Stored.{are_stored, is_stored}
+use Rattle.pool_state.proofs.AdLemmas.{has_at}
+use Rattle.pool_state.proofs.NameLemmas.{AreBeside, Named, beside-is, listed-named, name_there, named_beside}
+
+-- an ad of a name, with its slot
+record Held (stock : Stock) (name : List ℕ) : Type 0 where
+  pub place : ℕ
+  pub advert : Advert
+  pub slot : ℕ
+  pub at : slice_get stock.ads place ≡ Some advert
+  pub slot_at : slice_get stock.slots place ≡ Some slot
+  pub called : advert.name ≡ name
+
+-- a job at its place, behind the job that is seen there
+record Behind (stock : Stock) (jobs : List Job) (i : ℕ) (seen : QueuedJob) : Type 0 where
+  pub job : Job
+  pub at : slice_get jobs i ≡ Some job
+  pub is : queued stock job ≡ seen
+  pub stored : is_stored stock.slots job ≡ true
+
+stored-at : (slots : List ℕ) (jobs : List Job) (i : ℕ) (job : Job) → are_stored slots jobs ≡ true → slice_get jobs i ≡ Some job → is_stored slots job ≡ true
+stored-at slots [] i job stored at = absurd (cc)
+stored-at slots (x ∷ jobs) zero job stored at =
+    let same : x ≡ job = cc in
+    ap (is_stored slots) (sym same) ∙ (both (is_stored slots x) (are_stored slots jobs) stored).0
+stored-at slots (x ∷ jobs) (suc i) job stored at = stored-at slots jobs i job (both (is_stored slots x) (are_stored slots jobs) stored).1 at
+
+behind : (stock : Stock) (jobs : List Job) (i : ℕ) (seen : QueuedJob) → are_stored stock.slots jobs ≡ true → slice_get (map (queued stock) jobs) i ≡ Some seen → Behind stock jobs i seen
+behind stock jobs i seen stored at = by (slice_get jobs i) refl (sym (slice_get-map (queued stock) jobs i) ∙ at)
+  where
+    by : (o : Option Job) → slice_get jobs i ≡ o → option_map (queued stock) o ≡ Some seen → Behind stock jobs i seen
+    by None found is = absurd (cc)
+    by (Some job) found is = record { job = job; at = found; is = cc; stored = stored-at stock.slots jobs i job stored found }
+
+-- a slot's name is an ad's
+held-in : (stock : Stock) (beside : AreBeside stock.ads stock.slots) (slot : ℕ) (name : List ℕ) → lists stock.slots slot ≡ true → name ≡ name_in stock slot → Held stock name
+held-in stock beside slot name listed is =
+    let there : Named stock.ads stock.slots slot (named_beside stock.ads stock.slots slot) = name_there stock.ads stock.slots slot beside.long listed in
+    record { place = there.place; advert = there.advert; slot = slot; at = there.at; slot_at = there.slot_at; called = there.called ∙ sym (beside-is stock.ads stock.slots slot) ∙ sym is }
+
+module _ (stock : Stock) (beside : AreBeside stock.ads stock.slots) where
+  -- a listed name is an ad's
+  held-of : (name : List ℕ) (own : List ℕ) → list_all (lists stock.slots) own ≡ true → is_listed name (map (name_in stock) own) ≡ true → Held stock name
+  held-of name [] stored listed = absurd (cc)
+  held-of name (s ∷ own) stored listed = by (bytes_eq name (name_in stock s)) refl listed (λ later. held-of name own parts.1 later)
+    where
+      parts : (lists stock.slots s ≡ true) × (list_all (lists stock.slots) own ≡ true)
+      parts = both (lists stock.slots s) (list_all (lists stock.slots) own) stored
+
+      by : (b : Bool) → bytes_eq name (name_in stock s) ≡ b → (b || is_listed name (map (name_in stock) own)) ≡ true → (is_listed name (map (name_in stock) own) ≡ true → Held stock name) → Held stock name
+      by true is l later = held-in stock beside s name parts.0 ((bytes_decides name (name_in stock s)).0 is)
+      by false is l later = later l
+
+  module _ (part : Standing → List ℕ) (names : JobStanding → List (List ℕ)) (named : (standing : Standing) → names (named_standing stock standing) ≡ map (name_in stock) (part standing)) (within : (standing : Standing) → list_all (lists stock.slots) (slots_of standing) ≡ true → list_all (lists stock.slots) (part standing) ≡ true) where
+    by-slots : (name : List ℕ) (job : Job) (seen : QueuedJob) → queued stock job ≡ seen → is_listed name (names seen.standing) ≡ true → is_listed name (map (name_in stock) (part job.standing)) ≡ true
+    by-slots name job seen is listed = ap (is_listed name) (sym (named job.standing) ∙ ap (λ (q : QueuedJob). names q.standing) is) ∙ listed
+
+    lists-it : (name : List ℕ) (held : Held stock name) (job : Job) → is_stored stock.slots job ≡ true → is_listed name (map (name_in stock) (part job.standing)) ≡ true → lists (part job.standing) held.slot ≡ true
+    lists-it name held job stored listed =
+        sym (listed-named stock.ads stock.slots beside held.place held.advert held.slot held.at held.slot_at (part job.standing) (within job.standing stored))
+        ∙ ap (λ n. is_listed n (map (name_in stock) (part job.standing))) held.called
+        ∙ listed
+
+    exclusive : (jobs : List Job) → are_stored stock.slots jobs ≡ true → AreApart part jobs → AreExclusive names (map (queued stock) jobs)
+    exclusive jobs stored apart = λ name i j a b at_i at_j in_a in_b.
+        let x : Behind stock jobs i a = behind stock jobs i a stored at_i in
+        let y : Behind stock jobs j b = behind stock jobs j b stored at_j in
+        let own = by-slots name x.job a x.is in_a in
+        let held : Held stock name = held-of name (part x.job.standing) (within x.job.standing x.stored) own in
+        apart held.slot i j x.job y.job x.at y.at (lists-it name held x.job x.stored own) (lists-it name held y.job y.stored (by-slots name y.job b y.is in_b))
+
+  -- ---- offers and claims
+
+  offer-named : (standing : Standing) → offer_names (named_standing stock standing) ≡ map (name_in stock) (offer_of standing)
+  offer-named Standing.Idle = refl
+  offer-named (Standing.Matched own) = refl
+  offer-named (Standing.Claimed own) = refl
+
+  claim-named : (standing : Standing) → claim_names (named_standing stock standing) ≡ map (name_in stock) (claim_of standing)
+  claim-named Standing.Idle = refl
+  claim-named (Standing.Matched own) = refl
+  claim-named (Standing.Claimed own) = refl
+
+  offer-within : (standing : Standing) → list_all (lists stock.slots) (slots_of standing) ≡ true → list_all (lists stock.slots) (offer_of standing) ≡ true
+  offer-within Standing.Idle held = refl
+  offer-within (Standing.Matched own) held = held
+  offer-within (Standing.Claimed own) held = refl
+
+  claim-within : (standing : Standing) → list_all (lists stock.slots) (slots_of standing) ≡ true → list_all (lists stock.slots) (claim_of standing) ≡ true
+  claim-within Standing.Idle held = refl
+  claim-within (Standing.Matched own) held = refl
+  claim-within (Standing.Claimed own) held = held
+
+  pub offers-apart : (jobs : List Job) → are_stored stock.slots jobs ≡ true → AreApart offer_of jobs → AreExclusive offer_names (map (queued stock) jobs)
+  offers-apart jobs stored apart = exclusive offer_of offer_names offer-named offer-within jobs stored apart
+
+  pub claims-apart : (jobs : List Job) → are_stored stock.slots jobs ≡ true → AreApart claim_of jobs → AreExclusive claim_names (map (queued stock) jobs)
+  claims-apart jobs stored apart = exclusive claim_of claim_names claim-named claim-within jobs stored apart
+
+  -- ---- what jobs have is held
+
+  abbrev IsHeld : List ℕ → Type 0
+  IsHeld name = has name stock.ads ≡ true
+
+  names-held : (own : List ℕ) → list_all (lists stock.slots) own ≡ true → All IsHeld (map (name_in stock) own)
+  names-held [] stored = All-nil IsHeld
+  names-held (s ∷ own) stored =
+      let parts = both (lists stock.slots s) (list_all (lists stock.slots) own) stored in
+      let there : Held stock (name_in stock s) = held-in stock beside s (name_in stock s) parts.0 refl in
+      All-cons IsHeld (name_in stock s) (map (name_in stock) own) (has_at (name_in stock s) stock.ads there.place there.advert there.at there.called) (names-held own parts.1)
+
+  standing-held : (standing : Standing) → list_all (lists stock.slots) (slots_of standing) ≡ true → All IsHeld (names_of (named_standing stock standing))
+  standing-held Standing.Idle stored = All-nil IsHeld
+  standing-held (Standing.Matched own) stored = names-held own stored
+  standing-held (Standing.Claimed own) stored = names-held own stored
+
+  pub jobs-held : (jobs : List Job) → are_stored stock.slots jobs ≡ true → All (λ job. All (λ name. has name stock.ads ≡ true) (names_of job.standing)) (map (queued stock) jobs)
+  jobs-held [] stored = All-nil (λ (job : QueuedJob). All IsHeld (names_of job.standing))
+  jobs-held (job ∷ jobs) stored =
+      let parts = both (is_stored stock.slots job) (are_stored stock.slots jobs) stored in
+      All-cons (λ (q : QueuedJob). All IsHeld (names_of q.standing)) (queued stock job) (map (queued stock) jobs) (standing-held job.standing parts.0) (jobs-held jobs parts.1)

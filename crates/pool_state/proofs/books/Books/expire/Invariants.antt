@@ -1,0 +1,17 @@
+use Rattle.std.proofs.Common.{◌≡◌, ◌+◌, ◌≤◌, length}
+use Rattle.pool_state.specs.Books.{queue_of}
+use Rattle.pool_state.specs.Indexed.{ads_of}
+use Rattle.pool_state.specs.Queue.{without_resources}
+use Rattle.pool_state.specs.Step.{has_expired, live_ads}
+use Rattle.pool_state.proofs.books.Books.expire.Given as goal
+
+abbrev pub invariant-loop-slot : goal.invariant-loop-slot
+invariant-loop-slot g l = record {
+  live : live_ads l.now (ads_of l.self.ads) ≡ live_ads l.now (ads_of l.initial.self.ads);
+  jobs : without_resources (has_expired l.now (ads_of l.self.ads)) (queue_of l.self) ≡ without_resources (has_expired l.now (ads_of l.initial.self.ads)) (queue_of l.initial.self);
+  looks : l.touch + length (ads_of l.self.ads) ≤ l.initial.touch + length (ads_of l.initial.self.ads);
+  fewer : length (ads_of l.self.ads) ≤ length (ads_of l.initial.self.ads);
+}
+
+abbrev pub decreases-loop-slot : goal.decreases-loop-slot
+decreases-loop-slot g l = length (ads_of l.self.ads)

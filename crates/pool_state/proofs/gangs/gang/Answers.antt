@@ -1,0 +1,76 @@
+use Rattle.std.proofs.Common.{◌≡◌, true, sym, ◌∙◌, ap, subst, arith}
+use Rattle.ad_parser.specs.declared.fault.ParseFault.{ParseFault}
+use Rattle.ad_parser.proofs.Outcomes.{ad_outcome, ad_outcome-has}
+use Rattle.pool_replies.specs.Refusals.{is_fault_of_text}
+use Rattle.pool_replies.specs.declared.refusal.Refusal.TheVariants.{AdText}
+use Rattle.pool_replies.specs.declared.reply.Reply.TheVariants.{Refused}
+use Rattle.pool_state.specs.Books.{queue_of}
+use Rattle.pool_state.specs.Indexed.{ads_of}
+use Rattle.pool_state.proofs.GangLemmas.{gang-bad, gang-faulty, gang-narrowest, gang-parsed, gang-undecided}
+use Rattle.pool_state.proofs.gangs.gang.Goals as goal
+
+pub returns-in-Err-clause-reply : goal.returns-in-Err-clause-reply
+returns-in-Err-clause-reply g c =
+    let block = c.args.block.now in
+    let books = c.args.books.now in
+    let told = c.in_ok-told-in-Err.ensures in
+    gang-faulty c.args.moment (ads_of books.ads) (queue_of books) (ad_outcome block) c.in-Err.fault (c.in-Err.ensures.outcome (ad_outcome block) (ad_outcome-has block)) (subst (λ (fault : ParseFault). is_fault_of_text fault ≡ true) told.0 told.1) ∙ ap (λ (fault : ParseFault). Refused (AdText fault)) (sym told.0)
+
+pub returns-in_default-clause-reply : goal.returns-in_default-clause-reply
+returns-in_default-clause-reply g c =
+    let block = c.args.block.now in
+    let books = c.args.books.now in
+    let ads = ads_of books.ads in
+    let jobs = queue_of books in
+    let fits = c.in-Ok.ensures.outcome (ad_outcome block) (ad_outcome-has block) in
+    gang-bad c.args.moment ads jobs (ad_outcome block) c.in-Ok.ad fits (sym c.in_ok-ports.ensures.ports ∙ c.in_default.is)
+
+pub returns-clause-reply : goal.returns-clause-reply
+returns-clause-reply g c =
+    let block = c.args.block.now in
+    let books = c.args.books.now in
+    let ads = ads_of books.ads in
+    let jobs = queue_of books in
+    let fits = c.in-Ok.ensures.outcome (ad_outcome block) (ad_outcome-has block) in
+    let listed = sym c.in_ok-ports.ensures.ports ∙ c.in-Some.is in
+    gang-parsed c.args.moment ads jobs (ad_outcome block) c.in-Ok.ad fits c.in-Some.ports listed c.in_ok-names.field-0 c.line.result c.in_ok-names.ensures.names c.line.ensures.reply
+
+pub returns-in_err-names-clause-cost : goal.returns-in_err-names-clause-cost
+returns-in_err-names-clause-cost g c =
+    let block = c.args.block.now in
+    let books = c.args.books.now in
+    let ads = ads_of books.ads in
+    let jobs = queue_of books in
+    let fits = c.in-Ok.ensures.outcome (ad_outcome block) (ad_outcome-has block) in
+    let listed = sym c.in_ok-ports.ensures.ports ∙ c.in-Some.is in
+    omega (arith, c.gang_names-names.ensures.cost, gang-undecided c.args.moment ads jobs (ad_outcome block) c.in-Ok.ad fits c.in-Some.ports listed)
+
+pub returns-clause-cost : goal.returns-clause-cost
+returns-clause-cost g c =
+    let block = c.args.block.now in
+    let books = c.args.books.now in
+    let ads = ads_of books.ads in
+    let jobs = queue_of books in
+    let fits = c.in-Ok.ensures.outcome (ad_outcome block) (ad_outcome-has block) in
+    let listed = sym c.in_ok-ports.ensures.ports ∙ c.in-Some.is in
+    omega (arith, c.gang_names-names.ensures.cost, gang-undecided c.args.moment ads jobs (ad_outcome block) c.in-Ok.ad fits c.in-Some.ports listed)
+
+pub returns-in_err-names-clause-looks : goal.returns-in_err-names-clause-looks
+returns-in_err-names-clause-looks g c =
+    let block = c.args.block.now in
+    let books = c.args.books.now in
+    let ads = ads_of books.ads in
+    let jobs = queue_of books in
+    let fits = c.in-Ok.ensures.outcome (ad_outcome block) (ad_outcome-has block) in
+    let listed = sym c.in_ok-ports.ensures.ports ∙ c.in-Some.is in
+    omega (arith, c.gang_names-names.ensures.looks, gang-narrowest c.args.moment ads jobs (ad_outcome block) c.in-Ok.ad fits c.in-Some.ports listed)
+
+pub returns-clause-looks : goal.returns-clause-looks
+returns-clause-looks g c =
+    let block = c.args.block.now in
+    let books = c.args.books.now in
+    let ads = ads_of books.ads in
+    let jobs = queue_of books in
+    let fits = c.in-Ok.ensures.outcome (ad_outcome block) (ad_outcome-has block) in
+    let listed = sym c.in_ok-ports.ensures.ports ∙ c.in-Some.is in
+    omega (arith, c.gang_names-names.ensures.looks, gang-narrowest c.args.moment ads jobs (ad_outcome block) c.in-Ok.ad fits c.in-Some.ports listed)

@@ -1,0 +1,115 @@
+// The commands that claim what is offered to a job, and that give it back.
+ghost use Rattle.std.specs.Prelude.{◌≡◌, ◌≤◌, ◌+◌, ◌*◌, ℕ, List, map, Contains, IfOk, IsTrue};
+ghost use Rattle.ad_store.specs.Store.{stock_of};
+ghost use Rattle.negotiator.specs.Priorities.{Setting};
+ghost use Rattle.pool_replies.specs.Replies.{is_printable};
+ghost use Rattle.pool_replies.specs.declared.refusal.Refusal.TheVariants as why;
+ghost use Rattle.pool_replies.specs.declared.reply.Reply.TheVariants as replies;
+ghost use Rattle.pool_state.specs.Books.{queue_of};
+ghost use Rattle.pool_state.specs.ClaimAnswers as answers;
+ghost use Rattle.pool_state.specs.Claiming as steps;
+ghost use Rattle.pool_state.specs.Pool.{name_in, state_with};
+
+use crate::books::Books;
+use crate::negotiation::{name_of, names_of};
+use ad_store::Store;
+use claim_table::{ClaimFault, FreedList, JobFault};
+use pool_replies::{Refusal, Reply};
+use pool_steps::Steps;
+use pool_text::{Names, OutOfMemory, Text};
+use std::alloc::Global;
+use std::convert::AsSlice;
+use std::sync::ledger::Ledger;
+
+/// `claim`: what is offered to the job is checked anew, resource by resource, and the job has it where all of it passes. It
+/// counts in `tops` four at most for each dock of the offer that literal attributes leave undecided, and in `touch` nine at
+/// most for each resource of it.
+#[tactic(auto, unfolding(pool_replies::specs::Replies::is_printable, pool_replies::specs::Refusals::is_printable_refusal))]
+pub(crate) fn claim<F: Ledger, E: Ledger, T: Ledger>(
+    alloc: Global,
+    books: &mut Books,
+    job: &Text,
+    moment: u64,
+    tops: &mut Steps<F>,
+    entry: &mut Steps<E>,
+    touch: &mut Steps<T>,
+) -> Result<Reply, OutOfMemory>
+    ensures step { IfOk result (λ reply. (priorities : List Setting)
+        → steps.claim (state_with moment priorities books.old) job.now ≡ (state_with moment priorities books.new, reply)) }
+    ensures printable { IfOk result (λ reply. IsTrue (is_printable reply)) }
+    ensures cost { (priorities : List Setting) → tops.new ≤ tops.old + 4 * steps.undecided_for_claim (state_with moment priorities books.old) job.now }
+    ensures looks { (priorities : List Setting) → touch.new ≤ touch.old + 9 * steps.offered_for_claim (state_with moment priorities books.old) job.now }
+{
+    let named = job.copy()?;
+    let names = names_given(alloc, books, job.bytes())?;
+    match books.claim(job.bytes(), moment, tops, entry, touch) {
+        Ok(freed) => {
+            let reply = granted(alloc, named, names, &freed);
+            drop(freed);
+            reply
+        }
+        Err(ClaimFault::NoJob) => Ok(Reply::Refused(Refusal::UnknownName)),
+        Err(ClaimFault::WrongState(state)) => Ok(Reply::Refused(Refusal::WrongState(state))),
+        Err(ClaimFault::Stale(slot)) => stale(&books.ads.store, slot),
+        Err(ClaimFault::OutOfMemory) => Err(OutOfMemory),
+    }
+}
+
+// The reply to a claim that is granted.
+#[tactic(auto, unfolding(pool_replies::specs::Replies::is_printable))]
+fn granted(alloc: Global, job: Text, names: Names, freed: &FreedList) -> Result<Reply, OutOfMemory>
+    ensures reply { IfOk result (λ reply. reply ≡ replies.Claimed job names (map (λ one. one.job) freed.now)) }
+    ensures printable { IfOk result (λ reply. IsTrue (is_printable reply)) }
+{
+    let preempted = losers(alloc, freed)?;
+    Ok(Reply::Claimed {
+        job,
+        names,
+        preempted,
+    })
+}
+
+// The reply to a claim that fails at the resource in a slot.
+#[tactic(auto, unfolding(pool_replies::specs::Replies::is_printable, pool_replies::specs::Refusals::is_printable_refusal))]
+fn stale(store: &Store, slot: usize) -> Result<Reply, OutOfMemory>
+    requires { Contains (stock_of store.now).slots slot }
+    ensures reply { IfOk result (λ reply. reply ≡ replies.Refused (why.Stale (name_in (stock_of store.now) slot))) }
+    ensures printable { IfOk result (λ reply. IsTrue (is_printable reply)) }
+{
+    Ok(Reply::Refused(Refusal::Stale(name_of(store, slot)?)))
+}
+
+// The names of the resources of the job of a name.
+pub(crate) fn names_given(alloc: Global, books: &Books, job: &[u8]) -> Result<Names, OutOfMemory>
+    ensures { IfOk result (λ names. names ≡ answers.names_given job.now (queue_of books.now)) }
+{
+    let store = &books.ads.store;
+    let claims = &books.claims;
+    names_of(alloc, store, claims.slots(job))
+}
+
+// The names of the jobs that lost their resources.
+fn losers(alloc: Global, freed: &FreedList) -> Result<Names, OutOfMemory>
+    ensures { IfOk result (λ names. names ≡ map (λ one. one.job) freed.now) }
+{
+    let mut names = Names::new(alloc);
+    for one in freed.as_slice() {
+        names.push(one.job.copy()?)?;
+    }
+    Ok(names)
+}
+
+/// `release`: the job gives back what is offered to it or what it has claimed.
+#[tactic(auto, unfolding(pool_replies::specs::Replies::is_printable, pool_replies::specs::Refusals::is_printable_refusal))]
+pub(crate) fn release(books: &mut Books, job: &Text) -> Result<Reply, OutOfMemory>
+    ensures step { IfOk result (λ reply. (moment : ℕ) (priorities : List Setting)
+        → steps.release (state_with moment priorities books.old) job.now ≡ (state_with moment priorities books.new, reply)) }
+    ensures printable { IfOk result (λ reply. IsTrue (is_printable reply)) }
+{
+    let named = job.copy()?;
+    match books.release(job.bytes()) {
+        Ok(_) => Ok(Reply::Released(named)),
+        Err(JobFault::NoJob) => Ok(Reply::Refused(Refusal::UnknownName)),
+        Err(JobFault::WrongState(state)) => Ok(Reply::Refused(Refusal::WrongState(state))),
+    }
+}

@@ -1,0 +1,19 @@
+//! The state of a pool: its ads, jobs, priorities, offers and claims, and the step that each command makes in it, with the
+//! notices that it posts.
+#![tactic(auto)]
+
+mod ads;
+mod books;
+mod claiming;
+mod eval;
+mod gangs;
+mod indexed;
+mod jobs;
+mod losses;
+mod negotiation;
+mod notices;
+mod pool;
+mod posting;
+mod query;
+
+pub use pool::Pool;

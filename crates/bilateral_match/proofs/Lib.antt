@@ -1,3 +1,4 @@
+pub mod AlikeLemmas
 mod ConjunctLemmas
 pub mod DecidedLemmas
 pub mod DockingLemmas
@@ -12,7 +13,9 @@ mod OrderLemmas
 pub mod PlaceLemmas
 pub mod PoolLemmas
 pub mod RowLemmas
+mod SameLemmas
 mod ScanLemmas
+mod ShortlistLemmas
 mod TestLemmas
 pub mod UndecidedLemmas
 mod WeighLemmas

@@ -21,14 +21,14 @@ member_total =
     (back_total (on_total (λ (m : Member). m.regard) int_cmp_total)))
     (on_total (λ (m : Member). m.place) nat_cmp_total)
 
-member_weak : IsStrictWeakOrder (λ a b. is_lt (member_order a b))
+pub member_weak : IsStrictWeakOrder (λ a b. is_lt (member_order a b))
 member_weak = ranks_by member_total (λ (m : Member). m)
 
 -- b is not before a
 abbrev pub NotBefore : Member → Member → Type 0
 NotBefore a b = is_lt (member_order b a) ≡ false
 
-not-before-itself : (a : Member) → NotBefore a a
+pub not-before-itself : (a : Member) → NotBefore a a
 not-before-itself a = by (is_lt (member_order a a)) refl
   where
     by : (b : Bool) → is_lt (member_order a a) ≡ b → is_lt (member_order a a) ≡ false

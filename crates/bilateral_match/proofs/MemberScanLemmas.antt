@@ -59,7 +59,7 @@ module _ (pool : Pool) (request : List Frame) where
   -- ---- over the candidates
 
   module _ (places : List ℕ) (some : AreCandidates request pool.ads places) where
-    found-members : (f : Member → ℕ) → sum_by f (filter_map (member_at pool request) places) ≡ sum_by f (members pool request)
+    pub found-members : (f : Member → ℕ) → sum_by f (filter_map (member_at pool request) places) ≡ sum_by f (members pool request)
     found-members f =
         sum-filter_map f (member_at pool request) places
         ∙ all-total pool.moment request pool.ads places some
@@ -106,7 +106,7 @@ module _ (h : ℕ → Option Member) (xs : List ℕ) (i : ℕ) where
 -- ---- what each member is
 
 module _ (pool : Pool) (request : List Frame) (P : Member → Type 0) where
-  all-found : (places : List ℕ) → All (λ place. (m : Member) → member_at pool request place ≡ Some m → P m) places → All P (filter_map (member_at pool request) places)
+  pub all-found : (places : List ℕ) → All (λ place. (m : Member) → member_at pool request place ≡ Some m → P m) places → All P (filter_map (member_at pool request) places)
   all-found [] h = All-nil P
   all-found (place ∷ places) h = by (all-found places (All-tail (λ place. (m : Member) → member_at pool request place ≡ Some m → P m) place places h)) (member_at pool request place) refl
     where
@@ -120,7 +120,7 @@ module _ (pool : Pool) (request : List Frame) (P : Member → Type 0) where
 
 module _ (pool : Pool) (request : List Frame) where
   -- a member stands at its place, and isn't offered
-  stands-at : (place : ℕ) (m : Member) → member_at pool request place ≡ Some m → (m.place ≡ place) × (pool.is_offered place ≡ false)
+  pub stands-at : (place : ℕ) (m : Member) → member_at pool request place ≡ Some m → (m.place ≡ place) × (pool.is_offered place ≡ false)
   stands-at place m is = by (slice_get pool.ads place) is
     where
       parts : (live before docked won : Bool) (a : Member) → (if live && (not before && (docked && won)) then Some a else None) ≡ Some m → (a ≡ m) × (before ≡ false)

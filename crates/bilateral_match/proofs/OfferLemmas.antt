@@ -1,5 +1,5 @@
 -- More offers leave no more members, and no more docks to evaluate.
-use Rattle.std.proofs.Common.{◌≡◌, ◌≤◌, ◌+◌, ℕ, suc, Bool, true, false, not, ◌&&◌, refl, List, [], ◌∷◌, Option, None, Some, if◌then◌else◌, ap, sym, ◌∙◌, arith, zero-le}
+use Rattle.std.proofs.Common.{◌≡◌, ◌≤◌, ℕ, suc, Bool, true, false, not, ◌&&◌, refl, List, [], ◌∷◌, Option, None, Some, if◌then◌else◌, ap, arith, zero-le}
 use Rattle.std.specs.List.{cons_option}
 use Rattle.std.specs.Ordering.{is_lt}
 use Rattle.ad_tree.specs.Frames.{Frame}
@@ -7,7 +7,7 @@ use Rattle.ad_store.specs.Stock.{Advert, is_live}
 use Rattle.bilateral_match.specs.declared.member.Member.{Member}
 use Rattle.bilateral_match.specs.Counts.{attributes_weighed, entered_for, is_open, open_count, sum_from}
 use Rattle.bilateral_match.specs.Docks.{docks, is_undecided}
-use Rattle.bilateral_match.specs.Members.{as_member, best, earlier, first_of, is_member, is_won, member_order, member_with, members, members_from}
+use Rattle.bilateral_match.specs.Members.{as_member, best, earlier, first_of, is_won, member_order, member_with, members, members_from}
 use Rattle.bilateral_match.specs.Pool.{Pool}
 
 -- ---- Booleans

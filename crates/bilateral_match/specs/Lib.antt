@@ -1,3 +1,4 @@
+pub mod Alike
 pub mod Answers
 pub mod Candidates
 pub mod Counts
@@ -6,3 +7,4 @@ pub mod Members
 pub mod Pool
 pub mod Rows
 pub mod Scan
+pub mod Shortlists

@@ -1,6 +1,7 @@
 //! What a request and single ads make of each other: the ads that a query finds, and the best resource for a job.
 #![tactic(auto)]
 
+mod alike;
 mod candidates;
 mod choosing;
 mod docking;
@@ -9,17 +10,21 @@ mod laws;
 mod member;
 mod members;
 mod querying;
+mod shortlists;
 mod weighing;
 
+pub use alike::are_alike;
 pub use candidates::candidates_at;
 pub use choosing::best;
 pub use docking::{is_decided, pair};
 pub use hit::{Hit, Hits, Match};
 pub use laws::{
     a_conjunct_has_the_value_of_its_test, a_conjunction_is_true_only_where_its_conjuncts_are,
-    a_decided_dock_is_never_true, answers_are_all_matches_in_order,
-    more_offers_leave_no_more_members, no_other_member_comes_before_the_best,
+    a_decided_dock_is_never_true, ads_that_are_alike_have_the_same_best,
+    answers_are_all_matches_in_order, more_offers_leave_no_more_members,
+    no_other_member_comes_before_the_best,
 };
 pub use member::Member;
 pub use members::{is_live, is_won};
 pub use querying::query;
+pub use shortlists::shortlist;

@@ -20,7 +20,7 @@ use std::test::Fail;
 
 // A resource that is claimed by a single job.
 #[derive(Drop)]
-struct Claim {
+pub(crate) struct Claim {
     request: Request,
     slots: Slots,
     ghost single: { request.ports ≡ [] },
@@ -29,9 +29,9 @@ struct Claim {
 
 // One offer and one claim at most.
 #[derive(Drop)]
-struct Board {
-    offered: Option<usize>,
-    claim: Option<Claim>,
+pub(crate) struct Board {
+    pub offered: Option<usize>,
+    pub claim: Option<Claim>,
 }
 
 impl Holdings for Board {
@@ -62,7 +62,7 @@ impl Holdings for Board {
 }
 
 // Nothing is offered or claimed.
-fn empty() -> Board
+pub(crate) fn empty() -> Board
     ensures { result.claim ≡ None }
 {
     Board {
@@ -72,7 +72,12 @@ fn empty() -> Board
 }
 
 // The resource at a place is claimed.
-fn claimed(alloc: Global, store: &Store, place: usize, request: Request) -> Result<Board, Fail>
+pub(crate) fn claimed(
+    alloc: Global,
+    store: &Store,
+    place: usize,
+    request: Request,
+) -> Result<Board, Fail>
     requires { request.ports ≡ [] }
     ensures { IfOk result (λ board. IfSome board.claim (λ c. All (Contains (stock_of store.now).slots) c.slots)) }
 {
@@ -88,7 +93,7 @@ fn claimed(alloc: Global, store: &Store, place: usize, request: Request) -> Resu
 }
 
 // `[ Worth = ..; Rank = ..; Requirements = true ]`
-fn ad(alloc: Global, worth: i64, rank: Expr) -> Result<Ad, OutOfMemory> {
+pub(crate) fn ad(alloc: Global, worth: i64, rank: Expr) -> Result<Ad, OutOfMemory> {
     let mut draft = Draft::new(alloc);
     define(alloc, &mut draft, b"Worth", integer(worth))?;
     define(alloc, &mut draft, b"Rank", rank)?;
@@ -97,7 +102,7 @@ fn ad(alloc: Global, worth: i64, rank: Expr) -> Result<Ad, OutOfMemory> {
 }
 
 // A job of this worth.
-fn job(alloc: Global, worth: i64, rank: Expr) -> Result<Request, OutOfMemory>
+pub(crate) fn job(alloc: Global, worth: i64, rank: Expr) -> Result<Request, OutOfMemory>
     ensures { IfOk result (λ request. request.ports ≡ []) }
 {
     Ok(Request {
@@ -107,7 +112,7 @@ fn job(alloc: Global, worth: i64, rank: Expr) -> Result<Request, OutOfMemory>
 }
 
 // A job that ranks all resources alike.
-fn plain_job(alloc: Global, worth: i64) -> Result<Request, OutOfMemory>
+pub(crate) fn plain_job(alloc: Global, worth: i64) -> Result<Request, OutOfMemory>
     ensures { IfOk result (λ request. request.ports ≡ []) }
 {
     job(alloc, worth, integer(0))

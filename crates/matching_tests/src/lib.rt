@@ -9,3 +9,5 @@ mod index;
 mod matching;
 #[cfg(test)]
 mod plans;
+#[cfg(test)]
+mod shortlists;

@@ -2,4 +2,6 @@
 #![tactic(auto)]
 
 #[cfg(test)]
+mod clusters;
+#[cfg(test)]
 mod negotiation;

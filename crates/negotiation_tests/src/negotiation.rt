@@ -48,7 +48,7 @@ fn priorities_are_set_and_changed(rt: HostRuntime) {
 }
 
 // `[ Memory = ..; Requirements = true ]`
-fn machine(alloc: Global, memory: i64) -> Result<Ad, OutOfMemory> {
+pub(crate) fn machine(alloc: Global, memory: i64) -> Result<Ad, OutOfMemory> {
     let mut draft = Draft::new(alloc);
     let memory = Expr::Literal(Lit::Integer(memory));
     draft.define(0, Text::from_bytes(alloc, b"Memory")?, memory)?;
@@ -116,7 +116,7 @@ fn index_of<T: Ledger>(
 }
 
 // Adds a job that wants so much memory.
-fn submit(
+pub(crate) fn submit(
     alloc: Global,
     jobs: &mut ClaimTable,
     name: &[u8],
@@ -242,7 +242,7 @@ fn tell(alloc: Global, turn: &Turn, out: &mut String) -> Result<(), Fail> {
     Ok(())
 }
 
-fn negotiated(
+pub(crate) fn negotiated(
     alloc: Global,
     store: &Store,
     jobs: &mut ClaimTable,

@@ -1,6 +1,7 @@
 mod ActiveLemmas
 pub mod AlikeLemmas
 mod BudgetLemmas
+mod ClusterLemmas
 pub mod CycleLemmas
 pub mod GangLemmas
 pub mod JobLemmas

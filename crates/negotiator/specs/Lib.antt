@@ -1,5 +1,6 @@
 pub mod Budget
 pub mod Causes
+pub mod Clusters
 pub mod Cycle
 pub mod Mapped
 pub mod Markets

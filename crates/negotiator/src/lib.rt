@@ -3,6 +3,7 @@
 #![tactic(auto)]
 
 mod answers;
+mod clusters;
 mod laws;
 mod priorities;
 mod queues;
@@ -12,6 +13,7 @@ mod spins;
 mod turns;
 
 pub use answers::{Cycle, Offered, OfferedList, PriorityFault, Spin, Turn, Turns};
+pub use clusters::{Cluster, Clusters};
 pub use laws::{
     a_cycle_ends_with_the_first_spin_without_an_offer, users_with_a_waiting_job_take_turns_in_order,
 };

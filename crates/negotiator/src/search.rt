@@ -11,12 +11,13 @@ ghost use Rattle.claim_table.specs.Table.{jobs_of};
 ghost use Rattle.gang_ports.specs.Ports.{ports_of};
 ghost use Rattle.literal_index.specs.Shown.{IsIndex};
 ghost use Rattle.negotiator.specs.Budget.{ArePaid, AreWithin, IsSearched, counts, entries_for, evaluations_for, is_idle_at, looks_for};
+ghost use Rattle.negotiator.specs.Clusters.{AreClusters};
 ghost use Rattle.negotiator.specs.Markets.{AreOwn, found, found_for, offer_named};
 ghost use Rattle.negotiator.specs.Scenes.{IsReady, stock_in};
 
-use crate::{Offered, Scene};
+use crate::clusters::choose;
+use crate::{Clusters, Offered, Scene};
 use ad_tree::Request;
-use bilateral_match::best;
 use claim_table::{ClaimTable, JobState};
 use gang_ports::first_gang;
 use pool_steps::Steps;
@@ -54,6 +55,7 @@ fn search<F: Ledger, E: Ledger, T: Ledger>(
     scene: &Scene<'_>,
     claims: &ClaimTable,
     i: usize,
+    clusters: &mut Clusters,
     tops: &mut Steps<F>,
     entry: &mut Steps<E>,
     touch: &mut Steps<T>,
@@ -62,15 +64,17 @@ fn search<F: Ledger, E: Ledger, T: Ledger>(
     requires index { IsIndex scene.now.index.now (rows_of (stock_in scene.now)) }
     requires stored { AreStored (stock_in scene.now) (holder_of (jobs_of claims.now)) }
     requires ports { All (λ job. AreOwn (ad_frames job.request.ad) job.request.ports) (jobs_of claims.now) }
+    requires clusters { AreClusters scene.now.moment (stock_in scene.now) (jobs_of claims.now) clusters.old }
     ensures found { IfOk result (λ slots. slots ≡ found scene.now.moment (stock_in scene.now) (jobs_of claims.now) i) }
     ensures free { IfOk result (λ slots. IfSome slots (λ list. AreFree list (jobs_of claims.now))) }
     ensures distinct { IfOk result (λ slots. IfSome slots (AllPairs (λ a b. a ≢ b))) }
     ensures enough { IfOk result (λ slots. IfSome slots (λ list. option_map (λ job. wanted job.request) (slice_get (jobs_of claims.now) i) ≡ Some (length list))) }
+    ensures clusters { AreClusters scene.now.moment (stock_in scene.now) (jobs_of claims.now) clusters.new }
     ensures counted { IsSearched scene.now.moment (stock_in scene.now) (jobs_of claims.now) i (counts tops.old entry.old touch.old) (counts tops.new entry.new touch.new) }
 {
     let request = claims.request(i);
     if request.ports.len() == 0 {
-        search_one(scene, claims, request, tops, entry, touch)
+        search_one(scene, claims, i, request, clusters, tops, entry, touch)
     } else {
         search_gang(scene, claims, request, tops, entry, touch)
     }
@@ -80,33 +84,28 @@ fn search<F: Ledger, E: Ledger, T: Ledger>(
 fn search_one<F: Ledger, E: Ledger, T: Ledger>(
     scene: &Scene<'_>,
     claims: &ClaimTable,
+    i: usize,
     request: &Request,
+    clusters: &mut Clusters,
     tops: &mut Steps<F>,
     entry: &mut Steps<E>,
     touch: &mut Steps<T>,
 ) -> Result<Option<Slots>, OutOfMemory>
     requires index { IsIndex scene.now.index.now (rows_of (stock_in scene.now)) }
     requires stored { AreStored (stock_in scene.now) (holder_of (jobs_of claims.now)) }
+    requires job { option_map (λ job. job.request) (slice_get (jobs_of claims.now) i) ≡ Some request.now }
     requires single { request.now.ports ≡ [] }
+    requires clusters { AreClusters scene.now.moment (stock_in scene.now) (jobs_of claims.now) clusters.old }
     ensures found { IfOk result (λ slots. slots ≡ found_for scene.now.moment (stock_in scene.now) (jobs_of claims.now) request.now) }
     ensures free { IfOk result (λ slots. IfSome slots (λ list. AreFree list (jobs_of claims.now))) }
     ensures distinct { IfOk result (λ slots. IfSome slots (AllPairs (λ a b. a ≢ b))) }
     ensures enough { IfOk result (λ slots. IfSome slots (λ list. wanted request.now ≡ length list)) }
+    ensures clusters { AreClusters scene.now.moment (stock_in scene.now) (jobs_of claims.now) clusters.new }
     ensures evaluations { tops.new ≤ tops.old + evaluations_for scene.now.moment (stock_in scene.now) (jobs_of claims.now) request.now }
     ensures entries { entry.new ≤ entry.old + entries_for scene.now.moment (stock_in scene.now) (jobs_of claims.now) request.now }
     ensures looks { touch.new ≤ touch.old + looks_for (stock_in scene.now) (jobs_of claims.now) request.now }
 {
-    let slot = best(
-        scene.alloc,
-        scene.store,
-        scene.index,
-        claims,
-        request,
-        scene.moment,
-        tops,
-        entry,
-        touch,
-    )?;
+    let slot = choose(scene, claims, i, request, clusters, tops, entry, touch)?;
     listed(scene.alloc, slot)
 }
 
@@ -195,23 +194,26 @@ pub(crate) fn try_job<F: Ledger, E: Ledger, T: Ledger>(
     claims: &mut ClaimTable,
     i: usize,
     failed: &mut [bool],
+    clusters: &mut Clusters,
     tops: &mut Steps<F>,
     entry: &mut Steps<E>,
     touch: &mut Steps<T>,
 ) -> Result<Option<Offered>, OutOfMemory>
     requires idle { is_idle_at (jobs_of claims.old) i ≡ true }
     requires ready { IsReady scene.now (jobs_of claims.old) failed.old }
+    requires clusters { AreClusters scene.now.moment (stock_in scene.now) (jobs_of claims.old) clusters.old }
     ensures offered { IfOk result (λ o. o ≡ option_map (λ slots. offer_named (jobs_of claims.old) (record { job = i; resources = slots })) (found scene.now.moment (stock_in scene.now) (jobs_of claims.old) i)) }
     ensures table { OnOk result (jobs_of claims.new ≡ option_map_or (λ slots. with_standing (jobs_of claims.old) i (Standing.Matched slots)) (found scene.now.moment (stock_in scene.now) (jobs_of claims.old) i) (jobs_of claims.old)) }
     ensures err { OnErr result (jobs_of claims.new ≡ jobs_of claims.old) }
     ensures ready { IsReady scene.now (jobs_of claims.new) failed.new }
+    ensures clusters { AreClusters scene.now.moment (stock_in scene.now) (jobs_of claims.new) clusters.new }
     ensures paid { OnOk result (ArePaid scene.now.moment (stock_in scene.now) (jobs_of claims.old) (jobs_of claims.new) failed.old failed.new (counts tops.old entry.old touch.old) (counts tops.new entry.new touch.new)) }
     ensures within { AreWithin scene.now.moment (stock_in scene.now) (jobs_of claims.old) failed.old (counts tops.old entry.old touch.old) (counts tops.new entry.new touch.new) }
 {
     if failed[i] {
         return Ok(None);
     }
-    let Some(slots) = search(scene, claims, i, tops, entry, touch)? else {
+    let Some(slots) = search(scene, claims, i, clusters, tops, entry, touch)? else {
         failed[i] = true;
         return Ok(None);
     };

@@ -9,6 +9,7 @@ ghost use Rattle.claim_table.specs.Holders.{holder_of};
 ghost use Rattle.claim_table.specs.Table.{jobs_of};
 ghost use Rattle.literal_index.specs.Shown.{IsIndex};
 ghost use Rattle.negotiator.specs.Budget.{ArePaid, AreWithin, counts, entries_for, left_for, open_for, over_idle};
+ghost use Rattle.negotiator.specs.Clusters.{AreClusters};
 ghost use Rattle.negotiator.specs.Cycle.{cycle_from, cycle_of, is_of, offers_in, offers_of, places, spin, users_of, waits};
 ghost use Rattle.negotiator.specs.Markets.{AreOwn, IsPart, free_among, is_free, market_of, spin_named, with_offers};
 ghost use Rattle.negotiator.specs.Priorities.{priority_of};
@@ -20,7 +21,7 @@ ghost use Rattle.pie_slices.specs.Slices.{weight_of};
 use crate::queues::queues_of;
 use crate::search::is_idle;
 use crate::turns::run_turns;
-use crate::{Cycle, Priorities, Queue, Scene, Spin};
+use crate::{Clusters, Cycle, Priorities, Queue, Scene, Spin};
 use ad_store::Store;
 use claim_table::ClaimTable;
 use literal_index::Index;
@@ -78,7 +79,17 @@ pub fn cycle<F: Ledger, E: Ledger, T: Ledger>(
     };
     let queues = queues_of(&scene, claims)?;
     let mut failed = vec![in alloc; false; claims.len()]?;
-    run_spins(&scene, claims, &queues, &mut failed, tops, entry, touch)
+    let mut clusters = Clusters::new(alloc);
+    run_spins(
+        &scene,
+        claims,
+        &queues,
+        &mut failed,
+        &mut clusters,
+        tops,
+        entry,
+        touch,
+    )
 }
 
 // The spins up to and with the first that makes no offer.
@@ -87,12 +98,14 @@ fn run_spins<F: Ledger, E: Ledger, T: Ledger>(
     claims: &mut ClaimTable,
     queues: &[Queue],
     failed: &mut [bool],
+    clusters: &mut Clusters,
     tops: &mut Steps<F>,
     entry: &mut Steps<E>,
     touch: &mut Steps<T>,
 ) -> Result<Cycle, OutOfMemory>
     requires queues { AreQueues (market_in scene.now (jobs_of claims.old)) queues.now }
     requires ready { IsReady scene.now (jobs_of claims.old) failed.old }
+    requires clusters { AreClusters scene.now.moment (stock_in scene.now) (jobs_of claims.old) clusters.old }
     ensures cycle { IfOk result (λ spins. spins ≡ map (spin_named (jobs_of claims.old)) (cycle_of (market_in scene.now (jobs_of claims.old)))) }
     ensures table { OnOk result (jobs_of claims.new ≡ with_offers (offers_of (cycle_of (market_in scene.now (jobs_of claims.old)))) (jobs_of claims.old)) }
     ensures part { OnErr result (IsPart (offers_of (cycle_of (market_in scene.now (jobs_of claims.old)))) (jobs_of claims.old) (jobs_of claims.new)) }
@@ -100,7 +113,7 @@ fn run_spins<F: Ledger, E: Ledger, T: Ledger>(
 {
     let mut spins = Cycle::new(scene.alloc);
     loop {
-        let spin = run_spin(scene, claims, queues, failed, tops, entry, touch)?;
+        let spin = run_spin(scene, claims, queues, failed, clusters, tops, entry, touch)?;
         let last = spin.turns.len() == 0;
         spins.push(spin)?;
         if last {
@@ -115,16 +128,19 @@ fn run_spin<F: Ledger, E: Ledger, T: Ledger>(
     claims: &mut ClaimTable,
     queues: &[Queue],
     failed: &mut [bool],
+    clusters: &mut Clusters,
     tops: &mut Steps<F>,
     entry: &mut Steps<E>,
     touch: &mut Steps<T>,
 ) -> Result<Spin, OutOfMemory>
     requires queues { AreQueues (market_in scene.now (jobs_of claims.old)) queues.now }
     requires ready { IsReady scene.now (jobs_of claims.old) failed.old }
+    requires clusters { AreClusters scene.now.moment (stock_in scene.now) (jobs_of claims.old) clusters.old }
     ensures spin { IfOk result (λ one. one ≡ spin_named (jobs_of claims.old) (spin (market_in scene.now (jobs_of claims.old)) [])) }
     ensures table { OnOk result (jobs_of claims.new ≡ with_offers (offers_in (spin (market_in scene.now (jobs_of claims.old)) []).turns) (jobs_of claims.old)) }
     ensures part { OnErr result (IsPart (offers_in (spin (market_in scene.now (jobs_of claims.old)) []).turns) (jobs_of claims.old) (jobs_of claims.new)) }
     ensures ready { IsReady scene.now (jobs_of claims.new) failed.new }
+    ensures clusters { AreClusters scene.now.moment (stock_in scene.now) (jobs_of claims.new) clusters.new }
     ensures paid { OnOk result (ArePaid scene.now.moment (stock_in scene.now) (jobs_of claims.old) (jobs_of claims.new) failed.old failed.new (counts tops.old entry.old touch.old) (counts tops.new entry.new touch.new)) }
     ensures within { AreWithin scene.now.moment (stock_in scene.now) (jobs_of claims.old) failed.old (counts tops.old entry.old touch.old) (counts tops.new entry.new touch.new) }
 {
@@ -139,6 +155,7 @@ fn run_spin<F: Ledger, E: Ledger, T: Ledger>(
         active.as_slice(),
         slices.as_slice(),
         failed,
+        clusters,
         tops,
         entry,
         touch,

@@ -2,12 +2,13 @@
 ghost use Rattle.std.specs.Prelude.{◌≡◌, ◌<◌, ◌∷◌, ◌++◌, [], All, IfOk, OnErr, OnOk, false, filter, if◌then◌else◌, length, map};
 ghost use Rattle.claim_table.specs.Table.{jobs_of};
 ghost use Rattle.negotiator.specs.Budget.{ArePaid, AreWithin, counts};
+ghost use Rattle.negotiator.specs.Clusters.{AreClusters};
 ghost use Rattle.negotiator.specs.Cycle.{has_offer, is_empty, is_of, offers_in, places, turn, turns};
 ghost use Rattle.negotiator.specs.Markets.{IsPart, offer_named, turn_named, with_offers};
 ghost use Rattle.negotiator.specs.Scenes.{IsReady, market_in, stock_in, users_at};
 
 use crate::search::{is_idle, try_job, wants};
-use crate::{OfferedList, Queue, Scene, Turn, Turns};
+use crate::{Clusters, OfferedList, Queue, Scene, Turn, Turns};
 use claim_table::ClaimTable;
 use pool_steps::Steps;
 use pool_text::OutOfMemory;
@@ -22,12 +23,14 @@ pub(crate) fn run_turn<F: Ledger, E: Ledger, T: Ledger>(
     queue: &Queue,
     slice: u64,
     failed: &mut [bool],
+    clusters: &mut Clusters,
     tops: &mut Steps<F>,
     entry: &mut Steps<E>,
     touch: &mut Steps<T>,
 ) -> Result<OfferedList, OutOfMemory>
     requires own { queue.now.places ≡ filter (is_of (market_in scene.now (jobs_of claims.old)) queue.now.user) (places (market_in scene.now (jobs_of claims.old)).jobs) }
     requires ready { IsReady scene.now (jobs_of claims.old) failed.old }
+    requires clusters { AreClusters scene.now.moment (stock_in scene.now) (jobs_of claims.old) clusters.old }
     ensures offers { IfOk result (λ offers. offers ≡ map (offer_named (jobs_of claims.old))
         (turn (market_in scene.now (jobs_of claims.old)) queue.now.user (places (market_in scene.now (jobs_of claims.old)).jobs) slice false [])) }
     ensures table { OnOk result (jobs_of claims.new ≡ with_offers
@@ -35,6 +38,7 @@ pub(crate) fn run_turn<F: Ledger, E: Ledger, T: Ledger>(
     ensures part { OnErr result (IsPart
         (turn (market_in scene.now (jobs_of claims.old)) queue.now.user (places (market_in scene.now (jobs_of claims.old)).jobs) slice false []) (jobs_of claims.old) (jobs_of claims.new)) }
     ensures ready { IsReady scene.now (jobs_of claims.new) failed.new }
+    ensures clusters { AreClusters scene.now.moment (stock_in scene.now) (jobs_of claims.new) clusters.new }
     ensures paid { OnOk result (ArePaid scene.now.moment (stock_in scene.now) (jobs_of claims.old) (jobs_of claims.new) failed.old failed.new (counts tops.old entry.old touch.old) (counts tops.new entry.new touch.new)) }
     ensures within { AreWithin scene.now.moment (stock_in scene.now) (jobs_of claims.old) failed.old (counts tops.old entry.old touch.old) (counts tops.new entry.new touch.new) }
 {
@@ -47,7 +51,9 @@ pub(crate) fn run_turn<F: Ledger, E: Ledger, T: Ledger>(
             if given && left < wants {
                 return Ok(offers);
             }
-            if let Some(offer) = try_job(scene, claims, *place, failed, tops, entry, touch)? {
+            if let Some(offer) = try_job(
+                scene, claims, *place, failed, clusters, tops, entry, touch,
+            )? {
                 offers.push(offer)?;
                 left = left.saturating_sub(wants);
                 given = true;
@@ -65,6 +71,7 @@ pub(crate) fn run_turns<F: Ledger, E: Ledger, T: Ledger>(
     active: &[usize],
     slices: &[u64],
     failed: &mut [bool],
+    clusters: &mut Clusters,
     tops: &mut Steps<F>,
     entry: &mut Steps<E>,
     touch: &mut Steps<T>,
@@ -73,6 +80,7 @@ pub(crate) fn run_turns<F: Ledger, E: Ledger, T: Ledger>(
     requires active { All (λ k. k < length queues.now) active.now }
     requires slices { length slices.now ≡ length active.now }
     requires ready { IsReady scene.now (jobs_of claims.old) failed.old }
+    requires clusters { AreClusters scene.now.moment (stock_in scene.now) (jobs_of claims.old) clusters.old }
     ensures turns { IfOk result (λ list. list ≡ map (turn_named (jobs_of claims.old))
         (filter has_offer (turns (market_in scene.now (jobs_of claims.old)) (users_at queues.now active.now) slices.now []))) }
     ensures table { OnOk result (jobs_of claims.new ≡ with_offers
@@ -80,13 +88,16 @@ pub(crate) fn run_turns<F: Ledger, E: Ledger, T: Ledger>(
     ensures part { OnErr result (IsPart
         (offers_in (turns (market_in scene.now (jobs_of claims.old)) (users_at queues.now active.now) slices.now [])) (jobs_of claims.old) (jobs_of claims.new)) }
     ensures ready { IsReady scene.now (jobs_of claims.new) failed.new }
+    ensures clusters { AreClusters scene.now.moment (stock_in scene.now) (jobs_of claims.new) clusters.new }
     ensures paid { OnOk result (ArePaid scene.now.moment (stock_in scene.now) (jobs_of claims.old) (jobs_of claims.new) failed.old failed.new (counts tops.old entry.old touch.old) (counts tops.new entry.new touch.new)) }
     ensures within { AreWithin scene.now.moment (stock_in scene.now) (jobs_of claims.old) failed.old (counts tops.old entry.old touch.old) (counts tops.new entry.new touch.new) }
 {
     let mut turns = Turns::new(scene.alloc);
     for k in 0..active.len() {
         let queue = &queues[active[k]];
-        let offers = run_turn(scene, claims, queue, slices[k], failed, tops, entry, touch)?;
+        let offers = run_turn(
+            scene, claims, queue, slices[k], failed, clusters, tops, entry, touch,
+        )?;
         keep(&mut turns, queue, slices[k], offers)?;
     }
     Ok(turns)

@@ -11,27 +11,27 @@ use Rattle.negotiator.proofs.search.search_one.Goals as goal
 
 pub returns-in_err-slot-clause-evaluations : goal.returns-in_err-slot-clause-evaluations
 returns-in_err-slot-clause-evaluations g c =
-    evaluations-one c.args.scene.now.moment (stock_in c.args.scene.now) (jobs_of c.args.claims.now) c.args.request.now c.requires.single c.args.tops.now c.best.new.tops c.best.ensures.evaluations
+    evaluations-one c.args.scene.now.moment (stock_in c.args.scene.now) (jobs_of c.args.claims.now) c.args.request.now c.requires.single c.args.tops.now c.choose.new.tops c.choose.ensures.evaluations
 
 pub returns-in_err-slot-clause-entries : goal.returns-in_err-slot-clause-entries
 returns-in_err-slot-clause-entries g c =
-    entries-one c.args.scene.now.moment (stock_in c.args.scene.now) (jobs_of c.args.claims.now) c.args.request.now c.requires.single c.args.entry.now c.best.new.entry c.best.ensures.entries
+    entries-one c.args.scene.now.moment (stock_in c.args.scene.now) (jobs_of c.args.claims.now) c.args.request.now c.requires.single c.args.entry.now c.choose.new.entry c.choose.ensures.entries
 
 pub returns-in_err-slot-clause-looks : goal.returns-in_err-slot-clause-looks
 returns-in_err-slot-clause-looks g c =
-    looks-one c.args.scene.now.moment (stock_in c.args.scene.now) (jobs_of c.args.claims.now) c.args.request.now c.requires.single c.args.touch.now c.best.new.touch c.best.ensures.looks
+    looks-one c.args.scene.now.moment (stock_in c.args.scene.now) (jobs_of c.args.claims.now) c.args.request.now c.requires.single c.args.touch.now c.choose.new.touch c.choose.ensures.looks
 
 pub returns-clause-evaluations : goal.returns-clause-evaluations
 returns-clause-evaluations g c =
-    evaluations-one c.args.scene.now.moment (stock_in c.args.scene.now) (jobs_of c.args.claims.now) c.args.request.now c.requires.single c.args.tops.now c.best.new.tops c.best.ensures.evaluations
+    evaluations-one c.args.scene.now.moment (stock_in c.args.scene.now) (jobs_of c.args.claims.now) c.args.request.now c.requires.single c.args.tops.now c.choose.new.tops c.choose.ensures.evaluations
 
 pub returns-clause-entries : goal.returns-clause-entries
 returns-clause-entries g c =
-    entries-one c.args.scene.now.moment (stock_in c.args.scene.now) (jobs_of c.args.claims.now) c.args.request.now c.requires.single c.args.entry.now c.best.new.entry c.best.ensures.entries
+    entries-one c.args.scene.now.moment (stock_in c.args.scene.now) (jobs_of c.args.claims.now) c.args.request.now c.requires.single c.args.entry.now c.choose.new.entry c.choose.ensures.entries
 
 pub returns-clause-looks : goal.returns-clause-looks
 returns-clause-looks g c =
-    looks-one c.args.scene.now.moment (stock_in c.args.scene.now) (jobs_of c.args.claims.now) c.args.request.now c.requires.single c.args.touch.now c.best.new.touch c.best.ensures.looks
+    looks-one c.args.scene.now.moment (stock_in c.args.scene.now) (jobs_of c.args.claims.now) c.args.request.now c.requires.single c.args.touch.now c.choose.new.touch c.choose.ensures.looks
 
 pub returns-clause-found : goal.returns-clause-found
 returns-clause-found g c =

@@ -1,4 +1,4 @@
-use Rattle.std.proofs.Common.{Some, ap, arith, subst, sym, ◌∙◌}
+use Rattle.std.proofs.Common.{Some, ap, arith, refl, subst, sym, ◌∙◌}
 use Rattle.std.specs.Prelude.{option_map}
 use Rattle.std.specs.Option.{option_map_or}
 use Rattle.claim_table.specs.declared.job.Standing.{Standing}
@@ -8,6 +8,7 @@ use Rattle.negotiator.specs.Budget.{ArePaid, counts}
 use Rattle.negotiator.specs.Markets.{offer_named}
 use Rattle.negotiator.specs.Scenes.{IsReady, stock_in}
 use Rattle.negotiator.proofs.BudgetLemmas.{fail-paid, idle-within, offer-paid, paid-none, paid-within, search-within}
+use Rattle.negotiator.proofs.ClusterLemmas.{clusters-later, same-clusters}
 use Rattle.negotiator.proofs.CycleLemmas.{offer}
 use Rattle.negotiator.proofs.ReadyLemmas.{ready-given, ready-marked}
 use Rattle.negotiator.proofs.search.try_job.Goals as goal
@@ -74,6 +75,9 @@ returns-in_default-clause-within g c =
 pub returns-in_err-give-clause-ready : goal.returns-in_err-give-clause-ready
 returns-in_err-give-clause-ready g c = subst (λ js. IsReady c.args.scene.now js c.args.failed.now) (sym c.in_err-give.ensures.err) c.requires.ready
 
+pub returns-in_err-give-clause-clusters : goal.returns-in_err-give-clause-clusters
+returns-in_err-give-clause-clusters g c = same-clusters c.args.scene.now c.in_err-give.ensures.err refl c.search.ensures.clusters
+
 pub returns-in_err-give-clause-within : goal.returns-in_err-give-clause-within
 returns-in_err-give-clause-within g c =
     let jobs = jobs_of c.args.claims.now in
@@ -95,6 +99,11 @@ pub returns-clause-ready : goal.returns-clause-ready
 returns-clause-ready g c =
     subst (λ js. IsReady c.args.scene.now js c.args.failed.now) (sym c.in_ok-give.ensures.ok)
     (ready-given c.args.scene.now (jobs_of c.args.claims.now) c.args.failed.now c.requires.ready c.args.i c.in-Some.slots c.requires.idle)
+
+pub returns-clause-clusters : goal.returns-clause-clusters
+returns-clause-clusters g c =
+    same-clusters c.args.scene.now c.in_ok-give.ensures.ok refl
+    (clusters-later c.args.scene.now.moment (stock_in c.args.scene.now) (jobs_of c.args.claims.now) c.args.i c.in-Some.slots c.requires.idle c.search.new.clusters c.search.ensures.clusters)
 
 pub returns-clause-paid : goal.returns-clause-paid
 returns-clause-paid g c =

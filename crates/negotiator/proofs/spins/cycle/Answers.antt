@@ -7,6 +7,7 @@ use Rattle.negotiator.specs.Markets.{market_of}
 use Rattle.negotiator.specs.Queues.{AreQueues}
 use Rattle.negotiator.specs.Settings.{settings_of}
 use Rattle.negotiator.proofs.BudgetLemmas.{entries-start, evaluations-start, looks-start, none-marked}
+use Rattle.negotiator.proofs.ClusterLemmas.{no-clusters}
 use Rattle.negotiator.proofs.ReadyLemmas.{ready-start}
 use Rattle.negotiator.proofs.SpinLoopLemmas.{on_err, part-none}
 use Rattle.negotiator.proofs.StoredLemmas.{cycle-stored}
@@ -33,6 +34,10 @@ run_spins-requires-clause-ready g c =
     let none = c.deref_mut.ensures.value ∙ c.in_ok-failed.ensures.items_if_clones_equal (λ y h. h) in
     ready-start _ (jobs_of c.args.claims.now) c.deref_mut.result.now c.requires.index c.requires.stored c.requires.ports (subst (λ (n : ℕ). n ≤ 10000) c.len.ensures.len c.len.ensures.few)
     (none ∙ ap (λ (n : ℕ). replicate n false) c.len.ensures.len)
+
+pub run_spins-requires-clause-clusters : goal.run_spins-requires-clause-clusters
+run_spins-requires-clause-clusters g c =
+    no-clusters c.args.moment (stock_of c.args.store.now) (jobs_of c.args.claims.now) c.new-clusters.result c.new-clusters.ensures.seen c.new-clusters.ensures.ranked
 
 pub returns-clause-stored : goal.returns-clause-stored
 returns-clause-stored g c = cycle-stored c.args.store.now c.args.moment (settings_of c.args.priorities.now) (jobs_of c.args.claims.now)

@@ -11,18 +11,24 @@ pub loop-spins-init : goal.loop-spins-init
 loop-spins-init g c =
     let began = jobs_of c.args.claims.now in
     let start = counts c.args.tops.now c.args.entry.now c.args.touch.now in
-    subst (λ (list : List Spin). SpinsLoop c.args.scene.now began c.args.failed.now start list began c.args.failed.now start) (sym c.new-spins.ensures)
-    (spins-start c.args.scene.now began c.args.failed.now start c.requires.ready (paid-none c.args.scene.now.moment (stock_in c.args.scene.now) began c.args.failed.now start))
+    record {
+      spins = subst (λ (list : List Spin). SpinsLoop c.args.scene.now began c.args.failed.now start list began c.args.failed.now start) (sym c.new-spins.ensures)
+          (spins-start c.args.scene.now began c.args.failed.now start c.requires.ready (paid-none c.args.scene.now.moment (stock_in c.args.scene.now) began c.args.failed.now start));
+      clusters = c.requires.clusters;
+    }
 
 pub run_spin-requires-clause-queues : goal.run_spin-requires-clause-queues
-run_spin-requires-clause-queues g c = queues-here c.args.scene.now (jobs_of c.args.claims.now) c.loop-spins.invariant c.args.queues.now c.requires.queues
+run_spin-requires-clause-queues g c = queues-here c.args.scene.now (jobs_of c.args.claims.now) c.loop-spins.invariant.spins c.args.queues.now c.requires.queues
+
+pub run_spin-requires-clause-clusters : goal.run_spin-requires-clause-clusters
+run_spin-requires-clause-clusters g c = c.loop-spins.invariant.clusters
 
 pub run_spin-requires-clause-ready : goal.run_spin-requires-clause-ready
-run_spin-requires-clause-ready g c = c.loop-spins.invariant.ready
+run_spin-requires-clause-ready g c = c.loop-spins.invariant.spins.ready
 
 pub returns-in_err-spin-clause-part : goal.returns-in_err-spin-clause-part
 returns-in_err-spin-clause-part g c =
-    on_err _ (spins-stopped c.args.scene.now (jobs_of c.args.claims.now) c.loop-spins.invariant (jobs_of c.run_spin.new.claims) c.in_err-spin.ensures.part)
+    on_err _ (spins-stopped c.args.scene.now (jobs_of c.args.claims.now) c.loop-spins.invariant.spins (jobs_of c.run_spin.new.claims) c.in_err-spin.ensures.part)
 
 pub returns-in_err-spin-clause-within : goal.returns-in_err-spin-clause-within
 returns-in_err-spin-clause-within g c =
@@ -32,11 +38,11 @@ returns-in_err-spin-clause-within g c =
     let start = counts c.args.tops.now c.args.entry.now c.args.touch.now in
     let now = counts c.loop-spins.tops c.loop-spins.entry c.loop-spins.touch in
     let after = counts c.run_spin.new.tops c.run_spin.new.entry c.run_spin.new.touch in
-    within-on c.args.scene.now.moment (stock_in c.args.scene.now) began jobs c.args.failed.now c.loop-spins.failed start now after c.loop-spins.invariant.paid c.in_err-spin.ensures.within
+    within-on c.args.scene.now.moment (stock_in c.args.scene.now) began jobs c.args.failed.now c.loop-spins.failed start now after c.loop-spins.invariant.spins.paid c.in_err-spin.ensures.within
 
 pub returns-in_err-push-clause-part : goal.returns-in_err-push-clause-part
 returns-in_err-push-clause-part g c =
-    on_err _ (spins-stopped-behind c.args.scene.now (jobs_of c.args.claims.now) c.loop-spins.invariant (jobs_of c.run_spin.new.claims) c.in_ok-spin.ensures.table)
+    on_err _ (spins-stopped-behind c.args.scene.now (jobs_of c.args.claims.now) c.loop-spins.invariant.spins (jobs_of c.run_spin.new.claims) c.in_ok-spin.ensures.table)
 
 pub returns-in_err-push-clause-within : goal.returns-in_err-push-clause-within
 returns-in_err-push-clause-within g c =
@@ -47,15 +53,15 @@ returns-in_err-push-clause-within g c =
     let now = counts c.loop-spins.tops c.loop-spins.entry c.loop-spins.touch in
     let after = counts c.run_spin.new.tops c.run_spin.new.entry c.run_spin.new.touch in
     paid-within c.args.scene.now.moment (stock_in c.args.scene.now) began later c.args.failed.now c.run_spin.new.failed start after
-    (paid-on c.args.scene.now.moment (stock_in c.args.scene.now) began jobs later c.args.failed.now c.loop-spins.failed c.run_spin.new.failed start now after c.loop-spins.invariant.paid c.in_ok-spin.ensures.paid)
+    (paid-on c.args.scene.now.moment (stock_in c.args.scene.now) began jobs later c.args.failed.now c.loop-spins.failed c.run_spin.new.failed start now after c.loop-spins.invariant.spins.paid c.in_ok-spin.ensures.paid)
 
 pub returns-then-last-clause-cycle : goal.returns-then-last-clause-cycle
 returns-then-last-clause-cycle g c =
-    spins-list c.args.scene.now (jobs_of c.args.claims.now) c.loop-spins.invariant c.in_ok-spin.spin c.in_ok-spin.ensures.spin c.push.new.self c.in_ok-push.ensures.ok (jobs_of c.run_spin.new.claims) c.in_ok-spin.ensures.table (sym c.len-last.ensures ∙ c.if-last.true)
+    spins-list c.args.scene.now (jobs_of c.args.claims.now) c.loop-spins.invariant.spins c.in_ok-spin.spin c.in_ok-spin.ensures.spin c.push.new.self c.in_ok-push.ensures.ok (jobs_of c.run_spin.new.claims) c.in_ok-spin.ensures.table (sym c.len-last.ensures ∙ c.if-last.true)
 
 pub returns-then-last-clause-table : goal.returns-then-last-clause-table
 returns-then-last-clause-table g c =
-    spins-table c.args.scene.now (jobs_of c.args.claims.now) c.loop-spins.invariant c.in_ok-spin.spin c.in_ok-spin.ensures.spin c.push.new.self c.in_ok-push.ensures.ok (jobs_of c.run_spin.new.claims) c.in_ok-spin.ensures.table (sym c.len-last.ensures ∙ c.if-last.true)
+    spins-table c.args.scene.now (jobs_of c.args.claims.now) c.loop-spins.invariant.spins c.in_ok-spin.spin c.in_ok-spin.ensures.spin c.push.new.self c.in_ok-push.ensures.ok (jobs_of c.run_spin.new.claims) c.in_ok-spin.ensures.table (sym c.len-last.ensures ∙ c.if-last.true)
 
 pub returns-then-last-clause-within : goal.returns-then-last-clause-within
 returns-then-last-clause-within g c =
@@ -66,11 +72,11 @@ returns-then-last-clause-within g c =
     let now = counts c.loop-spins.tops c.loop-spins.entry c.loop-spins.touch in
     let after = counts c.run_spin.new.tops c.run_spin.new.entry c.run_spin.new.touch in
     paid-within c.args.scene.now.moment (stock_in c.args.scene.now) began later c.args.failed.now c.run_spin.new.failed start after
-    (paid-on c.args.scene.now.moment (stock_in c.args.scene.now) began jobs later c.args.failed.now c.loop-spins.failed c.run_spin.new.failed start now after c.loop-spins.invariant.paid c.in_ok-spin.ensures.paid)
+    (paid-on c.args.scene.now.moment (stock_in c.args.scene.now) began jobs later c.args.failed.now c.loop-spins.failed c.run_spin.new.failed start now after c.loop-spins.invariant.spins.paid c.in_ok-spin.ensures.paid)
 
 pub loop-spins-smaller : goal.loop-spins-smaller
 loop-spins-smaller g c =
-    spins-fewer c.args.scene.now (jobs_of c.args.claims.now) c.loop-spins.invariant c.in_ok-spin.spin c.in_ok-spin.ensures.spin c.push.new.self c.in_ok-push.ensures.ok (jobs_of c.run_spin.new.claims) c.in_ok-spin.ensures.table (omega (arith, c.len-last.ensures, c.if-last.false))
+    spins-fewer c.args.scene.now (jobs_of c.args.claims.now) c.loop-spins.invariant.spins c.in_ok-spin.spin c.in_ok-spin.ensures.spin c.push.new.self c.in_ok-push.ensures.ok (jobs_of c.run_spin.new.claims) c.in_ok-spin.ensures.table (omega (arith, c.len-last.ensures, c.if-last.false))
 
 pub loop-spins-preserved : goal.loop-spins-preserved
 loop-spins-preserved g c =
@@ -80,6 +86,9 @@ loop-spins-preserved g c =
     let start = counts c.args.tops.now c.args.entry.now c.args.touch.now in
     let now = counts c.loop-spins.tops c.loop-spins.entry c.loop-spins.touch in
     let after = counts c.run_spin.new.tops c.run_spin.new.entry c.run_spin.new.touch in
-    spins-more c.args.scene.now began c.loop-spins.invariant c.in_ok-spin.spin c.in_ok-spin.ensures.spin c.push.new.self c.in_ok-push.ensures.ok (jobs_of c.run_spin.new.claims) c.in_ok-spin.ensures.table (omega (arith, c.len-last.ensures, c.if-last.false))
-    c.run_spin.new.failed after c.in_ok-spin.ensures.ready
-    (paid-on c.args.scene.now.moment (stock_in c.args.scene.now) began jobs later c.args.failed.now c.loop-spins.failed c.run_spin.new.failed start now after c.loop-spins.invariant.paid c.in_ok-spin.ensures.paid)
+    record {
+      spins = spins-more c.args.scene.now began c.loop-spins.invariant.spins c.in_ok-spin.spin c.in_ok-spin.ensures.spin c.push.new.self c.in_ok-push.ensures.ok (jobs_of c.run_spin.new.claims) c.in_ok-spin.ensures.table (omega (arith, c.len-last.ensures, c.if-last.false))
+          c.run_spin.new.failed after c.in_ok-spin.ensures.ready
+          (paid-on c.args.scene.now.moment (stock_in c.args.scene.now) began jobs later c.args.failed.now c.loop-spins.failed c.run_spin.new.failed start now after c.loop-spins.invariant.spins.paid c.in_ok-spin.ensures.paid);
+      clusters = c.in_ok-spin.ensures.clusters;
+    }

@@ -6,6 +6,7 @@ use Rattle.negotiator.specs.Cycle.{Offer}
 use Rattle.negotiator.specs.Markets.{IsPart, offer_named, with_offers}
 use Rattle.negotiator.specs.Scenes.{stock_in}
 use Rattle.negotiator.proofs.BudgetLemmas.{paid-none, paid-on, paid-within, within-on}
+use Rattle.negotiator.proofs.ClusterLemmas.{same-clusters}
 use Rattle.negotiator.proofs.SpinLoopLemmas.{on_err}
 use Rattle.negotiator.proofs.TurnLoopLemmas.{TurnLoop, ended-all, ended-offers, ended-table, in-slice-either, length-here, loop-same, over-slice, own-place, own-turn, own-within, stopped, tried-none, tried-some, tried-stopped, turn-passes, turn-start, turn-stops, wants-here}
 use Rattle.negotiator.proofs.turns.run_turn.Goals.{then-is_idle+else-given+in_ok-offer+in-Some+in_ok-push, then-is_idle+else-given+in_ok-offer+in_default, else-is_idle}
@@ -16,26 +17,29 @@ loop-place-init g c =
     let began = jobs_of c.args.claims.now in
     let start = counts c.args.tops.now c.args.entry.now c.args.touch.now in
     let items = c.as_slice-place-items.result.now in
-    subst (λ (list : List Offered). TurnLoop c.args.scene.now began c.args.queue.now.user items c.args.slice c.args.failed.now start 0 c.args.slice false list began c.args.failed.now start) (sym c.new-offers.ensures)
-    (turn-start c.args.scene.now began c.args.queue.now.user items c.args.slice c.args.failed.now start c.requires.ready (paid-none c.args.scene.now.moment (stock_in c.args.scene.now) began c.args.failed.now start))
+    record {
+      turn = subst (λ (list : List Offered). TurnLoop c.args.scene.now began c.args.queue.now.user items c.args.slice c.args.failed.now start 0 c.args.slice false list began c.args.failed.now start) (sym c.new-offers.ensures)
+          (turn-start c.args.scene.now began c.args.queue.now.user items c.args.slice c.args.failed.now start c.requires.ready (paid-none c.args.scene.now.moment (stock_in c.args.scene.now) began c.args.failed.now start));
+      clusters = c.requires.clusters;
+    }
 
 pub is_idle-requires : goal.is_idle-requires
 is_idle-requires g c =
     let within = own-within c.args.scene.now (jobs_of c.args.claims.now) c.args.queue.now.user c.as_slice-place-items.result.now c.loop-place.place-index (c.as_slice-place-items.ensures ∙ c.requires.own) c.loop-place-test.true in
-    omega (arith, within, length-here c.args.scene.now (jobs_of c.args.claims.now) c.loop-place.invariant)
+    omega (arith, within, length-here c.args.scene.now (jobs_of c.args.claims.now) c.loop-place.invariant.turn)
 
 pub wants-wants-requires : goal.wants-wants-requires
 wants-wants-requires g c =
     let within = own-within c.args.scene.now (jobs_of c.args.claims.now) c.args.queue.now.user c.as_slice-place-items.result.now c.loop-place.place-index (c.as_slice-place-items.ensures ∙ c.requires.own) c.loop-place-test.true in
-    omega (arith, within, length-here c.args.scene.now (jobs_of c.args.claims.now) c.loop-place.invariant)
+    omega (arith, within, length-here c.args.scene.now (jobs_of c.args.claims.now) c.loop-place.invariant.turn)
 
 pub returns-then-left-wants-clause-offers : goal.returns-then-left-wants-clause-offers
 returns-then-left-wants-clause-offers g c =
     let items = c.as_slice-place-items.result.now in
     let i = get_or items c.loop-place.place-index 0 in
     let own = own-place c.args.scene.now (jobs_of c.args.claims.now) c.args.queue.now.user items c.loop-place.place-index (c.as_slice-place-items.ensures ∙ c.requires.own) c.loop-place-test.true in
-    let wants_is = wants-here c.args.scene.now (jobs_of c.args.claims.now) c.loop-place.invariant i c.wants-wants.result c.wants-wants.ensures in
-    ended-offers c.args.scene.now (jobs_of c.args.claims.now) c.loop-place.invariant (turn-stops c.args.scene.now (jobs_of c.args.claims.now) c.loop-place.invariant i c.loop-place-test.true refl own (sym c.is_idle.ensures ∙ c.if-is_idle.true) (over-slice c.loop-place.given c.loop-place.left c.wants-wants.result _ wants_is c.if-given.true c.if-left-wants.true))
+    let wants_is = wants-here c.args.scene.now (jobs_of c.args.claims.now) c.loop-place.invariant.turn i c.wants-wants.result c.wants-wants.ensures in
+    ended-offers c.args.scene.now (jobs_of c.args.claims.now) c.loop-place.invariant.turn (turn-stops c.args.scene.now (jobs_of c.args.claims.now) c.loop-place.invariant.turn i c.loop-place-test.true refl own (sym c.is_idle.ensures ∙ c.if-is_idle.true) (over-slice c.loop-place.given c.loop-place.left c.wants-wants.result _ wants_is c.if-given.true c.if-left-wants.true))
     ∙ ap (map (offer_named (jobs_of c.args.claims.now))) (own-turn c.args.scene.now (jobs_of c.args.claims.now) c.args.queue.now.user c.as_slice-place-items.result.now c.args.slice (c.as_slice-place-items.ensures ∙ c.requires.own))
 
 pub returns-then-left-wants-clause-table : goal.returns-then-left-wants-clause-table
@@ -43,31 +47,37 @@ returns-then-left-wants-clause-table g c =
     let items = c.as_slice-place-items.result.now in
     let i = get_or items c.loop-place.place-index 0 in
     let own = own-place c.args.scene.now (jobs_of c.args.claims.now) c.args.queue.now.user items c.loop-place.place-index (c.as_slice-place-items.ensures ∙ c.requires.own) c.loop-place-test.true in
-    let wants_is = wants-here c.args.scene.now (jobs_of c.args.claims.now) c.loop-place.invariant i c.wants-wants.result c.wants-wants.ensures in
-    ended-table c.args.scene.now (jobs_of c.args.claims.now) c.loop-place.invariant (turn-stops c.args.scene.now (jobs_of c.args.claims.now) c.loop-place.invariant i c.loop-place-test.true refl own (sym c.is_idle.ensures ∙ c.if-is_idle.true) (over-slice c.loop-place.given c.loop-place.left c.wants-wants.result _ wants_is c.if-given.true c.if-left-wants.true))
+    let wants_is = wants-here c.args.scene.now (jobs_of c.args.claims.now) c.loop-place.invariant.turn i c.wants-wants.result c.wants-wants.ensures in
+    ended-table c.args.scene.now (jobs_of c.args.claims.now) c.loop-place.invariant.turn (turn-stops c.args.scene.now (jobs_of c.args.claims.now) c.loop-place.invariant.turn i c.loop-place-test.true refl own (sym c.is_idle.ensures ∙ c.if-is_idle.true) (over-slice c.loop-place.given c.loop-place.left c.wants-wants.result _ wants_is c.if-given.true c.if-left-wants.true))
     ∙ ap (λ (os : List (Offer ℕ)). with_offers os (jobs_of c.args.claims.now)) (own-turn c.args.scene.now (jobs_of c.args.claims.now) c.args.queue.now.user c.as_slice-place-items.result.now c.args.slice (c.as_slice-place-items.ensures ∙ c.requires.own))
 
+pub returns-then-left-wants-clause-clusters : goal.returns-then-left-wants-clause-clusters
+returns-then-left-wants-clause-clusters g c = c.loop-place.invariant.clusters
+
 pub returns-then-left-wants-clause-ready : goal.returns-then-left-wants-clause-ready
-returns-then-left-wants-clause-ready g c = c.loop-place.invariant.ready
+returns-then-left-wants-clause-ready g c = c.loop-place.invariant.turn.ready
 
 pub returns-then-left-wants-clause-paid : goal.returns-then-left-wants-clause-paid
-returns-then-left-wants-clause-paid g c = c.loop-place.invariant.paid
+returns-then-left-wants-clause-paid g c = c.loop-place.invariant.turn.paid
 
 pub returns-then-left-wants-clause-within : goal.returns-then-left-wants-clause-within
 returns-then-left-wants-clause-within g c =
-    paid-within c.args.scene.now.moment (stock_in c.args.scene.now) (jobs_of c.args.claims.now) (jobs_of c.loop-place.claims) c.args.failed.now c.loop-place.failed (counts c.args.tops.now c.args.entry.now c.args.touch.now) (counts c.loop-place.tops c.loop-place.entry c.loop-place.touch) c.loop-place.invariant.paid
+    paid-within c.args.scene.now.moment (stock_in c.args.scene.now) (jobs_of c.args.claims.now) (jobs_of c.loop-place.claims) c.args.failed.now c.loop-place.failed (counts c.args.tops.now c.args.entry.now c.args.touch.now) (counts c.loop-place.tops c.loop-place.entry c.loop-place.touch) c.loop-place.invariant.turn.paid
 
 pub try_job-requires-clause-idle : goal.try_job-requires-clause-idle
 try_job-requires-clause-idle g c = sym c.is_idle.ensures ∙ c.if-is_idle.true
 
+pub try_job-requires-clause-clusters : goal.try_job-requires-clause-clusters
+try_job-requires-clause-clusters g c = c.loop-place.invariant.clusters
+
 pub try_job-requires-clause-ready : goal.try_job-requires-clause-ready
-try_job-requires-clause-ready g c = c.loop-place.invariant.ready
+try_job-requires-clause-ready g c = c.loop-place.invariant.turn.ready
 
 pub returns-in_err-offer-clause-part : goal.returns-in_err-offer-clause-part
 returns-in_err-offer-clause-part g c =
     let began = jobs_of c.args.claims.now in
     on_err _ (subst (λ (os : List (Offer ℕ)). IsPart os (jobs_of c.args.claims.now) (jobs_of c.try_job.new.claims)) (own-turn c.args.scene.now (jobs_of c.args.claims.now) c.args.queue.now.user c.as_slice-place-items.result.now c.args.slice (c.as_slice-place-items.ensures ∙ c.requires.own))
-    (subst (IsPart _ began) (sym c.in_err-offer.ensures.err) (stopped c.args.scene.now (jobs_of c.args.claims.now) c.loop-place.invariant)))
+    (subst (IsPart _ began) (sym c.in_err-offer.ensures.err) (stopped c.args.scene.now (jobs_of c.args.claims.now) c.loop-place.invariant.turn)))
 
 pub returns-in_err-offer-clause-within : goal.returns-in_err-offer-clause-within
 returns-in_err-offer-clause-within g c =
@@ -76,16 +86,16 @@ returns-in_err-offer-clause-within g c =
     let start = counts c.args.tops.now c.args.entry.now c.args.touch.now in
     let now = counts c.loop-place.tops c.loop-place.entry c.loop-place.touch in
     let after = counts c.try_job.new.tops c.try_job.new.entry c.try_job.new.touch in
-    within-on c.args.scene.now.moment (stock_in c.args.scene.now) began jobs c.args.failed.now c.loop-place.failed start now after c.loop-place.invariant.paid c.in_err-offer.ensures.within
+    within-on c.args.scene.now.moment (stock_in c.args.scene.now) began jobs c.args.failed.now c.loop-place.failed start now after c.loop-place.invariant.turn.paid c.in_err-offer.ensures.within
 
 pub returns-in_err-push-clause-part : goal.returns-in_err-push-clause-part
 returns-in_err-push-clause-part g c =
     let items = c.as_slice-place-items.result.now in
     let i = get_or items c.loop-place.place-index 0 in
     let own = own-place c.args.scene.now (jobs_of c.args.claims.now) c.args.queue.now.user items c.loop-place.place-index (c.as_slice-place-items.ensures ∙ c.requires.own) c.loop-place-test.true in
-    let wants_is = wants-here c.args.scene.now (jobs_of c.args.claims.now) c.loop-place.invariant i c.wants-wants.result c.wants-wants.ensures in
+    let wants_is = wants-here c.args.scene.now (jobs_of c.args.claims.now) c.loop-place.invariant.turn i c.wants-wants.result c.wants-wants.ensures in
     on_err _ (subst (λ (os : List (Offer ℕ)). IsPart os (jobs_of c.args.claims.now) (jobs_of c.try_job.new.claims)) (own-turn c.args.scene.now (jobs_of c.args.claims.now) c.args.queue.now.user c.as_slice-place-items.result.now c.args.slice (c.as_slice-place-items.ensures ∙ c.requires.own))
-    (tried-stopped c.args.scene.now (jobs_of c.args.claims.now) c.loop-place.invariant i c.loop-place-test.true refl own (sym c.is_idle.ensures ∙ c.if-is_idle.true) (in-slice-either c.loop-place.given c.loop-place.left c.wants-wants.result _ wants_is c.else-given.either) c.in_ok-offer.field-0 c.in_ok-offer.ensures.offered (jobs_of c.try_job.new.claims) c.in_ok-offer.ensures.table c.in-Some.offer c.in-Some.is))
+    (tried-stopped c.args.scene.now (jobs_of c.args.claims.now) c.loop-place.invariant.turn i c.loop-place-test.true refl own (sym c.is_idle.ensures ∙ c.if-is_idle.true) (in-slice-either c.loop-place.given c.loop-place.left c.wants-wants.result _ wants_is c.else-given.either) c.in_ok-offer.field-0 c.in_ok-offer.ensures.offered (jobs_of c.try_job.new.claims) c.in_ok-offer.ensures.table c.in-Some.offer c.in-Some.is))
 
 pub returns-in_err-push-clause-within : goal.returns-in_err-push-clause-within
 returns-in_err-push-clause-within g c =
@@ -95,7 +105,7 @@ returns-in_err-push-clause-within g c =
     let now = counts c.loop-place.tops c.loop-place.entry c.loop-place.touch in
     let after = counts c.try_job.new.tops c.try_job.new.entry c.try_job.new.touch in
     paid-within c.args.scene.now.moment (stock_in c.args.scene.now) began (jobs_of c.try_job.new.claims) c.args.failed.now c.try_job.new.failed start after
-    (paid-on c.args.scene.now.moment (stock_in c.args.scene.now) began jobs (jobs_of c.try_job.new.claims) c.args.failed.now c.loop-place.failed c.try_job.new.failed start now after c.loop-place.invariant.paid c.in_ok-offer.ensures.paid)
+    (paid-on c.args.scene.now.moment (stock_in c.args.scene.now) began jobs (jobs_of c.try_job.new.claims) c.args.failed.now c.loop-place.failed c.try_job.new.failed start now after c.loop-place.invariant.turn.paid c.in_ok-offer.ensures.paid)
 
 pub loop-place-preserved : goal.loop-place-preserved
 loop-place-preserved g c =
@@ -104,43 +114,53 @@ loop-place-preserved g c =
     let items = c.as_slice-place-items.result.now in
     let i = get_or items c.loop-place.place-index 0 in
     let own = own-place scene began c.args.queue.now.user items c.loop-place.place-index (c.as_slice-place-items.ensures ∙ c.requires.own) c.loop-place-test.true in
-    elim c.if-is_idle.branch [
-      | then-is_idle+else-given+in_ok-offer+in-Some+in_ok-push w ↦
-          let wants_is = wants-here scene began c.loop-place.invariant i w.wants-wants.result w.wants-wants.ensures in
-          let after = counts w.try_job.new.tops w.try_job.new.entry w.try_job.new.touch in
-          loop-same scene began
-          (tried-some scene began c.loop-place.invariant i c.loop-place-test.true refl own (sym c.is_idle.ensures ∙ w.if-is_idle.true) (in-slice-either c.loop-place.given c.loop-place.left w.wants-wants.result _ wants_is w.else-given.either)
-          w.in_ok-offer.field-0 w.in_ok-offer.ensures.offered (jobs_of w.try_job.new.claims) w.in_ok-offer.ensures.table w.in-Some.offer w.in-Some.is
-          w.wants-wants.result wants_is w.push.new.self w.in_ok-push.ensures.ok _ w.saturating_sub-left.ensures w.try_job.new.failed after w.in_ok-offer.ensures.ready w.in_ok-offer.ensures.paid)
-          w.left-is w.given-is w.offers-is (ap jobs_of w.claims-is) w.failed-is w.tops-is w.entry-is w.touch-is
-      | then-is_idle+else-given+in_ok-offer+in_default w ↦
-          let wants_is = wants-here scene began c.loop-place.invariant i w.wants-wants.result w.wants-wants.ensures in
-          let after = counts w.try_job.new.tops w.try_job.new.entry w.try_job.new.touch in
-          loop-same scene began
-          (tried-none scene began c.loop-place.invariant i c.loop-place-test.true refl own (sym c.is_idle.ensures ∙ w.if-is_idle.true) (in-slice-either c.loop-place.given c.loop-place.left w.wants-wants.result _ wants_is w.else-given.either)
-          w.in_ok-offer.field-0 w.in_ok-offer.ensures.offered (jobs_of w.try_job.new.claims) w.in_ok-offer.ensures.table w.in_default.is w.try_job.new.failed after w.in_ok-offer.ensures.ready w.in_ok-offer.ensures.paid)
-          w.left-is w.given-is w.offers-is (ap jobs_of w.claims-is) w.failed-is w.tops-is w.entry-is w.touch-is
-      | else-is_idle w ↦
-          loop-same scene began (turn-passes scene began c.loop-place.invariant i c.loop-place-test.true refl own (sym c.is_idle.ensures ∙ w.if-is_idle.false))
-          w.left-is w.given-is w.offers-is (ap jobs_of w.claims-is) w.failed-is w.tops-is w.entry-is w.touch-is
-    ]
+    record {
+      turn = elim c.if-is_idle.branch [
+        | then-is_idle+else-given+in_ok-offer+in-Some+in_ok-push w ↦
+            let wants_is = wants-here scene began c.loop-place.invariant.turn i w.wants-wants.result w.wants-wants.ensures in
+            let after = counts w.try_job.new.tops w.try_job.new.entry w.try_job.new.touch in
+            loop-same scene began
+            (tried-some scene began c.loop-place.invariant.turn i c.loop-place-test.true refl own (sym c.is_idle.ensures ∙ w.if-is_idle.true) (in-slice-either c.loop-place.given c.loop-place.left w.wants-wants.result _ wants_is w.else-given.either)
+            w.in_ok-offer.field-0 w.in_ok-offer.ensures.offered (jobs_of w.try_job.new.claims) w.in_ok-offer.ensures.table w.in-Some.offer w.in-Some.is
+            w.wants-wants.result wants_is w.push.new.self w.in_ok-push.ensures.ok _ w.saturating_sub-left.ensures w.try_job.new.failed after w.in_ok-offer.ensures.ready w.in_ok-offer.ensures.paid)
+            w.left-is w.given-is w.offers-is (ap jobs_of w.claims-is) w.failed-is w.tops-is w.entry-is w.touch-is
+        | then-is_idle+else-given+in_ok-offer+in_default w ↦
+            let wants_is = wants-here scene began c.loop-place.invariant.turn i w.wants-wants.result w.wants-wants.ensures in
+            let after = counts w.try_job.new.tops w.try_job.new.entry w.try_job.new.touch in
+            loop-same scene began
+            (tried-none scene began c.loop-place.invariant.turn i c.loop-place-test.true refl own (sym c.is_idle.ensures ∙ w.if-is_idle.true) (in-slice-either c.loop-place.given c.loop-place.left w.wants-wants.result _ wants_is w.else-given.either)
+            w.in_ok-offer.field-0 w.in_ok-offer.ensures.offered (jobs_of w.try_job.new.claims) w.in_ok-offer.ensures.table w.in_default.is w.try_job.new.failed after w.in_ok-offer.ensures.ready w.in_ok-offer.ensures.paid)
+            w.left-is w.given-is w.offers-is (ap jobs_of w.claims-is) w.failed-is w.tops-is w.entry-is w.touch-is
+        | else-is_idle w ↦
+            loop-same scene began (turn-passes scene began c.loop-place.invariant.turn i c.loop-place-test.true refl own (sym c.is_idle.ensures ∙ w.if-is_idle.false))
+            w.left-is w.given-is w.offers-is (ap jobs_of w.claims-is) w.failed-is w.tops-is w.entry-is w.touch-is
+      ];
+      clusters = elim c.if-is_idle.branch [
+        | then-is_idle+else-given+in_ok-offer+in-Some+in_ok-push w ↦ same-clusters scene (ap jobs_of w.claims-is) w.clusters-is w.in_ok-offer.ensures.clusters
+        | then-is_idle+else-given+in_ok-offer+in_default w ↦ same-clusters scene (ap jobs_of w.claims-is) w.clusters-is w.in_ok-offer.ensures.clusters
+        | else-is_idle w ↦ same-clusters scene (ap jobs_of w.claims-is) w.clusters-is c.loop-place.invariant.clusters
+      ];
+    }
 
 pub returns-clause-offers : goal.returns-clause-offers
 returns-clause-offers g c =
-    ended-offers c.args.scene.now (jobs_of c.args.claims.now) c.loop-place.invariant (ended-all c.args.scene.now (jobs_of c.args.claims.now) c.loop-place.invariant c.loop-place-test.false)
+    ended-offers c.args.scene.now (jobs_of c.args.claims.now) c.loop-place.invariant.turn (ended-all c.args.scene.now (jobs_of c.args.claims.now) c.loop-place.invariant.turn c.loop-place-test.false)
     ∙ ap (map (offer_named (jobs_of c.args.claims.now))) (own-turn c.args.scene.now (jobs_of c.args.claims.now) c.args.queue.now.user c.as_slice-place-items.result.now c.args.slice (c.as_slice-place-items.ensures ∙ c.requires.own))
 
 pub returns-clause-table : goal.returns-clause-table
 returns-clause-table g c =
-    ended-table c.args.scene.now (jobs_of c.args.claims.now) c.loop-place.invariant (ended-all c.args.scene.now (jobs_of c.args.claims.now) c.loop-place.invariant c.loop-place-test.false)
+    ended-table c.args.scene.now (jobs_of c.args.claims.now) c.loop-place.invariant.turn (ended-all c.args.scene.now (jobs_of c.args.claims.now) c.loop-place.invariant.turn c.loop-place-test.false)
     ∙ ap (λ (os : List (Offer ℕ)). with_offers os (jobs_of c.args.claims.now)) (own-turn c.args.scene.now (jobs_of c.args.claims.now) c.args.queue.now.user c.as_slice-place-items.result.now c.args.slice (c.as_slice-place-items.ensures ∙ c.requires.own))
 
+pub returns-clause-clusters : goal.returns-clause-clusters
+returns-clause-clusters g c = c.loop-place.invariant.clusters
+
 pub returns-clause-ready : goal.returns-clause-ready
-returns-clause-ready g c = c.loop-place.invariant.ready
+returns-clause-ready g c = c.loop-place.invariant.turn.ready
 
 pub returns-clause-paid : goal.returns-clause-paid
-returns-clause-paid g c = c.loop-place.invariant.paid
+returns-clause-paid g c = c.loop-place.invariant.turn.paid
 
 pub returns-clause-within : goal.returns-clause-within
 returns-clause-within g c =
-    paid-within c.args.scene.now.moment (stock_in c.args.scene.now) (jobs_of c.args.claims.now) (jobs_of c.loop-place.claims) c.args.failed.now c.loop-place.failed (counts c.args.tops.now c.args.entry.now c.args.touch.now) (counts c.loop-place.tops c.loop-place.entry c.loop-place.touch) c.loop-place.invariant.paid
+    paid-within c.args.scene.now.moment (stock_in c.args.scene.now) (jobs_of c.args.claims.now) (jobs_of c.loop-place.claims) c.args.failed.now c.loop-place.failed (counts c.args.tops.now c.args.entry.now c.args.touch.now) (counts c.loop-place.tops c.loop-place.entry c.loop-place.touch) c.loop-place.invariant.turn.paid

@@ -1,9 +1,13 @@
 use Rattle.claim_table.specs.Table.{jobs_of}
 use Rattle.negotiator.specs.Budget.{counts}
+use Rattle.negotiator.specs.Clusters.{AreClusters}
+use Rattle.negotiator.specs.Scenes.{stock_in}
 use Rattle.negotiator.proofs.TurnLoopLemmas.{TurnLoop}
 use Rattle.negotiator.proofs.turns.run_turn.Given as goal
 
 abbrev pub invariant-loop-place : goal.invariant-loop-place
-invariant-loop-place g l =
-    TurnLoop l.scene (jobs_of l.fn.claims) l.queue.user l.place-items l.slice l.fn.failed (counts l.fn.tops l.fn.entry l.fn.touch)
-    l.place-index l.left l.given l.offers (jobs_of l.claims) l.failed (counts l.tops l.entry l.touch)
+invariant-loop-place g l = record {
+  turn : TurnLoop l.scene (jobs_of l.fn.claims) l.queue.user l.place-items l.slice l.fn.failed (counts l.fn.tops l.fn.entry l.fn.touch)
+      l.place-index l.left l.given l.offers (jobs_of l.claims) l.failed (counts l.tops l.entry l.touch);
+  clusters : AreClusters l.scene.moment (stock_in l.scene) (jobs_of l.claims) l.clusters;
+}

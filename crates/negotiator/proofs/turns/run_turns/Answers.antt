@@ -17,8 +17,11 @@ loop-k-init g c =
     let began = jobs_of c.args.claims.now in
     let start = counts c.args.tops.now c.args.entry.now c.args.touch.now in
     let users = users_at c.args.queues.now c.args.active.now in
-    subst (λ (list : List Turn). TurnsLoop c.args.scene.now began users c.args.slices.now c.args.failed.now start 0 list began c.args.failed.now start) (sym c.new-turns.ensures)
-    (turns-start c.args.scene.now began users c.args.slices.now c.args.failed.now start c.requires.ready (paid-none c.args.scene.now.moment (stock_in c.args.scene.now) began c.args.failed.now start))
+    record {
+      turns = subst (λ (list : List Turn). TurnsLoop c.args.scene.now began users c.args.slices.now c.args.failed.now start 0 list began c.args.failed.now start) (sym c.new-turns.ensures)
+          (turns-start c.args.scene.now began users c.args.slices.now c.args.failed.now start c.requires.ready (paid-none c.args.scene.now.moment (stock_in c.args.scene.now) began c.args.failed.now start));
+      clusters = c.requires.clusters;
+    }
 
 pub bounds-queues-active : goal.bounds-queues-active
 bounds-queues-active g c = c.requires.active c.loop-k.k _ c.loop-k-test.true
@@ -33,12 +36,15 @@ pub run_turn-requires-clause-own : goal.run_turn-requires-clause-own
 run_turn-requires-clause-own g c =
     let began = jobs_of c.args.claims.now in
     let market = market_in c.args.scene.now began in
-    own-here c.args.scene.now began c.loop-k.invariant c.index-queues-active.result
+    own-here c.args.scene.now began c.loop-k.invariant.turns c.index-queues-active.result
     (subst (λ (q : Queue). q.places ≡ filter (is_of market q.user) (places market.jobs)) (sym c.index-queues-active.is)
     (c.requires.own _ c.index-queues-active.result (c.requires.active c.loop-k.k 0 c.loop-k-test.true)))
 
+pub run_turn-requires-clause-clusters : goal.run_turn-requires-clause-clusters
+run_turn-requires-clause-clusters g c = c.loop-k.invariant.clusters
+
 pub run_turn-requires-clause-ready : goal.run_turn-requires-clause-ready
-run_turn-requires-clause-ready g c = c.loop-k.invariant.ready
+run_turn-requires-clause-ready g c = c.loop-k.invariant.turns.ready
 
 pub returns-in_err-offers-clause-part : goal.returns-in_err-offers-clause-part
 returns-in_err-offers-clause-part g c =
@@ -49,7 +55,7 @@ returns-in_err-offers-clause-part g c =
     let us : c.loop-k.k < length users = omega (arith, long, within) in
     let ss : c.loop-k.k < length c.args.slices.now = omega (arith, within, c.requires.slices) in
     let user = user-here c.args.queues.now c.args.active.now c.loop-k.k _ c.index-queues-active.result within refl (c.requires.active c.loop-k.k 0 within) (sym c.index-queues-active.is) in
-    on_err _ (turns-stopped c.args.scene.now began c.loop-k.invariant c.index-queues-active.result.user (get_or c.args.slices.now c.loop-k.k 0) us ss user refl (jobs_of c.run_turn.new.claims) c.in_err-offers.ensures.part)
+    on_err _ (turns-stopped c.args.scene.now began c.loop-k.invariant.turns c.index-queues-active.result.user (get_or c.args.slices.now c.loop-k.k 0) us ss user refl (jobs_of c.run_turn.new.claims) c.in_err-offers.ensures.part)
 
 pub returns-in_err-offers-clause-within : goal.returns-in_err-offers-clause-within
 returns-in_err-offers-clause-within g c =
@@ -58,7 +64,7 @@ returns-in_err-offers-clause-within g c =
     let start = counts c.args.tops.now c.args.entry.now c.args.touch.now in
     let now = counts c.loop-k.tops c.loop-k.entry c.loop-k.touch in
     let after = counts c.run_turn.new.tops c.run_turn.new.entry c.run_turn.new.touch in
-    within-on c.args.scene.now.moment (stock_in c.args.scene.now) began jobs c.args.failed.now c.loop-k.failed start now after c.loop-k.invariant.paid c.in_err-offers.ensures.within
+    within-on c.args.scene.now.moment (stock_in c.args.scene.now) began jobs c.args.failed.now c.loop-k.failed start now after c.loop-k.invariant.turns.paid c.in_err-offers.ensures.within
 
 pub returns-in_err-keep-clause-part : goal.returns-in_err-keep-clause-part
 returns-in_err-keep-clause-part g c =
@@ -69,7 +75,7 @@ returns-in_err-keep-clause-part g c =
     let us : c.loop-k.k < length users = omega (arith, long, within) in
     let ss : c.loop-k.k < length c.args.slices.now = omega (arith, within, c.requires.slices) in
     let user = user-here c.args.queues.now c.args.active.now c.loop-k.k _ c.index-queues-active.result within refl (c.requires.active c.loop-k.k 0 within) (sym c.index-queues-active.is) in
-    on_err _ (turns-stopped-behind c.args.scene.now began c.loop-k.invariant c.index-queues-active.result.user (get_or c.args.slices.now c.loop-k.k 0) us ss user refl (jobs_of c.run_turn.new.claims) c.in_ok-offers.ensures.table)
+    on_err _ (turns-stopped-behind c.args.scene.now began c.loop-k.invariant.turns c.index-queues-active.result.user (get_or c.args.slices.now c.loop-k.k 0) us ss user refl (jobs_of c.run_turn.new.claims) c.in_ok-offers.ensures.table)
 
 pub returns-in_err-keep-clause-within : goal.returns-in_err-keep-clause-within
 returns-in_err-keep-clause-within g c =
@@ -79,7 +85,7 @@ returns-in_err-keep-clause-within g c =
     let now = counts c.loop-k.tops c.loop-k.entry c.loop-k.touch in
     let after = counts c.run_turn.new.tops c.run_turn.new.entry c.run_turn.new.touch in
     paid-within c.args.scene.now.moment (stock_in c.args.scene.now) began (jobs_of c.run_turn.new.claims) c.args.failed.now c.run_turn.new.failed start after
-    (paid-on c.args.scene.now.moment (stock_in c.args.scene.now) began jobs (jobs_of c.run_turn.new.claims) c.args.failed.now c.loop-k.failed c.run_turn.new.failed start now after c.loop-k.invariant.paid c.in_ok-offers.ensures.paid)
+    (paid-on c.args.scene.now.moment (stock_in c.args.scene.now) began jobs (jobs_of c.run_turn.new.claims) c.args.failed.now c.loop-k.failed c.run_turn.new.failed start now after c.loop-k.invariant.turns.paid c.in_ok-offers.ensures.paid)
 
 pub loop-k-preserved : goal.loop-k-preserved
 loop-k-preserved g c =
@@ -94,28 +100,34 @@ loop-k-preserved g c =
     let us : c.loop-k.k < length users = omega (arith, long, within) in
     let ss : c.loop-k.k < length c.args.slices.now = omega (arith, within, c.requires.slices) in
     let user = user-here c.args.queues.now c.args.active.now c.loop-k.k _ c.index-queues-active.result within refl (c.requires.active c.loop-k.k 0 within) (sym c.index-queues-active.is) in
-    turns-more c.args.scene.now began c.loop-k.invariant c.index-queues-active.result.user (get_or c.args.slices.now c.loop-k.k 0) us ss user refl
-    c.in_ok-offers.offers c.in_ok-offers.ensures.offers c.keep.new.turns c.in_ok-keep.ensures (jobs_of c.run_turn.new.claims) c.in_ok-offers.ensures.table
-    c.run_turn.new.failed after c.in_ok-offers.ensures.ready
-    (paid-on c.args.scene.now.moment (stock_in c.args.scene.now) began jobs (jobs_of c.run_turn.new.claims) c.args.failed.now c.loop-k.failed c.run_turn.new.failed start now after c.loop-k.invariant.paid c.in_ok-offers.ensures.paid)
+    record {
+      turns = turns-more c.args.scene.now began c.loop-k.invariant.turns c.index-queues-active.result.user (get_or c.args.slices.now c.loop-k.k 0) us ss user refl
+          c.in_ok-offers.offers c.in_ok-offers.ensures.offers c.keep.new.turns c.in_ok-keep.ensures (jobs_of c.run_turn.new.claims) c.in_ok-offers.ensures.table
+          c.run_turn.new.failed after c.in_ok-offers.ensures.ready
+          (paid-on c.args.scene.now.moment (stock_in c.args.scene.now) began jobs (jobs_of c.run_turn.new.claims) c.args.failed.now c.loop-k.failed c.run_turn.new.failed start now after c.loop-k.invariant.turns.paid c.in_ok-offers.ensures.paid);
+      clusters = c.in_ok-offers.ensures.clusters;
+    }
 
 pub returns-clause-turns : goal.returns-clause-turns
 returns-clause-turns g c =
     let long = length-map c.args.active.now (λ k. option_map_or (λ (q : Queue). q.user) (slice_get c.args.queues.now k) []) in
-    turns-list c.args.scene.now (jobs_of c.args.claims.now) c.loop-k.invariant (omega (arith, long, c.loop-k-test.false))
+    turns-list c.args.scene.now (jobs_of c.args.claims.now) c.loop-k.invariant.turns (omega (arith, long, c.loop-k-test.false))
 
 pub returns-clause-table : goal.returns-clause-table
 returns-clause-table g c =
     let long = length-map c.args.active.now (λ k. option_map_or (λ (q : Queue). q.user) (slice_get c.args.queues.now k) []) in
-    turns-table c.args.scene.now (jobs_of c.args.claims.now) c.loop-k.invariant (omega (arith, long, c.loop-k-test.false))
+    turns-table c.args.scene.now (jobs_of c.args.claims.now) c.loop-k.invariant.turns (omega (arith, long, c.loop-k-test.false))
+
+pub returns-clause-clusters : goal.returns-clause-clusters
+returns-clause-clusters g c = c.loop-k.invariant.clusters
 
 pub returns-clause-ready : goal.returns-clause-ready
-returns-clause-ready g c = c.loop-k.invariant.ready
+returns-clause-ready g c = c.loop-k.invariant.turns.ready
 
 pub returns-clause-paid : goal.returns-clause-paid
-returns-clause-paid g c = c.loop-k.invariant.paid
+returns-clause-paid g c = c.loop-k.invariant.turns.paid
 
 pub returns-clause-within : goal.returns-clause-within
 returns-clause-within g c =
     paid-within c.args.scene.now.moment (stock_in c.args.scene.now) (jobs_of c.args.claims.now) (jobs_of c.loop-k.claims) c.args.failed.now c.loop-k.failed
-    (counts c.args.tops.now c.args.entry.now c.args.touch.now) (counts c.loop-k.tops c.loop-k.entry c.loop-k.touch) c.loop-k.invariant.paid
+    (counts c.args.tops.now c.args.entry.now c.args.touch.now) (counts c.loop-k.tops c.loop-k.entry c.loop-k.touch) c.loop-k.invariant.turns.paid

@@ -1,0 +1,15 @@
+use Rattle.std.proofs.Common.{List, ℕ, refl}
+use Rattle.ad_tree.specs.Ad.{ad_frames}
+use Rattle.ad_tree.specs.Frames.{attributes_at}
+use Rattle.ad_tree.specs.Tree.{Tree, tree}
+use Rattle.bilateral_match.proofs.SameLemmas.{attribute-at, same-attribute, same-more}
+use Rattle.bilateral_match.proofs.alike.same_attributes.Goals as goal
+
+pub loop-k-preserved : goal.loop-k-preserved
+loop-k-preserved c =
+    let here : List (List ℕ × Tree) = attributes_at (ad_frames c.args.a.now) c.args.frame in
+    let there : List (List ℕ × Tree) = attributes_at (ad_frames c.args.b.now) c.args.frame in
+    same-more here there c.loop-k.k (c.name.result.now, tree c.expr.result.now) (c.name-in-loop-k.result.now, tree c.expr-in-loop-k.result.now) c.loop-k.invariant
+    (attribute-at here c.loop-k.k c.name.result.now (tree c.expr.result.now) c.name.ensures c.expr.ensures)
+    (attribute-at there c.loop-k.k c.name-in-loop-k.result.now (tree c.expr-in-loop-k.result.now) c.name-in-loop-k.ensures c.expr-in-loop-k.ensures)
+    (same-attribute c.name.result.now c.name-in-loop-k.result.now (tree c.expr.result.now) (tree c.expr-in-loop-k.result.now) (c.if-not-same_text.ensures refl) (c.if-not-same_expr.ensures refl))

@@ -1,0 +1,17 @@
+use Rattle.std.proofs.Common.{◌≡◌, ◌≤◌, ◌+◌, ◌*◌, sum_by, take}
+use Rattle.std.specs.List.{filter_map}
+use Rattle.ad_tree.specs.Ad.{ad_frames}
+use Rattle.ad_store.specs.Store.{stock_of}
+use Rattle.bilateral_match.specs.Pool.{pool_of}
+use Rattle.bilateral_match.specs.Scan.{attributes_for, evaluations_for, member_at}
+use Rattle.bilateral_match.proofs.shortlists.members_at.Given as goal
+
+abbrev pub invariant-loop-place : goal.invariant-loop-place
+invariant-loop-place g l =
+    let pool = pool_of l.moment (stock_of l.store) (g.H.Holdings.is_offered l.held) (g.H.Holdings.holding l.held) in
+    record {
+      found : l.found.items ≡ filter_map (member_at pool (ad_frames l.request.ad)) (take l.place-index l.place-items);
+      evaluations : l.tops ≤ l.initial.tops + sum_by (evaluations_for pool (ad_frames l.request.ad)) (take l.place-index l.place-items);
+      entries : l.entry ≤ l.initial.entry + sum_by (attributes_for pool (ad_frames l.request.ad)) (take l.place-index l.place-items);
+      looks : l.touch ≤ l.initial.touch + 9 * l.place-index;
+    }

@@ -1,0 +1,18 @@
+-- The members for a job in order, which serve it and all jobs of the same ad while more and more resources are offered.
+use Rattle.std.specs.Prelude.{◌≡◌, ℕ, Bool, true, not, List, Option}
+use Rattle.std.specs.List.{find}
+use Rattle.ad_tree.specs.Frames.{Frame}
+use Rattle.ad_store.specs.Holdings.{Holding}
+use Rattle.ad_store.specs.Stock.{Stock}
+use Rattle.bilateral_match.specs.Members.{best_slot}
+use Rattle.bilateral_match.specs.Pool.{pool_of}
+
+-- the first of these slots that isn't offered
+abbrev pub first_left : (ℕ → Bool) → List ℕ → Option ℕ
+first_left is_offered slots = find (λ slot. not (is_offered slot)) slots
+
+-- whatever is offered beside what is already, the first of these slots that isn't is that of the best resource
+abbrev pub IsShortlist : ℕ → Stock → (ℕ → Bool) → (ℕ → Option Holding) → List Frame → List ℕ → Type 0
+IsShortlist moment stock is_offered holding request slots =
+    (more : ℕ → Bool) → ((slot : ℕ) → is_offered slot ≡ true → more slot ≡ true)
+    → best_slot stock (pool_of moment stock more holding) request ≡ first_left more slots

@@ -1,0 +1,133 @@
+// The members for a job in order.
+ghost use Rattle.std.specs.Prelude.{◌≡◌, ◌≤◌, ◌<◌, ◌+◌, ◌*◌, ◌++◌, [], length, map, sum_by, All, Contains, IfOk, OnOk};
+ghost use Rattle.std.specs.List.{cons_option, filter_map};
+ghost use Rattle.std.specs.List.Sorted.{IsPermutation, IsSorted};
+ghost use Rattle.ad_tree.specs.Ad.{ad_frames};
+ghost use Rattle.ad_store.specs.Store.{stock_of};
+ghost use Rattle.conjunct_plan.specs.Tests.{tests_of};
+ghost use Rattle.literal_index.specs.Shown.{IsIndex};
+ghost use Rattle.bilateral_match.specs.Counts.{entered_for, least_left, open_count};
+ghost use Rattle.bilateral_match.specs.Members.{member_order};
+ghost use Rattle.bilateral_match.specs.Pool.{AreStored, pool_of, slot_at};
+ghost use Rattle.bilateral_match.specs.Rows.{rows_of};
+ghost use Rattle.bilateral_match.specs.Scan as scan;
+ghost use Rattle.bilateral_match.specs.Shortlists.{IsShortlist};
+
+use crate::candidates::candidates;
+use crate::member::Member;
+use crate::members::member_at;
+use ad_store::{Holdings, Store};
+use ad_tree::Request;
+use literal_index::Index;
+use pool_steps::Steps;
+use pool_text::{OutOfMemory, Slots};
+use std::alloc::Global;
+use std::convert::AsSlice;
+use std::sync::ledger::Ledger;
+
+/// The slots of all resources that a job without ports may be given, the best one first and each in the order of `best`.
+/// While the holders stay and no offer is taken back, the best resource is the first of the list that isn't offered. So one
+/// list serves all jobs of the same ad, as the automatic clusters of HTCondor's negotiator do.
+///
+/// It takes what `best` takes, and counts no more: each ad that is looked at is weighed once.
+pub fn shortlist<H: Holdings, F: Ledger, E: Ledger, T: Ledger>(
+    alloc: Global,
+    store: &Store,
+    index: &Index,
+    held: &H,
+    request: &Request,
+    moment: u64,
+    tops: &mut Steps<F>,
+    entry: &mut Steps<E>,
+    touch: &mut Steps<T>,
+) -> Result<Slots, OutOfMemory>
+    requires index { IsIndex index.now (rows_of (stock_of store.now)) }
+    requires stored { AreStored (stock_of store.now) (H.holding held.now) }
+    requires single { request.now.ports ≡ [] }
+    ensures best { IfOk result (IsShortlist moment (stock_of store.now) (H.is_offered held.now) (H.holding held.now) (ad_frames request.now.ad)) }
+    ensures held { IfOk result (All (Contains (stock_of store.now).slots)) }
+    ensures evaluations { tops.new ≤ tops.old
+        + 5 * open_count (pool_of moment (stock_of store.now) (H.is_offered held.now) (H.holding held.now)) (ad_frames request.now.ad) }
+    ensures entries { entry.new ≤ entry.old
+        + entered_for (pool_of moment (stock_of store.now) (H.is_offered held.now) (H.holding held.now)) (ad_frames request.now.ad) }
+    ensures looks { touch.new ≤ touch.old
+        + 9 * least_left (stock_of store.now).ads (tests_of (ad_frames request.now.ad) 0 []) }
+{
+    let places = candidates(alloc, store, index, request)?;
+    let mut found = members_at(
+        alloc, store, held, request, moment, &places, tops, entry, touch,
+    )?;
+    arrange(&mut found)?;
+    Ok(slots_of(alloc, store, &found)?)
+}
+
+// The members at these places, one after another.
+fn members_at<H: Holdings, F: Ledger, E: Ledger, T: Ledger>(
+    alloc: Global,
+    store: &Store,
+    held: &H,
+    request: &Request,
+    moment: u64,
+    places: &Slots,
+    tops: &mut Steps<F>,
+    entry: &mut Steps<E>,
+    touch: &mut Steps<T>,
+) -> Result<Vec<Member>, OutOfMemory>
+    requires stored { AreStored (stock_of store.now) (H.holding held.now) }
+    requires single { request.now.ports ≡ [] }
+    requires places { All (λ place. place < length (stock_of store.now).slots) places.now }
+    ensures found { IfOk result (λ found. found.items ≡ filter_map (scan.member_at (pool_of moment (stock_of store.now) (H.is_offered held.now) (H.holding held.now)) (ad_frames request.now.ad)) places.now) }
+    ensures evaluations { tops.new ≤ tops.old + sum_by (scan.evaluations_for (pool_of moment (stock_of store.now) (H.is_offered held.now) (H.holding held.now)) (ad_frames request.now.ad)) places.now }
+    ensures entries { entry.new ≤ entry.old + sum_by (scan.attributes_for (pool_of moment (stock_of store.now) (H.is_offered held.now) (H.holding held.now)) (ad_frames request.now.ad)) places.now }
+    ensures looks { touch.new ≤ touch.old + 9 * length places.now }
+{
+    let mut found = Vec::new(alloc);
+    for place in places.as_slice() {
+        let next = member_at(
+            alloc, store, held, request, moment, *place, tops, entry, touch,
+        )?;
+        keep(&mut found, next)?;
+    }
+    Ok(found)
+}
+
+// Adds a member, if there is one.
+fn keep(found: &mut Vec<Member>, next: Option<Member>) -> Result<(), OutOfMemory>
+    ensures { OnOk result (found.new.items ≡ found.old.items ++ cons_option next []) }
+{
+    if let Some(next) = next {
+        found.push(next)?;
+    }
+    Ok(())
+}
+
+// Puts members in order.
+fn arrange(found: &mut Vec<Member>) -> Result<(), OutOfMemory>
+    ensures all { OnOk result (IsPermutation found.old.items found.new.items) }
+    ensures ordered { OnOk result (IsSorted member_order found.new.items) }
+{
+    found.sort_by(|a, b| a.compare(b))?;
+    Ok(())
+}
+
+// The slots of members.
+fn slots_of(alloc: Global, store: &Store, members: &[Member]) -> Result<Slots, OutOfMemory>
+    requires { All (λ m. m.place < length (stock_of store.now).slots) members.now }
+    ensures slots { IfOk result (λ slots. slots ≡ map (λ m. slot_at (stock_of store.now) m.place) members.now) }
+    ensures held { IfOk result (All (Contains (stock_of store.now).slots)) }
+{
+    let mut slots = Slots::new(alloc);
+    for member in members {
+        slots.push(slot_of(store, member))?;
+    }
+    Ok(slots)
+}
+
+// The slot of a member.
+fn slot_of(store: &Store, member: &Member) -> usize
+    requires { member.now.place < length (stock_of store.now).slots }
+    ensures slot { result ≡ slot_at (stock_of store.now) member.now.place }
+    ensures held { Contains (stock_of store.now).slots result }
+{
+    store.at(member.place)
+}

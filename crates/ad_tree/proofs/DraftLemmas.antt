@@ -50,9 +50,13 @@ same-set [] k x old h e d = absurd (omega (arith, h))
 same-set (g ∷ gs) zero x old h e d = ap (λ f. f ∷ frames_of gs) (d ∙ ap frame_of e)
 same-set (g ∷ gs) (suc k) x old h e d = ap (λ hs. frame_of g ∷ hs) (same-set gs k x old (omega (arith, h)) e d)
 
+pub frames_of-same : (fs : List AdFrame) (k : ℕ) (x old : AdFrame) → k < length fs → old ≡ get_or fs k old → frame_of x ≡ frame_of old
+    → frames_of (slice_set fs k x) ≡ frames_of fs
+frames_of-same fs k x old h e d = frames_of-set fs k x ∙ same-set fs k x old h e d
+
 pub inner-same : (root : Frame) (fs : List AdFrame) (k : ℕ) (x old : AdFrame) → k < length fs → old ≡ get_or fs k old → frame_of x ≡ frame_of old
     → root ∷ frames_of (slice_set fs k x) ≡ root ∷ frames_of fs
-inner-same root fs k x old h e d = ap (λ hs. root ∷ hs) (frames_of-set fs k x ∙ same-set fs k x old h e d)
+inner-same root fs k x old h e d = ap (λ hs. root ∷ hs) (frames_of-same fs k x old h e d)
 
 -- the parent of a frame of an ad is read in the frame
 pub parent-read : (fs : List AdFrame) (f : ℕ) (x : AdFrame) → (f ≡ 0 → ⊥) → f < length (frames_of fs) → x ≡ get_or fs f x → parent_of (frames_of fs) f ≡ Some x.parent

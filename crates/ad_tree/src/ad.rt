@@ -30,6 +30,8 @@ impl Ad {
         if frames.len() > u32::MAX as usize {
             return Err(OutOfMemory);
         }
+        let mut frames = frames;
+        fit_all(&mut frames);
         Ok(Ad { frames })
     }
 
@@ -86,5 +88,14 @@ impl Ad {
         ensures { result ≡ position (same_name name.now) (names_in (ad_frames self.now) frame) }
     {
         self.frames[frame as usize].position(name)
+    }
+}
+
+// An ad is kept for long, and no attribute is added to it any more.
+fn fit_all(frames: &mut [AdFrame])
+    ensures { frames_of frames.new ≡ frames_of frames.old }
+{
+    for frame in frames.iter_mut() {
+        frame.fit();
     }
 }

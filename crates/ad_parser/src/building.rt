@@ -80,7 +80,7 @@ pub fn call_node(alloc: Global, name: Text, arguments: Nodes) -> Result<Node, Ou
     ensures { IfOk result (λ node. inline node ≡ shape (labels.call name) (pack (inlines arguments))) }
 {
     match arguments.whole() {
-        Ok(list) => Ok(Node::Whole(Whole::call(alloc, name, list)?)),
+        Ok(list) => Ok(Node::Whole(Whole::call(alloc, name, list.fitted())?)),
         Err(nodes) => open_node(alloc, Open::Call(name, nodes)),
     }
 }
@@ -89,7 +89,7 @@ pub fn list_node(alloc: Global, elements: Nodes) -> Result<Node, OutOfMemory>
     ensures { IfOk result (λ node. inline node ≡ shape labels.list (pack (inlines elements))) }
 {
     match elements.whole() {
-        Ok(list) => Ok(Node::Whole(Whole::list(alloc, list)?)),
+        Ok(list) => Ok(Node::Whole(Whole::list(alloc, list.fitted())?)),
         Err(nodes) => open_node(alloc, Open::List(nodes)),
     }
 }

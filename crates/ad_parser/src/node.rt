@@ -72,7 +72,7 @@ impl Nodes {
     pub fn one(alloc: Global, node: Node) -> Result<Nodes, OutOfMemory>
         ensures { IfOk result (λ nodes. inlines nodes ≡ inline node ∷ []) }
     {
-        let mut nodes = Nodes::new(alloc);
+        let mut nodes = Nodes::wholes(alloc, Wholes::with_capacity(alloc, 2)?);
         nodes.push(node)?;
         Ok(nodes)
     }

@@ -132,6 +132,23 @@ impl Wholes {
         }
     }
 
+    pub fn with_capacity(alloc: Global, count: usize) -> Result<Wholes, OutOfMemory>
+        ensures { IfOk result (λ w. wholes w ≡ []) }
+    {
+        Ok(Wholes {
+            list: Exprs::with_capacity(alloc, count)?,
+        })
+    }
+
+    /// The expressions without room for more.
+    pub fn fitted(self) -> Wholes
+        ensures { wholes result ≡ wholes self }
+    {
+        let Wholes { mut list } = self;
+        list.shrink_to_fit();
+        Wholes { list }
+    }
+
     pub fn push(&mut self, item: Whole) -> Result<(), OutOfMemory>
         ensures { OnOk result (wholes self.new ≡ wholes self.old ++ whole item ∷ []) }
     {

@@ -43,12 +43,12 @@ fn unescaped(alloc: Global, bytes: &[u8]) -> Result<Text, OutOfMemory>
 {
     let quote = byte_at(bytes, 0);
     let mut rest = behind(bytes, 1);
-    let mut text = Text::new(alloc);
+    let mut meant = Vec::with_capacity(alloc, bytes.len())?;
     while byte_at(rest, 0) != quote {
-        text.append(&[meaning(rest)])?;
+        meant.push(meaning(rest))?;
         rest = behind(rest, letter_len(rest));
     }
-    Ok(text)
+    Text::from_bytes(alloc, &meant)
 }
 
 #[tactic(auto, unfolding(ad_lexer::specs::Content::meaning_at))]

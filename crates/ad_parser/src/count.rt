@@ -60,20 +60,6 @@ impl Counts {
     }
 }
 
-/// How many ad literals the tree has, up to `COUNTING_LIMIT`.
-pub fn count_frames(node: &Node) -> u32
-    ensures { result ≡ min counting_limit (trees.count (inline node.now)) }
-{
-    tally(node).frames
-}
-
-/// How many definitions the tree has, those that are replaced included, up to `COUNTING_LIMIT`.
-pub fn count_definitions(node: &Node) -> u32
-    ensures { result ≡ min counting_limit (trees.definitions (inline node.now)) }
-{
-    tally(node).definitions
-}
-
 /// Both counts of a tree.
 #[cycle(tallying)]
 pub fn tally(node: &Node) -> Counts

@@ -121,7 +121,7 @@ impl Whole {
 }
 
 impl Wholes {
-    ghost use Rattle.std.specs.Prelude.{◌++◌, ◌∷◌, OnOk};
+    ghost use Rattle.std.specs.Prelude.{◌++◌, ◌∷◌, IfOk, OnOk};
     ghost use Rattle.ad_parser.specs.Wholes.{whole, wholes};
 
     pub fn new(alloc: Global) -> Wholes

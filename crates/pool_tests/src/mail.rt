@@ -8,12 +8,12 @@ use std::alloc::Global;
 use std::process::Abort;
 use std::test::Fail;
 
-// Every command that tells of a job: each is told to the user `u` and to the resource `m`.
+// Every command. Those that tell of a job tell the user `u` and the resource `m`.
 const SCRIPT: &[u8] =
-    b"advertise m 600\n[ Requirements = true ]\n.\nsubmit j u\n[ Requirements = true ]\n.\nnegotiate\nclaim j\nrelease j\nnegotiate\nremove j\nsubmit k u\n[ Requirements = true ]\n.\nnegotiate\nwithdraw m\nclaim k\n";
+    b"clock 1\neval 1 + 1\npriority u 7\nunlisten x\nadvertise m 600\n[ Requirements = true ]\n.\nshow m\nlist\nevalin m 2\nquery\n[ Requirements = true ]\n.\ngang\n[ Ports = { [ Label = a; Requirements = true ] } ]\n.\nsubmit j u\n[ Requirements = true ]\n.\nnegotiate\nclaim j\nrelease j\nnegotiate\nremove j\nsubmit k u\n[ Requirements = true ]\n.\nnegotiate\nwithdraw m\nclaim k\n";
 
 const REPLIES: &[u8] =
-    b"advertised m\nsubmitted j\nspin 1 free 1\nslice u 1\noffer j u m\nspin 2 free 0\noffers 1\nclaimed j m\nreleased j\nspin 1 free 1\nslice u 1\noffer j u m\nspin 2 free 0\noffers 1\nremoved j\nsubmitted k\nspin 1 free 1\nslice u 1\noffer k u m\nspin 2 free 0\noffers 1\nwithdrawn m\nrefused 11 job is idle\n";
+    b"clock 1 expired 0\n2\npriority u 7\nrefused 8 name not known\nadvertised m\n[ Requirements = true ]\nads 1\nm 1 600 free\n2\nhits 1\nm 0\ngang m\nsubmitted j\nspin 1 free 1\nslice u 1\noffer j u m\nspin 2 free 0\noffers 1\nclaimed j m\nreleased j\nspin 1 free 1\nslice u 1\noffer j u m\nspin 2 free 0\noffers 1\nremoved j\nsubmitted k\nspin 1 free 1\nslice u 1\noffer k u m\nspin 2 free 0\noffers 1\nwithdrawn m\nrefused 11 job is idle\n";
 
 const NOTICES: &[u8] =
     b"matched j m\nclaimed j m\nfreed j m\nmatched j m\nfreed j m\nmatched k m\nfreed k m\n";

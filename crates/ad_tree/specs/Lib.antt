@@ -8,6 +8,7 @@ pub mod Names
 pub mod Phrases
 pub mod Placed
 pub mod Requests
+pub mod Small
 pub mod Special
 pub mod Table
 pub mod Tree

@@ -1,5 +1,7 @@
 -- Whole evaluations, which begin with nothing entered and 24 references.
-use Rattle.std.proofs.Common.{◌≡◌, ◌≤◌, ◌+◌, ℕ, Option, None, Some, unwrap_or, refl, ap, sym, ◌∙◌, arith}
+use Rattle.std.proofs.Common.{◌≡◌, ◌≤◌, ◌+◌, ◌*◌, ℕ, Option, None, Some, unwrap_or, map, take, length, refl, ap, sym, ◌∙◌, subst, arith}
+use Rattle.std.proofs.lemmas.List.{length-map, length-take}
+use Rattle.std.proofs.lemmas.List.Sums.{sum_by-le}
 use Rattle.std.specs.Option.{option_map_or}
 use Rattle.pool_text.specs.declared.language.Pos.{Pos}
 use Rattle.ad_value.specs.Plain.{Plain, error, plain}
@@ -7,12 +9,16 @@ use Rattle.cycle_guard.specs.declared.guard.Guard.{Guard}
 use Rattle.cycle_guard.specs.Sights.{Sight, unseen, pending, done}
 use Rattle.cycle_guard.specs.Shown.{sight_of}
 use Rattle.eval_scope.specs.Shown.{world_of}
-use Rattle.eval_scope.specs.World.{PlainWorld, attribute_count}
+use Rattle.eval_scope.specs.declared.world.World.{World as TheWorld}
+use Rattle.eval_scope.specs.World.{PlainWorld, ads, attribute_count}
+use Rattle.ad_tree.specs.Ad.{ad_frames}
+use Rattle.ad_tree.specs.Small.{attribute_total}
 use Rattle.ad_tree.specs.Tree.{Tree}
 use Rattle.ad_eval.specs.declared.outcome.Outcome.{Outcome}
 use Rattle.ad_eval.specs.declared.scene.Scene.{Scene as TheScene}
 use Rattle.ad_eval.specs.Kept.{Answers, Counts, IsReady, Ready, unseen_count}
 use Rattle.ad_eval.specs.Scene.{values_in, world_in}
+use Rattle.ad_eval.specs.Small.{AreSmall}
 use Rattle.ad_eval.specs.Value.{value_at, value_with}
 use Rattle.ad_eval.proofs.KeptLemmas.{answer_none, answer_some, is_ready}
 use Rattle.ad_eval.proofs.CountLemmas.{unseen-all}
@@ -49,3 +55,13 @@ scene_world s = refl
 
 pub scene_values : (s : TheScene) (e : Tree) (n : ℕ) → values_in s e n ≡ value_with n (world_of s.world.now) s.at e
 scene_values s e n = inside_is s e n ∙ ap (λ w. value_with n w s.at e) (scene_world s)
+
+-- the same of a scene
+pub entered-in : (s : TheScene) (a b : ℕ) (g g1 : Guard) → Counts (world_in s) a b g g1 → b ≤ a + attribute_count (world_of s.world.now)
+entered-in s a b g g1 count = subst (λ (w : PlainWorld). b ≤ a + attribute_count w) (scene_world s) (entered_all (world_in s) a b g g1 count)
+
+-- nine small ads have 9,216 attributes at most
+pub few-attributes : (w : TheWorld) → AreSmall (world_of w) → attribute_count (world_of w) ≤ 9216
+few-attributes w small =
+    let docked = take w.docked w.resources in
+    omega (arith, sum_by-le attribute_total 1024 (ads (world_of w)) small, length-map docked (λ ad. ad_frames ad.now), length-take w.docked w.resources, w.most)

@@ -4,4 +4,5 @@ pub mod Kept
 pub mod Node
 pub mod Reference
 pub mod Scene
+pub mod Small
 pub mod Value

@@ -7,6 +7,7 @@ ghost use Rattle.ad_tree.specs.Tree.{tree};
 ghost use Rattle.eval_scope.specs.Shown.{world_of};
 ghost use Rattle.eval_scope.specs.World.{attribute_count, expr_of, frames_of_ad};
 ghost use Rattle.ad_eval.specs.Dock.{attribute_of, is_docked, meets_requirement, rank_by, rank_number};
+ghost use Rattle.ad_eval.specs.Small.{AreSmall};
 ghost use Rattle.ad_eval.specs.Value.{evaluation, evaluation_at};
 
 use crate::evaluation::{attribute, evaluate};
@@ -40,6 +41,7 @@ pub fn value<F: Ledger, E: Ledger>(
     ensures value { IfOk result (λ v. plain v ≡ evaluation (world_of world.now) at (tree expr.now)) }
     ensures evaluations { tops.new ≡ tops.old + 1 }
     ensures entries { entry.new ≤ entry.old + attribute_count (world_of world.now) }
+    ensures ratio { AreSmall (world_of world.now) → entry.new + 9216 * tops.old ≤ entry.old + 9216 * tops.new }
 {
     tops.tick();
     let scene = Scene {
@@ -67,6 +69,7 @@ pub fn requirement<F: Ledger, E: Ledger>(
     ensures value { IfOk result (λ b. b ≡ meets_requirement (world_of world.now) at) }
     ensures evaluations { tops.new ≤ tops.old + 1 }
     ensures entries { entry.new ≤ entry.old + attribute_count (world_of world.now) }
+    ensures ratio { AreSmall (world_of world.now) → entry.new + 9216 * tops.old ≤ entry.old + 9216 * tops.new }
 {
     let Some(pos) = requirement_in(world, at) else {
         return Ok(false);
@@ -89,6 +92,7 @@ pub fn rank<F: Ledger, E: Ledger>(
     ensures value { IfOk result (λ n. n ≡ rank_by (world_of world.now) at) }
     ensures evaluations { tops.new ≤ tops.old + 1 }
     ensures entries { entry.new ≤ entry.old + attribute_count (world_of world.now) }
+    ensures ratio { AreSmall (world_of world.now) → entry.new + 9216 * tops.old ≤ entry.old + 9216 * tops.new }
 {
     let Some(pos) = world.within(at, b"Rank") else {
         return Ok(0);
@@ -108,6 +112,7 @@ pub fn dock<F: Ledger, E: Ledger>(
     ensures value { IfOk result (λ b. b ≡ is_docked (world_of world.now)) }
     ensures evaluations { tops.new ≤ tops.old + 2 }
     ensures entries { entry.new ≤ entry.old + 2 * attribute_count (world_of world.now) }
+    ensures ratio { AreSmall (world_of world.now) → entry.new + 9216 * tops.old ≤ entry.old + 9216 * tops.new }
 {
     if !requirement(alloc, world, world.request_place(), tops, entry)? {
         return Ok(false);
@@ -127,6 +132,7 @@ fn value_at<F: Ledger, E: Ledger>(
     ensures value { IfOk result (λ v. plain v ≡ evaluation_at (world_of world.now) pos) }
     ensures evaluations { tops.new ≡ tops.old + 1 }
     ensures entries { entry.new ≤ entry.old + attribute_count (world_of world.now) }
+    ensures ratio { AreSmall (world_of world.now) → entry.new + 9216 * tops.old ≤ entry.old + 9216 * tops.new }
 {
     tops.tick();
     let scene = Scene {

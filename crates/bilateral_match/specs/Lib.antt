@@ -8,3 +8,4 @@ pub mod Pool
 pub mod Rows
 pub mod Scan
 pub mod Shortlists
+pub mod Small

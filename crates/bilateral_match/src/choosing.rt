@@ -11,6 +11,8 @@ ghost use Rattle.bilateral_match.specs.Members as members;
 ghost use Rattle.bilateral_match.specs.Pool.{AreStored, pool_of};
 ghost use Rattle.bilateral_match.specs.Rows.{rows_of};
 ghost use Rattle.bilateral_match.specs.Scan as scan;
+ghost use Rattle.ad_tree.specs.Small.{IsSmall};
+ghost use Rattle.bilateral_match.specs.Small.{AreSmallAds, AreSmallHolders};
 
 use crate::candidates::candidates;
 use crate::member::Member;
@@ -57,6 +59,7 @@ pub fn best<H: Holdings, F: Ledger, E: Ledger, T: Ledger>(
         + 5 * open_count (pool_of moment (stock_of store.now) (H.is_offered held.now) (H.holding held.now)) (ad_frames request.now.ad) }
     ensures entries { entry.new ≤ entry.old
         + entered_for (pool_of moment (stock_of store.now) (H.is_offered held.now) (H.holding held.now)) (ad_frames request.now.ad) }
+    ensures ratio { IsSmall (ad_frames request.now.ad) → AreSmallAds (stock_of store.now).ads → AreSmallHolders (H.holding held.now) → entry.new + 9216 * tops.old ≤ entry.old + 9216 * tops.new }
     ensures looks { touch.new ≤ touch.old
         + 9 * least_left (stock_of store.now).ads (tests_of (ad_frames request.now.ad) 0 []) }
 {
@@ -95,6 +98,7 @@ fn first_at<H: Holdings, F: Ledger, E: Ledger, T: Ledger>(
     ensures first { IfOk result (λ first. IsBest (filter_map (scan.member_at (pool_of moment (stock_of store.now) (H.is_offered held.now) (H.holding held.now)) (ad_frames request.now.ad)) places.now) first) }
     ensures evaluations { tops.new ≤ tops.old + sum_by (scan.evaluations_for (pool_of moment (stock_of store.now) (H.is_offered held.now) (H.holding held.now)) (ad_frames request.now.ad)) places.now }
     ensures entries { entry.new ≤ entry.old + sum_by (scan.attributes_for (pool_of moment (stock_of store.now) (H.is_offered held.now) (H.holding held.now)) (ad_frames request.now.ad)) places.now }
+    ensures ratio { IsSmall (ad_frames request.now.ad) → AreSmallAds (stock_of store.now).ads → AreSmallHolders (H.holding held.now) → entry.new + 9216 * tops.old ≤ entry.old + 9216 * tops.new }
     ensures looks { touch.new ≤ touch.old + 9 * length places.now }
 {
     let mut first = None;

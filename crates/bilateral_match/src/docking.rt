@@ -9,6 +9,8 @@ ghost use Rattle.eval_scope.specs.Shown.{world_of};
 ghost use Rattle.eval_scope.specs.World.{attribute_count};
 ghost use Rattle.bilateral_match.specs.Docks.{is_last_decided};
 ghost use Rattle.bilateral_match.specs.Pool as pool;
+ghost use Rattle.ad_tree.specs.Small.{IsSmall};
+ghost use Rattle.bilateral_match.specs.Small.{AreSmallAds};
 
 use ad_eval::dock;
 use ad_store::Store;
@@ -44,6 +46,7 @@ pub fn pair<F: Ledger, E: Ledger, T: Ledger>(
         tops.new ≤ tops.old + (if is_last_decided w then 0 else 2) }
     ensures entries { let w = pool.slots_world moment (stock_of store.now) request.now slots.now in
         entry.new ≤ entry.old + (if is_last_decided w then 0 else 2 * attribute_count w) }
+    ensures ratio { IsSmall (ad_frames request.now.ad) → AreSmallAds (stock_of store.now).ads → entry.new + 9216 * tops.old ≤ entry.old + 9216 * tops.new }
     ensures looks { touch.new ≤ touch.old + length slots.now }
 {
     let last = slots.len() - 1;

@@ -12,6 +12,9 @@ ghost use Rattle.bilateral_match.specs.Docks.{is_undecided, pair_world};
 ghost use Rattle.bilateral_match.specs.Members as members;
 ghost use Rattle.bilateral_match.specs.Pool as pool;
 ghost use Rattle.bilateral_match.specs.Scan as scan;
+ghost use Rattle.ad_tree.specs.Small.{IsSmall};
+ghost use Rattle.bilateral_match.specs.Small.{AreSmallAds, AreSmallHolders};
+ghost use Rattle.ad_eval.specs.Small.{AreSmall};
 
 use crate::docking::{is_decided, slots_world};
 use crate::member::{Member, Ranks};
@@ -42,6 +45,7 @@ pub fn member_at<H: Holdings, F: Ledger, E: Ledger, T: Ledger>(
     ensures member { IfOk result (λ member. member ≡ scan.member_at (pool.pool_of moment (stock_of store.now) (H.is_offered held.now) (H.holding held.now)) (ad_frames request.now.ad) place) }
     ensures evaluations { tops.new ≤ tops.old + scan.evaluations_for (pool.pool_of moment (stock_of store.now) (H.is_offered held.now) (H.holding held.now)) (ad_frames request.now.ad) place }
     ensures entries { entry.new ≤ entry.old + scan.attributes_for (pool.pool_of moment (stock_of store.now) (H.is_offered held.now) (H.holding held.now)) (ad_frames request.now.ad) place }
+    ensures ratio { IsSmall (ad_frames request.now.ad) → AreSmallAds (stock_of store.now).ads → AreSmallHolders (H.holding held.now) → entry.new + 9216 * tops.old ≤ entry.old + 9216 * tops.new }
     ensures looks { touch.new ≤ touch.old + 9 }
 {
     let slot = store.at(place);
@@ -115,6 +119,7 @@ fn ranks<F: Ledger, E: Ledger>(
     ensures evaluations { tops.new ≤ tops.old + (if is_undecided (ad_frames request.now.ad) (ad_frames ad.now) then 4 else 0) }
     ensures entries { entry.new ≤ entry.old + (if is_undecided (ad_frames request.now.ad) (ad_frames ad.now)
         then 4 * attribute_count (pair_world moment (ad_frames request.now.ad) (ad_frames ad.now)) else 0) }
+    ensures ratio { IsSmall (ad_frames request.now.ad) → IsSmall (ad_frames ad.now) → entry.new + 9216 * tops.old ≤ entry.old + 9216 * tops.new }
 {
     if is_decided(alloc, request, 0, ad) {
         return Ok(None);
@@ -148,6 +153,7 @@ pub fn is_won<F: Ledger, E: Ledger, T: Ledger>(
     ensures evaluations { tops.new ≤ tops.old + 1 }
     ensures entries { entry.new ≤ entry.old
         + option_map_or (λ h. attribute_count (pool.holder_world moment (stock_of store.now) h)) (option_map holding_of holder.entry) 0 }
+    ensures ratio { IfSome holder (λ h. IsSmall (ad_frames h.request.now.ad)) → AreSmallAds (stock_of store.now).ads → entry.new + 9216 * tops.old ≤ entry.old + 9216 * tops.new }
     ensures looks { touch.new ≤ touch.old + 8 }
 {
     let Some(holder) = holder else {
@@ -169,6 +175,7 @@ fn is_ranked_lower<F: Ledger, E: Ledger>(
     ensures lower { IfOk result (λ lower. lower ≡ int_lt (rank_by (world_of world.now) (resource_side (world_of world.now))) regard) }
     ensures evaluations { tops.new ≤ tops.old + 1 }
     ensures entries { entry.new ≤ entry.old + attribute_count (world_of world.now) }
+    ensures ratio { AreSmall (world_of world.now) → entry.new + 9216 * tops.old ≤ entry.old + 9216 * tops.new }
 {
     let given = rank(alloc, world, world.resource_place(), tops, entry)?;
     Ok(given < regard)

@@ -8,6 +8,8 @@ ghost use Rattle.literal_index.specs.Shown.{IsIndex};
 ghost use Rattle.bilateral_match.specs.Answers.{answers, hit_of, match_order};
 ghost use Rattle.bilateral_match.specs.Counts.{entered_most, least_left, undecided_count};
 ghost use Rattle.bilateral_match.specs.Rows.{rows_of};
+ghost use Rattle.ad_tree.specs.Small.{IsSmall};
+ghost use Rattle.bilateral_match.specs.Small.{AreSmallAds};
 
 use crate::candidates::candidates;
 use crate::hit::{Hit, Hits, Match};
@@ -43,6 +45,7 @@ pub fn query<F: Ledger, E: Ledger, T: Ledger>(
         ≡ map (hit_of (stock_of store.now).slots) (answers moment (ad_frames request.now.ad) (stock_of store.now).ads)) }
     ensures evaluations { tops.new ≤ tops.old + 3 * undecided_count (ad_frames request.now.ad) (stock_of store.now).ads }
     ensures entries { entry.new ≤ entry.old + entered_most moment (ad_frames request.now.ad) (stock_of store.now).ads }
+    ensures ratio { IsSmall (ad_frames request.now.ad) → AreSmallAds (stock_of store.now).ads → entry.new + 9216 * tops.old ≤ entry.old + 9216 * tops.new }
     ensures looks { touch.new ≤ touch.old
         + least_left (stock_of store.now).ads (tests_of (ad_frames request.now.ad) 0 []) }
 {

@@ -7,6 +7,8 @@ ghost use Rattle.conjunct_plan.specs.Decided.{is_dock_decided};
 ghost use Rattle.bilateral_match.specs.Counts.{attributes_most, evaluations_most};
 ghost use Rattle.bilateral_match.specs.Docks as docks;
 ghost use Rattle.bilateral_match.specs.Scan.{attributes_at, evaluations_at, match_at};
+ghost use Rattle.ad_tree.specs.Small.{IsSmall};
+ghost use Rattle.bilateral_match.specs.Small.{AreSmallAds};
 
 use crate::hit::Match;
 use ad_eval::{dock, rank};
@@ -34,6 +36,7 @@ fn ranked<F: Ledger, E: Ledger>(
     ensures rank { IfOk result (λ rank. rank ≡ docks.ranked moment (ad_frames request.now.ad) (ad_frames ad.now)) }
     ensures evaluations { tops.new ≤ tops.old + evaluations_most (ad_frames request.now.ad) (ad_frames ad.now) }
     ensures entries { entry.new ≤ entry.old + attributes_most moment (ad_frames request.now.ad) (ad_frames ad.now) }
+    ensures ratio { IsSmall (ad_frames request.now.ad) → IsSmall (ad_frames ad.now) → entry.new + 9216 * tops.old ≤ entry.old + 9216 * tops.new }
 {
     if is_decided(alloc, request, ad) {
         return Ok(None);
@@ -70,6 +73,7 @@ fn weigh<F: Ledger, E: Ledger, T: Ledger>(
     ensures found { IfOk result (λ found. found ≡ match_at moment (ad_frames request.now.ad) (stock_of store.now).ads place) }
     ensures evaluations { tops.new ≤ tops.old + evaluations_at (ad_frames request.now.ad) (stock_of store.now).ads place }
     ensures entries { entry.new ≤ entry.old + attributes_at moment (ad_frames request.now.ad) (stock_of store.now).ads place }
+    ensures ratio { IsSmall (ad_frames request.now.ad) → AreSmallAds (stock_of store.now).ads → entry.new + 9216 * tops.old ≤ entry.old + 9216 * tops.new }
     ensures looks { touch.new ≡ touch.old + 1 }
 {
     let ad = store.look(store.at(place), touch);
@@ -96,6 +100,7 @@ pub fn matches_at<F: Ledger, E: Ledger, T: Ledger>(
         ≡ filter_map (match_at moment (ad_frames request.now.ad) (stock_of store.now).ads) places.now) }
     ensures evaluations { tops.new ≤ tops.old + sum_by (evaluations_at (ad_frames request.now.ad) (stock_of store.now).ads) places.now }
     ensures entries { entry.new ≤ entry.old + sum_by (attributes_at moment (ad_frames request.now.ad) (stock_of store.now).ads) places.now }
+    ensures ratio { IsSmall (ad_frames request.now.ad) → AreSmallAds (stock_of store.now).ads → entry.new + 9216 * tops.old ≤ entry.old + 9216 * tops.new }
     ensures looks { touch.new ≤ touch.old + length places.now }
 {
     let mut found = Vec::new(alloc);

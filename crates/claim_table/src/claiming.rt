@@ -13,6 +13,8 @@ ghost use Rattle.claim_table.specs.Claims as claims;
 ghost use Rattle.claim_table.specs.Holders.{holder_of};
 ghost use Rattle.claim_table.specs.Jobs.{claimed_by, offer_of, slots_of, state_of, with_standing};
 ghost use Rattle.claim_table.specs.Table.{jobs_of};
+ghost use Rattle.bilateral_match.specs.Small.{AreSmallAds};
+ghost use Rattle.claim_table.specs.Small.{AreSmallJobs};
 
 use crate::notes::put;
 use crate::{ClaimFault, ClaimTable, FreedList, Job, JobState};
@@ -51,6 +53,7 @@ impl ClaimTable {
         ensures claim { claims.IsClaimed result (jobs_of self.old) (jobs_of self.new) (claims.claimed moment (stock_of store.now) name.now (jobs_of self.old)) }
         ensures evaluations { tops.new ≤ tops.old + 4 * claims.undecided_for moment (stock_of store.now) name.now (jobs_of self.old) }
         ensures entries { entry.new ≤ entry.old + claims.entered_for moment (stock_of store.now) name.now (jobs_of self.old) }
+        ensures ratio { AreSmallAds (stock_of store.now).ads → AreSmallJobs (jobs_of self.old) → entry.new + 9216 * tops.old ≤ entry.old + 9216 * tops.new }
         ensures looks { touch.new ≤ touch.old + 9 * length (claims.offer_named name.now (jobs_of self.old)) }
     {
         let Some(i) = self.find(name) else {

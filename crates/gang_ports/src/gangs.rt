@@ -7,6 +7,8 @@ ghost use Rattle.bilateral_match.specs.Pool.{pool_of, slot_at};
 ghost use Rattle.bilateral_match.specs.Rows.{rows_of};
 ghost use Rattle.gang_ports.specs.Gangs.{attributes_open, docks_open, docks_weighed, gang, looks_most};
 ghost use Rattle.gang_ports.specs.Ports.{ports_of};
+ghost use Rattle.ad_tree.specs.Small.{IsSmall};
+ghost use Rattle.bilateral_match.specs.Small.{AreSmallAds};
 
 use crate::reading::read_sides;
 use crate::searching::search;
@@ -52,6 +54,7 @@ pub fn first_gang<H: Holdings, F: Ledger, E: Ledger, T: Ledger>(
         + 3 * docks_weighed (pool_of moment (stock_of store.now) (H.is_offered held.now) (H.holding held.now)) (ad_frames request.now.ad) request.now.ports }
     ensures entries { entry.new ≤ entry.old
         + attributes_open (pool_of moment (stock_of store.now) (H.is_offered held.now) (H.holding held.now)) (ad_frames request.now.ad) request.now.ports }
+    ensures ratio { IsSmall (ad_frames request.now.ad) → AreSmallAds (stock_of store.now).ads → entry.new + 9216 * tops.old ≤ entry.old + 9216 * tops.new }
     ensures looks { touch.new ≤ touch.old + looks_most (stock_of store.now).ads (ad_frames request.now.ad) request.now.ports }
 {
     let mut sides = read_sides(alloc, store, index, held, request, moment, touch)?;

@@ -17,6 +17,8 @@ ghost use Rattle.negotiator.specs.Queues.{AreQueues};
 ghost use Rattle.negotiator.specs.Scenes.{IsReady, market_in, stock_in, users_at};
 ghost use Rattle.negotiator.specs.Settings.{settings_of};
 ghost use Rattle.pie_slices.specs.Slices.{weight_of};
+ghost use Rattle.bilateral_match.specs.Small.{AreSmallAds};
+ghost use Rattle.claim_table.specs.Small.{AreSmallJobs};
 
 use crate::queues::queues_of;
 use crate::search::is_idle;
@@ -68,6 +70,7 @@ pub fn cycle<F: Ledger, E: Ledger, T: Ledger>(
         (offers_of (cycle_of (market_of moment (stock_of store.now) (settings_of priorities.now) (jobs_of claims.old)))) }
     ensures evaluations { tops.new ≤ tops.old + 5 * over_idle (open_for moment (stock_of store.now)) (jobs_of claims.old) }
     ensures entries { entry.new ≤ entry.old + over_idle (entries_for moment (stock_of store.now)) (jobs_of claims.old) }
+    ensures ratio { AreSmallAds (stock_of store.now).ads → AreSmallJobs (jobs_of claims.old) → entry.new + 9216 * tops.old ≤ entry.old + 9216 * tops.new }
     ensures looks { touch.new ≤ touch.old + 9 * over_idle (left_for (stock_of store.now)) (jobs_of claims.old) }
 {
     let scene = Scene {

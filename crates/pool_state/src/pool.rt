@@ -87,6 +87,7 @@ impl Pool {
         ensures fresh { OnOk result (is_spent self.new ≡ false) }
         ensures memory { OnErr result (is_spent self.new ≡ true) }
         ensures cost { tops.new ≤ tops.old + steps.allowance (state_of self.old) command.now }
+        ensures ratio { entry.new + 9216 * tops.old ≤ entry.old + 9216 * tops.new }
         ensures looks { touch.new ≤ touch.old + steps.looks (state_of self.old) command.now }
         ensures spent { is_spent self.old ≡ true → IsErr result × (self.new ≡ self.old) }
     {

@@ -1,10 +1,9 @@
-use Rattle.std.proofs.Common.{◌≤◌, ◌+◌, unwrap_or, ap, ◌∙◌, subst}
+use Rattle.std.proofs.Common.{unwrap_or, ap, ◌∙◌, arith}
 use Rattle.ad_tree.specs.Tree.{tree}
 use Rattle.ad_value.specs.Plain.{error}
-use Rattle.eval_scope.specs.World.{PlainWorld, attribute_count}
 use Rattle.ad_eval.specs.declared.scene.Scene.{Scene as TheScene}
 use Rattle.ad_eval.specs.Scene.{values_in, world_in}
-use Rattle.ad_eval.proofs.TopLemmas.{entered_all, ready_new, result_of, scene_values, scene_world}
+use Rattle.ad_eval.proofs.TopLemmas.{entered-in, few-attributes, ready_new, result_of, scene_values, scene_world}
 use Rattle.ad_eval.proofs.top.value.Goals as goal
 
 pub evaluate-requires : goal.evaluate-requires
@@ -15,7 +14,12 @@ evaluate-requires g c =
 pub returns-in_err-answer-clause-entries : goal.returns-in_err-answer-clause-entries
 returns-in_err-answer-clause-entries g c =
     let s : TheScene = record { alloc = c.args.alloc; world = c.args.world; at = c.args.at; left = 24 } in
-    subst (λ (w : PlainWorld). c.evaluate.new.entry ≤ c.args.entry.now + attribute_count w) (scene_world s) (entered_all (world_in s) c.args.entry.now c.evaluate.new.entry c.new-guard.result c.evaluate.new.guard c.evaluate.ensures.counted)
+    entered-in s c.args.entry.now c.evaluate.new.entry c.new-guard.result c.evaluate.new.guard c.evaluate.ensures.counted
+
+pub returns-in_err-answer-clause-ratio : goal.returns-in_err-answer-clause-ratio
+returns-in_err-answer-clause-ratio g c small =
+    let s : TheScene = record { alloc = c.args.alloc; world = c.args.world; at = c.args.at; left = 24 } in
+    omega (arith, c.tick.ensures, few-attributes c.args.world.now small, entered-in s c.args.entry.now c.evaluate.new.entry c.new-guard.result c.evaluate.new.guard c.evaluate.ensures.counted)
 
 pub returns-clause-value : goal.returns-clause-value
 returns-clause-value g c =
@@ -28,4 +32,9 @@ returns-clause-value g c =
 pub returns-clause-entries : goal.returns-clause-entries
 returns-clause-entries g c =
     let s : TheScene = record { alloc = c.args.alloc; world = c.args.world; at = c.args.at; left = 24 } in
-    subst (λ (w : PlainWorld). c.evaluate.new.entry ≤ c.args.entry.now + attribute_count w) (scene_world s) (entered_all (world_in s) c.args.entry.now c.evaluate.new.entry c.new-guard.result c.evaluate.new.guard c.evaluate.ensures.counted)
+    entered-in s c.args.entry.now c.evaluate.new.entry c.new-guard.result c.evaluate.new.guard c.evaluate.ensures.counted
+
+pub returns-clause-ratio : goal.returns-clause-ratio
+returns-clause-ratio g c small =
+    let s : TheScene = record { alloc = c.args.alloc; world = c.args.world; at = c.args.at; left = 24 } in
+    omega (arith, c.tick.ensures, few-attributes c.args.world.now small, entered-in s c.args.entry.now c.evaluate.new.entry c.new-guard.result c.evaluate.new.guard c.evaluate.ensures.counted)

@@ -1,10 +1,10 @@
-use Rattle.std.proofs.Common.{◌≤◌, ◌+◌, ℕ, IsSome, unwrap_or, ap, sym, ◌∙◌, subst}
+use Rattle.std.proofs.Common.{ℕ, IsSome, unwrap_or, ap, sym, ◌∙◌, subst, arith}
 use Rattle.ad_value.specs.Plain.{error}
-use Rattle.eval_scope.specs.World.{PlainWorld, attribute_count, expr_of, frame_of_attribute}
+use Rattle.eval_scope.specs.World.{PlainWorld, expr_of, frame_of_attribute}
 use Rattle.ad_eval.specs.declared.scene.Scene.{Scene as TheScene}
 use Rattle.ad_eval.specs.Scene.{world_in}
 use Rattle.ad_eval.specs.Value.{value_at}
-use Rattle.ad_eval.proofs.TopLemmas.{entered_all, ready_new, result_of, scene_world}
+use Rattle.ad_eval.proofs.TopLemmas.{entered-in, few-attributes, ready_new, result_of, scene_world}
 use Rattle.ad_eval.proofs.top.value_at.Goals as goal
 
 pub attribute-requires-clause-there : goal.attribute-requires-clause-there
@@ -20,7 +20,12 @@ attribute-requires-clause-ready g c =
 pub returns-in_err-answer-clause-entries : goal.returns-in_err-answer-clause-entries
 returns-in_err-answer-clause-entries g c =
     let s : TheScene = record { alloc = c.args.alloc; world = c.args.world; at = frame_of_attribute c.args.pos; left = 24 } in
-    subst (λ (w : PlainWorld). c.attribute.new.entry ≤ c.args.entry.now + attribute_count w) (scene_world s) (entered_all (world_in s) c.args.entry.now c.attribute.new.entry c.new-guard.result c.attribute.new.guard c.attribute.ensures.counted)
+    entered-in s c.args.entry.now c.attribute.new.entry c.new-guard.result c.attribute.new.guard c.attribute.ensures.counted
+
+pub returns-in_err-answer-clause-ratio : goal.returns-in_err-answer-clause-ratio
+returns-in_err-answer-clause-ratio g c small =
+    let s : TheScene = record { alloc = c.args.alloc; world = c.args.world; at = frame_of_attribute c.args.pos; left = 24 } in
+    omega (arith, c.tick.ensures, few-attributes c.args.world.now small, entered-in s c.args.entry.now c.attribute.new.entry c.new-guard.result c.attribute.new.guard c.attribute.ensures.counted)
 
 pub returns-clause-value : goal.returns-clause-value
 returns-clause-value g c =
@@ -32,4 +37,9 @@ returns-clause-value g c =
 pub returns-clause-entries : goal.returns-clause-entries
 returns-clause-entries g c =
     let s : TheScene = record { alloc = c.args.alloc; world = c.args.world; at = frame_of_attribute c.args.pos; left = 24 } in
-    subst (λ (w : PlainWorld). c.attribute.new.entry ≤ c.args.entry.now + attribute_count w) (scene_world s) (entered_all (world_in s) c.args.entry.now c.attribute.new.entry c.new-guard.result c.attribute.new.guard c.attribute.ensures.counted)
+    entered-in s c.args.entry.now c.attribute.new.entry c.new-guard.result c.attribute.new.guard c.attribute.ensures.counted
+
+pub returns-clause-ratio : goal.returns-clause-ratio
+returns-clause-ratio g c small =
+    let s : TheScene = record { alloc = c.args.alloc; world = c.args.world; at = frame_of_attribute c.args.pos; left = 24 } in
+    omega (arith, c.tick.ensures, few-attributes c.args.world.now small, entered-in s c.args.entry.now c.attribute.new.entry c.new-guard.result c.attribute.new.guard c.attribute.ensures.counted)

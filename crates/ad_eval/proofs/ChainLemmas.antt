@@ -1,5 +1,5 @@
 -- Chains, conditionals and calls in a scene, part by part.
-use Rattle.std.proofs.Common.{◌≡◌, ◌≢◌, ◌≤◌, ◌+◌, ℕ, zero, suc, Bool, true, false, List, [], ◌∷◌, ◌++◌, length, drop, Option, None, Some, option_map, slice_get, codes, if◌then◌else◌, refl, ap, sym, ◌∙◌, arith}
+use Rattle.std.proofs.Common.{◌≡◌, ◌≢◌, ◌≤◌, ◌+◌, ℕ, suc, Bool, true, false, List, [], ◌∷◌, ◌++◌, length, drop, Option, Some, option_map, slice_get, codes, if◌then◌else◌, refl, ap, sym, ◌∙◌, arith}
 use Rattle.std.specs.Option.{option_and_then}
 use Rattle.std.proofs.lemmas.List.{drop_all}
 use Rattle.ad_value.specs.Plain.{Plain, error}
@@ -7,9 +7,8 @@ use Rattle.ad_value.specs.Logic.{and_is_decided, and_value, or_is_decided, or_va
 use Rattle.ad_value.specs.Demands.{all_demanded, chosen, conjunction, disjunction}
 use Rattle.builtin_funcs.specs.Calls.{is_known}
 use Rattle.ad_tree.specs.Names.{same_name}
-use Rattle.ad_tree.specs.Tree.{Tree, Trees, none, more, pack, three}
+use Rattle.ad_tree.specs.Tree.{Tree, none, more, pack, three}
 use Rattle.ad_tree.proofs.TreeLemmas.{pack-drop}
-use Rattle.eval_scope.specs.World.{PlainWorld}
 use Rattle.ad_eval.specs.declared.scene.Scene.{Scene as TheScene}
 use Rattle.ad_eval.specs.Node.{called, conditional, function_value}
 use Rattle.ad_eval.specs.Scene.{results_in, values_in, world_in}

@@ -1,16 +1,15 @@
 -- How many attributes weren't entered yet, from step to step.
-use Rattle.std.proofs.Common.{◌≡◌, ◌≢◌, ◌≤◌, ◌<◌, ◌+◌, ℕ, zero, suc, Bool, true, false, refl, List, [], ◌∷◌, ◌++◌, length, Option, Some, None, option_map, slice_get, unwrap_or, count_by, sum_by, cond, ap, sym, ◌∙◌, subst, arith, ◌⊎◌, inl, inr, add_assoc, length-append}
+use Rattle.std.proofs.Common.{◌≡◌, ◌≤◌, ◌<◌, ◌+◌, ℕ, zero, suc, Bool, true, false, refl, List, [], ◌∷◌, ◌++◌, length, Some, option_map, slice_get, unwrap_or, count_by, sum_by, cond, ap, sym, ◌∙◌, subst, arith, ◌⊎◌, inl, inr, length-append}
 use Rattle.std.proofs.lemmas.List.Sums.{sum_by-cons}
 use Rattle.pool_text.specs.declared.language.Pos.{Pos}
-use Rattle.ad_value.specs.Plain.{Plain}
 use Rattle.ad_tree.specs.Tree.{Tree}
-use Rattle.ad_tree.specs.Frames.{Frame, attributes_at, attributes_in, expr_at}
+use Rattle.ad_tree.specs.Frames.{Frame, expr_at}
 use Rattle.cycle_guard.specs.declared.guard.Guard.{Guard}
-use Rattle.cycle_guard.specs.Sights.{Sight, unseen, pending, done, same_pos}
+use Rattle.cycle_guard.specs.Sights.{Sight, unseen, same_pos}
 use Rattle.cycle_guard.specs.Shown.{sight_of}
-use Rattle.cycle_guard.proofs.GuardLemmas.{same_pos-cases, same_pos-itself}
+use Rattle.cycle_guard.proofs.GuardLemmas.{same_pos-itself}
 use Rattle.eval_scope.specs.World.{PlainWorld, ads, attribute_count, expr_of}
-use Rattle.ad_eval.specs.Kept.{attributes_of_ads, attributes_of_frames, first_attributes, is_pending, is_unseen, unseen_count}
+use Rattle.ad_eval.specs.Kept.{attributes_of_ads, attributes_of_frames, first_attributes, is_unseen, unseen_count}
 
 -- ---- the list of all attributes
 

@@ -1,5 +1,5 @@
 -- The attribute that is entered: its expression is evaluated in a scene of its own.
-use Rattle.std.proofs.Common.{◌≡◌, ◌≢◌, ◌≤◌, ◌<◌, ◌+◌, ◌-◌, ◌*◌, ℕ, refl, Option, None, Some, IsSome, cond, ap, sym, ◌∙◌, subst, arith}
+use Rattle.std.proofs.Common.{◌≡◌, ◌≤◌, ◌<◌, ◌+◌, ◌-◌, ◌*◌, ℕ, Option, None, Some, IsSome, cond, ap, sym, ◌∙◌, subst, arith}
 use Rattle.pool_text.specs.declared.language.Pos.{Pos}
 use Rattle.ad_value.specs.Plain.{Plain, plain}
 use Rattle.ad_tree.specs.Tree.{Tree}

@@ -1,5 +1,5 @@
 -- How an evaluation goes from part to part: what was reached, and what is left to evaluate.
-use Rattle.std.proofs.Common.{◌≡◌, ◌≤◌, ◌<◌, ◌+◌, ℕ, zero, suc, Bool, true, false, refl, Option, None, Some, IsSome, List, option_map, max, ap, sym, ◌∙◌, subst, arith, ◌⊎◌, inl, inr}
+use Rattle.std.proofs.Common.{◌≡◌, ◌≤◌, ◌<◌, ℕ, zero, suc, true, refl, Option, None, Some, IsSome, List, option_map, max, ap, sym, ◌∙◌, subst, arith, ◌⊎◌, inl, inr}
 use Rattle.std.specs.Option.{is_some, option_and_then}
 use Rattle.pool_text.specs.declared.language.Pos.{Pos}
 use Rattle.cycle_guard.specs.declared.guard.Guard.{Guard}
@@ -9,8 +9,7 @@ use Rattle.eval_scope.specs.World.{PlainWorld}
 use Rattle.ad_value.specs.Plain.{Plain, plain, plains}
 use Rattle.ad_eval.specs.declared.outcome.Outcome.{Outcome}
 use Rattle.ad_eval.specs.declared.outcome.Several.{Several}
-use Rattle.ad_eval.specs.Kept.{Answers, AnswersAll, AreKept, Counts, HasHeight, IsReached, IsReady, Ready, Wait, is_pending}
-use Rattle.ad_eval.specs.Value.{value_at}
+use Rattle.ad_eval.specs.Kept.{Answers, AnswersAll, Counts, HasHeight, IsReached, IsReady, Ready, is_pending}
 
 -- ---- options
 

@@ -1,8 +1,8 @@
 -- That evaluations end: with each reference less are left, and an expression of the world is no larger than the world.
-use Rattle.std.proofs.Common.{◌≡◌, ◌≢◌, ◌≤◌, ◌<◌, ◌+◌, ◌-◌, ◌*◌, ℕ, zero, suc, sub-one, List, [], ◌∷◌, ◌++◌, length, Option, Some, None, option_map, slice_get, unwrap_or, refl, ap, sym, ◌∙◌, arith}
+use Rattle.std.proofs.Common.{◌≡◌, ◌≢◌, ◌≤◌, ◌<◌, ◌+◌, ◌-◌, ◌*◌, ℕ, zero, suc, sub-one, List, [], ◌∷◌, Some, option_map, slice_get, unwrap_or, refl, ap, arith}
 use Rattle.ad_tree.specs.Tree.{Tree, size}
-use Rattle.ad_tree.specs.Frames.{Frame, attributes_at, attributes_in, expr_at}
-use Rattle.eval_scope.specs.World.{PlainWorld, ads, expr_of, frames_of_ad}
+use Rattle.ad_tree.specs.Frames.{Frame, expr_at}
+use Rattle.eval_scope.specs.World.{PlainWorld, ads, expr_of}
 use Rattle.pool_text.specs.declared.language.Pos.{Pos}
 
 -- how large the expressions of attributes, frames and ads are together

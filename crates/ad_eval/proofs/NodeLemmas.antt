@@ -1,11 +1,9 @@
 -- Nodes part by part.
-use Rattle.std.proofs.Common.{◌≡◌, true, false, List, [], ◌∷◌, ◌++◌, Option, Some, None, option_map, if◌then◌else◌, refl, ap, sym, ◌∙◌, append_assoc, append-nil}
+use Rattle.std.proofs.Common.{◌≡◌, true, false, List, [], ◌∷◌, ◌++◌, Option, Some, None, option_map, if◌then◌else◌, refl, ap, sym, append_assoc, append-nil}
 use Rattle.std.specs.Option.{option_and_then}
-use Rattle.ad_value.specs.Plain.{Plain, error, undefined, boolean}
+use Rattle.ad_value.specs.Plain.{Plain}
 use Rattle.ad_value.specs.Logic.{and_is_decided, and_value, or_is_decided, or_value}
-use Rattle.ad_value.specs.Demands.{all_demanded, chosen, conjunction, disjunction}
-use Rattle.ad_tree.specs.Tree.{Tree, Trees, none, more, pack}
-use Rattle.ad_eval.specs.Node.{conditional}
+use Rattle.ad_value.specs.Demands.{all_demanded, conjunction, disjunction}
 
 -- ---- chains
 

@@ -1,12 +1,12 @@
 -- Evaluations part by part, in the words of the contracts.
-use Rattle.std.proofs.Common.{◌≡◌, ◌≤◌, ◌+◌, ℕ, refl, List, Option, None, Some, Result, Ok, Err, IfOk, option_map, max, ap, sym, ◌∙◌, subst, arith}
+use Rattle.std.proofs.Common.{◌≡◌, ℕ, refl, List, Option, None, Some, Result, Ok, Err, IfOk, option_map, max, ap, ◌∙◌, subst}
 use Rattle.std.specs.Option.{option_and_then}
 use Rattle.ad_value.specs.Plain.{Plain, plain, plains}
 use Rattle.cycle_guard.specs.declared.guard.Guard.{Guard}
 use Rattle.eval_scope.specs.World.{PlainWorld}
 use Rattle.ad_eval.specs.declared.outcome.Outcome.{Outcome}
 use Rattle.ad_eval.specs.declared.outcome.Several.{Several}
-use Rattle.ad_eval.specs.Kept.{Answers, AnswersAll, IsReached, IsReady, Ready}
+use Rattle.ad_eval.specs.Kept.{Answers, AnswersAll, Ready}
 use Rattle.ad_eval.proofs.KeptLemmas.{IsPartly, answer_all_none, answer_all_some, answer_none, answer_some, answers_all_none, answers_all_some, answers_none, answers_some, ends, ends_mapped, ends_with, fails, first_ready, goes_on, is_ready, mapped_ready, reached_as, reached_of, ready_is, rewritten, starts}
 
 pub IfOk-map : {A E : Type 0} (r : Result A E) (P Q : A → Type 0) → ((x : A) → P x → Q x) → IfOk r P → IfOk r Q

@@ -1,17 +1,17 @@
 -- References: circles, attributes that are entered, and values that are kept.
-use Rattle.std.proofs.Common.{◌≡◌, ◌≢◌, ◌≤◌, ◌<◌, ◌+◌, ◌-◌, ℕ, zero, suc, Bool, true, false, refl, Option, None, Some, IsSome, cond, ap, sym, ◌∙◌, subst, arith, ◌⊎◌, inl, inr, add-one, sub-one}
+use Rattle.std.proofs.Common.{◌≡◌, ◌≢◌, ◌≤◌, ◌<◌, ◌+◌, ◌-◌, ℕ, zero, suc, true, false, refl, Option, None, Some, IsSome, cond, ap, sym, ◌∙◌, subst, arith, ◌⊎◌, inl, inr, sub-one}
 use Rattle.std.specs.Option.{is_some, option_and_then}
 use Rattle.pool_text.specs.declared.language.Pos.{Pos}
 use Rattle.ad_value.specs.Plain.{Plain}
 use Rattle.ad_tree.specs.Tree.{Tree}
 use Rattle.cycle_guard.specs.declared.guard.Guard.{Guard}
-use Rattle.cycle_guard.specs.Sights.{Sight, unseen, pending, done, same_pos}
+use Rattle.cycle_guard.specs.Sights.{unseen, pending, done, same_pos}
 use Rattle.cycle_guard.specs.Shown.{sight_of}
 use Rattle.cycle_guard.proofs.GuardLemmas.{same_pos-cases, same_pos-itself}
 use Rattle.eval_scope.specs.World.{PlainWorld, expr_of, frame_of_attribute}
 use Rattle.ad_eval.specs.Kept.{HasHeight, IsReady, IsReached, is_pending}
 use Rattle.ad_eval.specs.Value.{value_at, value_by, value_with}
-use Rattle.ad_eval.proofs.KeptLemmas.{Some-or-None, is_pending-pending, starts}
+use Rattle.ad_eval.proofs.KeptLemmas.{Some-or-None, is_pending-pending}
 
 -- ---- what an attribute is
 

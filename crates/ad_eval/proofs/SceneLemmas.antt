@@ -1,5 +1,5 @@
 -- The value of each kind of expression in a scene.
-use Rattle.std.proofs.Common.{◌≡◌, ℕ, List, [], ◌∷◌, Option, None, Some, true, false, option_map, refl, ap}
+use Rattle.std.proofs.Common.{◌≡◌, ℕ, List, [], ◌∷◌, Some, true, false, option_map, refl, ap}
 use Rattle.std.specs.Option.{option_and_then}
 use Rattle.pool_text.specs.declared.language.Lit.{Lit}
 use Rattle.pool_text.specs.declared.language.UnOp.{UnOp}
@@ -7,7 +7,7 @@ use Rattle.pool_text.specs.declared.language.BinOp.{BinOp}
 use Rattle.ad_tree.specs.declared.tree.Scope.{Scope}
 use Rattle.ad_tree.specs.Tree.{Tree, Trees, node, frame, none, more, one, two, literal, name, unary, binary, all, any, choice, select, subscript, call}
 use Rattle.ad_tree.specs.Tree.{list as list_node}
-use Rattle.ad_value.specs.Plain.{Plain, ad_at, boolean, plain_of_lit}
+use Rattle.ad_value.specs.Plain.{ad_at, boolean, plain_of_lit}
 use Rattle.ad_value.specs.Operators.{binary_value, unary_value}
 use Rattle.ad_value.specs.Demands.{all_demanded, conjunction, disjunction, list_value, selected, subscripted}
 use Rattle.eval_scope.specs.Look.{find}

@@ -1,12 +1,12 @@
 -- Whole evaluations, which begin with nothing entered and 24 references.
-use Rattle.std.proofs.Common.{◌≡◌, ◌≤◌, ◌+◌, ◌*◌, ℕ, Option, None, Some, unwrap_or, map, take, length, refl, ap, sym, ◌∙◌, subst, arith}
+use Rattle.std.proofs.Common.{◌≡◌, ◌≤◌, ◌+◌, ℕ, Option, None, Some, unwrap_or, take, refl, ap, sym, ◌∙◌, subst, arith}
 use Rattle.std.proofs.lemmas.List.{length-map, length-take}
 use Rattle.std.proofs.lemmas.List.Sums.{sum_by-le}
 use Rattle.std.specs.Option.{option_map_or}
 use Rattle.pool_text.specs.declared.language.Pos.{Pos}
 use Rattle.ad_value.specs.Plain.{Plain, error, plain}
 use Rattle.cycle_guard.specs.declared.guard.Guard.{Guard}
-use Rattle.cycle_guard.specs.Sights.{Sight, unseen, pending, done}
+use Rattle.cycle_guard.specs.Sights.{unseen, pending, done}
 use Rattle.cycle_guard.specs.Shown.{sight_of}
 use Rattle.eval_scope.specs.Shown.{world_of}
 use Rattle.eval_scope.specs.declared.world.World.{World as TheWorld}
@@ -16,10 +16,10 @@ use Rattle.ad_tree.specs.Small.{attribute_total}
 use Rattle.ad_tree.specs.Tree.{Tree}
 use Rattle.ad_eval.specs.declared.outcome.Outcome.{Outcome}
 use Rattle.ad_eval.specs.declared.scene.Scene.{Scene as TheScene}
-use Rattle.ad_eval.specs.Kept.{Answers, Counts, IsReady, Ready, unseen_count}
+use Rattle.ad_eval.specs.Kept.{Answers, Counts, Ready}
 use Rattle.ad_eval.specs.Scene.{values_in, world_in}
 use Rattle.ad_eval.specs.Small.{AreSmall}
-use Rattle.ad_eval.specs.Value.{value_at, value_with}
+use Rattle.ad_eval.specs.Value.{value_with}
 use Rattle.ad_eval.proofs.KeptLemmas.{answer_none, answer_some, is_ready}
 use Rattle.ad_eval.proofs.CountLemmas.{unseen-all}
 use Rattle.ad_eval.proofs.SceneLemmas.{inside_is}

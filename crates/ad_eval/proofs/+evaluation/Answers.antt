@@ -1,35 +1,30 @@
-use Rattle.std.proofs.Common.{◌≡◌, ◌≤◌, ◌<◌, ◌+◌, ◌-◌, ◌*◌, ℕ, zero, suc, Bool, true, false, List, [], ◌∷◌, ◌++◌, length, drop, Option, None, Some, IfOk, IsSome, option_map, max, rules, arith, add-one, refl, ap, sym, ◌∙◌, subst}
+use Rattle.std.proofs.Common.{◌≡◌, ◌≤◌, ◌+◌, ℕ, true, false, List, [], ◌∷◌, ◌++◌, length, drop, None, Some, IfOk, option_map, max, rules, arith, refl, ap, sym, ◌∙◌, subst}
 use Rattle.std.specs.Option.{option_and_then}
-use Rattle.pool_text.specs.declared.language.AdPlace.{AdPlace}
-use Rattle.pool_text.specs.declared.language.Pos.{Pos}
 use Rattle.ad_tree.specs.declared.tree.Expr.{Expr}
-use Rattle.ad_tree.specs.Tree.{Tree, Trees, pack, size, size_all, tree, trees, node, frame, none, more, one, two, three, literal, name, unary, binary, all, any, choice, select, subscript, call}
-use Rattle.ad_tree.specs.Tree.{list as list_node}
-use Rattle.ad_tree.proofs.TreeLemmas.{size-positive, size-at, pack-drop, tree-And, tree-Binary, tree-Call, tree-Cond, tree-Frame, tree-List, tree-Literal, tree-Name, tree-Or, tree-Select, tree-Subscript, tree-Unary}
-use Rattle.ad_value.specs.Plain.{Plain, ad_at, boolean, error, list, plain, plain_of_lit, plains, plains_of, undefined}
+use Rattle.ad_tree.specs.Tree.{Tree, Trees, pack, size, size_all, tree, trees, node, none, one, two, three, name, unary, binary, choice, select, subscript, call}
+use Rattle.ad_tree.proofs.TreeLemmas.{size-positive, size-at, tree-And, tree-Binary, tree-Call, tree-Cond, tree-Frame, tree-List, tree-Literal, tree-Name, tree-Or, tree-Select, tree-Subscript, tree-Unary}
+use Rattle.ad_value.specs.Plain.{Plain, boolean, plain, plains}
 use Rattle.ad_value.specs.Limits.{bounded}
 use Rattle.ad_value.specs.Logic.{and_value, or_value}
 use Rattle.ad_value.specs.Operators.{binary_value, unary_value}
 use Rattle.ad_value.specs.Demands.{all_demanded, chosen, conjunction, disjunction, list_value, selected, subscripted}
-use Rattle.cycle_guard.specs.Sights.{done, pending, unseen}
-use Rattle.cycle_guard.specs.Shown.{sight_of}
-use Rattle.eval_scope.specs.World.{expr_of, frame_of_attribute}
+use Rattle.cycle_guard.specs.Sights.{done, pending}
+use Rattle.eval_scope.specs.World.{frame_of_attribute}
 use Rattle.ad_eval.specs.declared.outcome.Outcome.{Outcome}
-use Rattle.ad_eval.specs.declared.outcome.Several.{Several}
 use Rattle.ad_eval.specs.declared.reference.Reference.{Reference}
-use Rattle.ad_eval.specs.Kept.{Answers, AnswersAll, Counts, IsReached, Ready}
+use Rattle.ad_eval.specs.Kept.{Answers, Ready}
 use Rattle.ad_eval.specs.Node.{attribute_value, called, conditional, function_value}
 use Rattle.ad_eval.specs.Reference.{IsInWorld, value_of}
 use Rattle.ad_eval.specs.Scene.{binary_in, listed_in, results_in, selected_in, subscripted_in, unary_in, values_in, world_in}
 use Rattle.ad_eval.specs.Value.{value_at, value_with}
-use Rattle.ad_eval.proofs.KeptLemmas.{IsPartly, answer_some, answers_none, answers_some, counts_same, counts_then, is_ready, reached_as, ready_is, rewritten}
+use Rattle.ad_eval.proofs.KeptLemmas.{IsPartly, answers_none, answers_some, counts_same, counts_then, is_ready, reached_as, ready_is, rewritten}
 use Rattle.ad_eval.proofs.CountLemmas.{unseen-after, unseen-fewer, unseen-same}
-use Rattle.ad_eval.proofs.MeasureLemmas.{size-turn, turn, turn-less}
-use Rattle.ad_eval.proofs.NodeLemmas.{all_demanded-end, all_demanded-next, all_demanded-start, conjunction-decided, conjunction-next, disjunction-decided, disjunction-next, values_and}
+use Rattle.ad_eval.proofs.MeasureLemmas.{size-turn, turn-less}
+use Rattle.ad_eval.proofs.NodeLemmas.{all_demanded-start, conjunction-decided, disjunction-decided, values_and}
 use Rattle.ad_eval.proofs.PartLemmas.{IfOk-map, all_part_fails, answers_of, begins, finishes, finishes_all, finishes_list, finishes_mapped, finishes_rest, known_all_as, known_as, mapped_part_fails, mapped_part_ready, part_done, part_fails, part_fails_all, part_ready, rest_fails, rest_ready}
 use Rattle.ad_eval.proofs.ReferenceLemmas.{value_at-none, circle, fails_inside, kept-reached, kept-short, kept_inside, ready_inside, still_pending}
-use Rattle.ad_eval.proofs.SceneLemmas.{in_all, in_any, in_binary, in_call, in_choice, in_frame, in_list, in_literal, in_name, in_select, in_subscript, in_unary, inside_is, results-more, results-none}
-use Rattle.ad_eval.proofs.ValueLemmas.{plain-Ad, plain-Boolean, plain-Error, plain-List, plain-Undefined}
+use Rattle.ad_eval.proofs.SceneLemmas.{in_all, in_any, in_binary, in_call, in_choice, in_frame, in_list, in_literal, in_name, in_select, in_subscript, in_unary}
+use Rattle.ad_eval.proofs.ValueLemmas.{plain-Ad, plain-Boolean, plain-Error, plain-List}
 use Rattle.builtin_funcs.specs.Calls.{is_known}
 use Rattle.ad_eval.proofs.ChainLemmas.{all_demanded-from, called-choice, called-function, called-unknown, conditional-three, conditional-wrong, conjunction-end, conjunction-from, disjunction-end, disjunction-from, pack-three, values-end}
 use Rattle.ad_eval.proofs.EnterLemmas.{answer_there_none, answer_there_some, counts_entered, counts_equal, counts_from, counts_there, finished_as, inner_work, ready_there, world_has, world_there}

@@ -1,20 +1,10 @@
-use Rattle.std.proofs.Common.{◌≡◌, ◌≤◌, ℕ, ℤ, pos, true, false, List, length, Some, IfOk, int_lt, slice_get, w64, ap, sym, ◌∙◌, subst, arith}
+use Rattle.std.proofs.Common.{◌≡◌, ◌≤◌, ℤ, pos, length, IfOk, int_lt, w64, ap, sym, ◌∙◌, subst, arith}
 use Rattle.std.proofs.lemmas.Int.{to_z-of_z}
 use mir.Val.{to_z, of_z}
 use lib.IntN.{nat_abs}
-use Rattle.ad_value.specs.Demands.{element}
-use Rattle.ad_value.specs.Plain.{Plain, plain, plains, plains_of}
+use Rattle.ad_value.specs.Plain.{Plain, plain, plains}
 use Rattle.ad_eval.proofs.ElementLemmas.{element-at, element-negative, element-past, whole}
 use Rattle.ad_eval.proofs.ValueLemmas.{plain-Error}
-use Rattle.ad_eval.proofs.MeasureLemmas.{turn-less}
-use Rattle.ad_eval.proofs.NodeLemmas as nodes
-use Rattle.ad_eval.proofs.CountLemmas.{unseen-same}
-use Rattle.ad_eval.proofs.MoreLemmas as more
-use Rattle.ad_eval.proofs.PartLemmas as parts
-use Rattle.ad_eval.proofs.ChainLemmas as chains
-use Rattle.ad_eval.proofs.EnterLemmas as enters
-use Rattle.ad_eval.proofs.SceneLemmas as scenes
-use Rattle.ad_eval.proofs.ReferenceLemmas.{kept-short}
 use Rattle.ad_eval.proofs.reference.element.Goals as goal
 
 pub returns-then-index-lt0 : goal.returns-then-index-lt0

@@ -3,7 +3,7 @@ use Rattle.ad_tree.specs.Tree.{tree}
 use Rattle.ad_value.specs.Plain.{error}
 use Rattle.ad_eval.specs.declared.scene.Scene.{Scene as TheScene}
 use Rattle.ad_eval.specs.Scene.{values_in, world_in}
-use Rattle.ad_eval.proofs.TopLemmas.{entered-in, few-attributes, ready_new, result_of, scene_values, scene_world}
+use Rattle.ad_eval.proofs.TopLemmas.{entered-in, few-attributes, ready_new, result_of, scene_values}
 use Rattle.ad_eval.proofs.top.value.Goals as goal
 
 pub evaluate-requires : goal.evaluate-requires

@@ -1,4 +1,4 @@
-use Rattle.std.proofs.Common.{ℕ, IsSome, unwrap_or, ap, sym, ◌∙◌, subst, arith}
+use Rattle.std.proofs.Common.{IsSome, unwrap_or, ap, sym, ◌∙◌, subst, arith}
 use Rattle.ad_value.specs.Plain.{error}
 use Rattle.eval_scope.specs.World.{PlainWorld, expr_of, frame_of_attribute}
 use Rattle.ad_eval.specs.declared.scene.Scene.{Scene as TheScene}

@@ -20,6 +20,7 @@ mod QuoteLemmas
 mod Readings
 mod RuleLemmas
 pub mod SettledLemmas
+mod SmallLemmas
 mod SoundLemmas
 pub mod UniqueLemmas
 mod TableLemmas

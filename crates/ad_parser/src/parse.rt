@@ -1,6 +1,8 @@
 // Parsing a text: its tokens, their words, the tree that these spell, and the ad of the tree.
 ghost use Rattle.std.specs.Prelude.{◌≡◌, ◌<◌, ◌+◌, ◌^◌, length, min, Some, Result, IfOk, IfErr};
+ghost use Rattle.ad_tree.specs.Ad.{ad_frames};
 ghost use Rattle.ad_tree.specs.Inline.{Inline, no_defs};
+ghost use Rattle.ad_tree.specs.Small.{IsSmall};
 ghost use Rattle.ad_parser.specs.declared.fault.ParseFault.{ParseFault};
 ghost use Rattle.ad_parser.specs.Answers.{AnswersAd, AnswersExpr};
 ghost use Rattle.ad_parser.specs.Limits.{height_limit};
@@ -32,21 +34,27 @@ const FRAME_LIMIT: u32 = 64;
 const DEFINITION_LIMIT: u32 = 1_024;
 
 /// The ad that a text spells, as `[name = expression; ..]` (ClassAd Language Reference Manual 2.4).
+///
+/// An ad that is read has 1,024 attributes at most, those of its ad literals included.
 pub fn parse_ad(alloc: Global, text: &[u8]) -> Result<Ad, ParseFault>
     requires { length text.now < 2 ^ 32 }
     // The ad of the text's tree, its fault, or want of memory.
     ensures answer { AnswersAd text.now result }
     // The same by the outcome of the text, of which there is exactly one.
     ensures outcome { (outcome : Result Inline ParseFault) → HasAdOutcome text.now outcome → IsAdAnswer outcome result }
+    ensures small { IfOk result (λ ad. IsSmall (ad_frames ad)) }
 {
     ad_in(alloc, text)
 }
 
 /// The expression that a text spells, with the ad of its ad literals.
+///
+/// An expression that is read has 1,024 attributes at most in its ad literals, all together.
 pub fn parse_expr(alloc: Global, text: &[u8]) -> Result<Phrase, ParseFault>
     requires { length text.now < 2 ^ 32 }
     ensures answer { AnswersExpr text.now result }
     ensures outcome { (outcome : Result Inline ParseFault) → HasExprOutcome text.now outcome → IsExprAnswer outcome result }
+    ensures small { IfOk result (λ phrase. IsSmall (ad_frames phrase.ad)) }
 {
     phrase_in(alloc, text)
 }

@@ -153,7 +153,7 @@ pub fn is_won<F: Ledger, E: Ledger, T: Ledger>(
     ensures evaluations { tops.new ≤ tops.old + 1 }
     ensures entries { entry.new ≤ entry.old
         + option_map_or (λ h. attribute_count (pool.holder_world moment (stock_of store.now) h)) (option_map holding_of holder.entry) 0 }
-    ensures ratio { IfSome holder (λ h. IsSmall (ad_frames h.request.now.ad)) → AreSmallAds (stock_of store.now).ads → entry.new + 9216 * tops.old ≤ entry.old + 9216 * tops.new }
+    ensures ratio { IfSome holder.entry (λ h. IsSmall (ad_frames h.request.now.ad)) → AreSmallAds (stock_of store.now).ads → entry.new + 9216 * tops.old ≤ entry.old + 9216 * tops.new }
     ensures looks { touch.new ≤ touch.old + 8 }
 {
     let Some(holder) = holder else {

@@ -1,5 +1,5 @@
 // Whether two ads are the same, found with no memory taken.
-ghost use Rattle.std.specs.Prelude.{◌≡◌, ◌<◌, IsTrue, length};
+ghost use Rattle.std.specs.Prelude.{◌≡◌, ◌↔◌, ◌<◌, IsTrue, length};
 ghost use Rattle.ad_tree.specs.Ad.{ad_frames};
 ghost use Rattle.ad_tree.specs.Frames.{attributes_at};
 ghost use Rattle.ad_tree.specs.Tree.{tree, trees, two};
@@ -11,7 +11,7 @@ use pool_text::{Lit, Text, same_binary, same_unary};
 /// Whether two ads have the same frames, attribute by attribute in their order, each name spelled alike. No memory is taken.
 /// Then they dock with the same resources, and the same one is best for both (`ads_that_are_alike_have_the_same_best`).
 pub fn are_alike(a: &Ad, b: &Ad) -> bool
-    ensures { IsTrue result → AreAlike (ad_frames a.now) (ad_frames b.now) }
+    ensures { IsTrue result ↔ AreAlike (ad_frames a.now) (ad_frames b.now) }
 {
     if a.frames() != b.frames() {
         return false;
@@ -28,7 +28,7 @@ pub fn are_alike(a: &Ad, b: &Ad) -> bool
 fn same_attributes(a: &Ad, b: &Ad, frame: u32) -> bool
     requires first { frame < length (ad_frames a.now) }
     requires second { frame < length (ad_frames b.now) }
-    ensures { IsTrue result → attributes_at (ad_frames a.now) frame ≡ attributes_at (ad_frames b.now) frame }
+    ensures { IsTrue result ↔ (attributes_at (ad_frames a.now) frame ≡ attributes_at (ad_frames b.now) frame) }
 {
     if a.count(frame) != b.count(frame) {
         return false;
@@ -47,7 +47,7 @@ fn same_attributes(a: &Ad, b: &Ad, frame: u32) -> bool
 // Whether two expressions have the same tree.
 #[cycle(alike)]
 fn same_expr(a: &Expr, b: &Expr) -> bool
-    ensures { IsTrue result → tree a.now ≡ tree b.now }
+    ensures { IsTrue result ↔ (tree a.now ≡ tree b.now) }
 {
     match (a, b) {
         (Expr::Literal(x), Expr::Literal(y)) => same_literal(x, y),
@@ -71,7 +71,7 @@ fn same_expr(a: &Expr, b: &Expr) -> bool
 // Whether two expressions have the same trees as two others.
 #[cycle(alike)]
 fn same_two(a: &Expr, b: &Expr, c: &Expr, d: &Expr) -> bool
-    ensures { IsTrue result → two (tree a.now) (tree b.now) ≡ two (tree c.now) (tree d.now) }
+    ensures { IsTrue result ↔ (two (tree a.now) (tree b.now) ≡ two (tree c.now) (tree d.now)) }
 {
     same_expr(a, c) && same_expr(b, d)
 }
@@ -79,7 +79,7 @@ fn same_two(a: &Expr, b: &Expr, c: &Expr, d: &Expr) -> bool
 // Whether two lists of expressions are as long and have the same trees.
 #[cycle(alike)]
 fn same_all(a: &Exprs, b: &Exprs) -> bool
-    ensures { IsTrue result → trees a.now ≡ trees b.now }
+    ensures { IsTrue result ↔ (trees a.now ≡ trees b.now) }
 {
     if a.len() != b.len() {
         return false;
@@ -93,7 +93,7 @@ fn same_all(a: &Exprs, b: &Exprs) -> bool
 }
 
 fn same_literal(a: &Lit, b: &Lit) -> bool
-    ensures { IsTrue result → a.now ≡ b.now }
+    ensures { IsTrue result ↔ (a.now ≡ b.now) }
 {
     match (a, b) {
         (Lit::Undefined, Lit::Undefined) => true,
@@ -106,7 +106,7 @@ fn same_literal(a: &Lit, b: &Lit) -> bool
 }
 
 fn same_text(a: &Text, b: &Text) -> bool
-    ensures { IsTrue result → a.now ≡ b.now }
+    ensures { IsTrue result ↔ (a.now ≡ b.now) }
 {
     a.bytes() == b.bytes()
 }

@@ -12,4 +12,4 @@ loop-k-preserved c =
     same-more here there c.loop-k.k (c.name.result.now, tree c.expr.result.now) (c.name-in-loop-k.result.now, tree c.expr-in-loop-k.result.now) c.loop-k.invariant
     (attribute-at here c.loop-k.k c.name.result.now (tree c.expr.result.now) c.name.ensures c.expr.ensures)
     (attribute-at there c.loop-k.k c.name-in-loop-k.result.now (tree c.expr-in-loop-k.result.now) c.name-in-loop-k.ensures c.expr-in-loop-k.ensures)
-    (same-attribute c.name.result.now c.name-in-loop-k.result.now (tree c.expr.result.now) (tree c.expr-in-loop-k.result.now) (c.if-not-same_text.ensures refl) (c.if-not-same_expr.ensures refl))
+    (same-attribute c.name.result.now c.name-in-loop-k.result.now (tree c.expr.result.now) (tree c.expr-in-loop-k.result.now) (c.if-not-same_text.ensures.0 refl) (c.if-not-same_expr.ensures.0 refl))

@@ -8,4 +8,4 @@ use Rattle.negotiator.proofs.clusters.has_ad.Goals as goal
 
 pub returns : goal.returns
 returns c = λ same.
-    subst (λ (frames : List Frame). AreAlike frames (ad_frames c.args.request.now.ad)) (sym (ad-is (jobs_of c.args.claims.now) c.args.place c.request.result.now c.request.ensures)) (c.are_alike.ensures same)
+    subst (λ (frames : List Frame). AreAlike frames (ad_frames c.args.request.now.ad)) (sym (ad-is (jobs_of c.args.claims.now) c.args.place c.request.result.now c.request.ensures)) (c.are_alike.ensures.0 same)

@@ -16,6 +16,7 @@ pub mod RowLemmas
 mod SameLemmas
 mod ScanLemmas
 mod ShortlistLemmas
+mod SmallLemmas
 mod TestLemmas
 pub mod UndecidedLemmas
 mod WeighLemmas

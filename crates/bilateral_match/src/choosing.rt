@@ -2,6 +2,7 @@
 ghost use Rattle.std.specs.Prelude.{◌≡◌, ◌≤◌, ◌<◌, ◌+◌, ◌*◌, [], false, length, slice_index, sum_by, All, Contains, IfOk, IfSome, option_map};
 ghost use Rattle.std.specs.List.{filter_map};
 ghost use Rattle.ad_tree.specs.Ad.{ad_frames};
+ghost use Rattle.ad_tree.specs.Small.{IsSmall};
 ghost use Rattle.ad_store.specs.Store.{stock_of};
 ghost use Rattle.conjunct_plan.specs.Tests.{tests_of};
 ghost use Rattle.literal_index.specs.Shown.{IsIndex};
@@ -11,7 +12,6 @@ ghost use Rattle.bilateral_match.specs.Members as members;
 ghost use Rattle.bilateral_match.specs.Pool.{AreStored, pool_of};
 ghost use Rattle.bilateral_match.specs.Rows.{rows_of};
 ghost use Rattle.bilateral_match.specs.Scan as scan;
-ghost use Rattle.ad_tree.specs.Small.{IsSmall};
 ghost use Rattle.bilateral_match.specs.Small.{AreSmallAds, AreSmallHolders};
 
 use crate::candidates::candidates;

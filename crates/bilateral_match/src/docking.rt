@@ -1,6 +1,7 @@
 // Docks of a request with resources that are given by their slots.
 ghost use Rattle.std.specs.Prelude.{◌≡◌, ◌≤◌, ◌<◌, ◌+◌, ◌*◌, length, max, All, Contains, IfOk, if◌then◌else◌};
 ghost use Rattle.ad_tree.specs.Ad.{ad_frames};
+ghost use Rattle.ad_tree.specs.Small.{IsSmall};
 ghost use Rattle.ad_store.specs.Store.{stock_of};
 ghost use Rattle.ad_eval.specs.Dock.{is_docked};
 ghost use Rattle.conjunct_plan.specs.Decided.{is_dock_decided};
@@ -9,7 +10,6 @@ ghost use Rattle.eval_scope.specs.Shown.{world_of};
 ghost use Rattle.eval_scope.specs.World.{attribute_count};
 ghost use Rattle.bilateral_match.specs.Docks.{is_last_decided};
 ghost use Rattle.bilateral_match.specs.Pool as pool;
-ghost use Rattle.ad_tree.specs.Small.{IsSmall};
 ghost use Rattle.bilateral_match.specs.Small.{AreSmallAds};
 
 use ad_eval::dock;

@@ -2,19 +2,19 @@
 ghost use Rattle.std.specs.Prelude.{◌≡◌, ◌≤◌, ◌<◌, ◌+◌, ◌*◌, ℕ, [], true, int_lt, nat_lt, length, slice_get, max, option_map, All, Contains, IfOk, IfSome, Some, if◌then◌else◌};
 ghost use Rattle.std.specs.Option.{option_map_or};
 ghost use Rattle.ad_tree.specs.Ad.{ad_frames};
+ghost use Rattle.ad_tree.specs.Small.{IsSmall};
 ghost use Rattle.ad_store.specs.Holdings.{holding_of};
 ghost use Rattle.ad_store.specs.Stock as stock;
 ghost use Rattle.ad_store.specs.Store.{stock_of};
 ghost use Rattle.ad_eval.specs.Dock.{rank_by};
+ghost use Rattle.ad_eval.specs.Small.{AreSmall};
 ghost use Rattle.eval_scope.specs.Shown.{world_of};
 ghost use Rattle.eval_scope.specs.World.{attribute_count, resource_side};
 ghost use Rattle.bilateral_match.specs.Docks.{is_undecided, pair_world};
 ghost use Rattle.bilateral_match.specs.Members as members;
 ghost use Rattle.bilateral_match.specs.Pool as pool;
 ghost use Rattle.bilateral_match.specs.Scan as scan;
-ghost use Rattle.ad_tree.specs.Small.{IsSmall};
 ghost use Rattle.bilateral_match.specs.Small.{AreSmallAds, AreSmallHolders};
-ghost use Rattle.ad_eval.specs.Small.{AreSmall};
 
 use crate::docking::{is_decided, slots_world};
 use crate::member::{Member, Ranks};

@@ -2,12 +2,12 @@
 ghost use Rattle.std.specs.Prelude.{◌≡◌, ◌≤◌, ◌<◌, ◌+◌, ◌*◌, [], length, slice_get, sum_by, All, IfOk, OnOk, ◌++◌};
 ghost use Rattle.std.specs.List.{cons_option, filter_map};
 ghost use Rattle.ad_tree.specs.Ad.{ad_frames};
+ghost use Rattle.ad_tree.specs.Small.{IsSmall};
 ghost use Rattle.ad_store.specs.Store.{stock_of};
 ghost use Rattle.conjunct_plan.specs.Decided.{is_dock_decided};
 ghost use Rattle.bilateral_match.specs.Counts.{attributes_most, evaluations_most};
 ghost use Rattle.bilateral_match.specs.Docks as docks;
 ghost use Rattle.bilateral_match.specs.Scan.{attributes_at, evaluations_at, match_at};
-ghost use Rattle.ad_tree.specs.Small.{IsSmall};
 ghost use Rattle.bilateral_match.specs.Small.{AreSmallAds};
 
 use crate::hit::Match;

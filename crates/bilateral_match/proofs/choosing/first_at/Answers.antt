@@ -21,6 +21,9 @@ returns-in_err-next-clause-entries g c =
     stays (attributes_for (pool_of c.args.moment (stock_of c.args.store.now) (g.H.Holdings.is_offered c.args.held.now) (g.H.Holdings.holding c.args.held.now)) (ad_frames c.args.request.now.ad)) c.as_slice-place-items.result.now c.args.places.now c.as_slice-place-items.ensures
     c.loop-place.place-index c.args.entry.now c.loop-place.entry c.member_at.new.entry c.loop-place.invariant.entries c.loop-place-test.true c.member_at.ensures.entries
 
+pub returns-in_err-next-clause-ratio : goal.returns-in_err-next-clause-ratio
+returns-in_err-next-clause-ratio g c request ads holders = omega (arith, c.loop-place.invariant.ratio request ads holders, c.member_at.ensures.ratio request ads holders)
+
 pub loop-place-preserved : goal.loop-place-preserved
 loop-place-preserved g c =
     let pool = pool_of c.args.moment (stock_of c.args.store.now) (g.H.Holdings.is_offered c.args.held.now) (g.H.Holdings.holding c.args.held.now) in
@@ -32,6 +35,7 @@ loop-place-preserved g c =
           c.loop-place.place-index c.args.tops.now c.loop-place.tops c.member_at.new.tops c.loop-place.invariant.evaluations c.loop-place-test.true c.member_at.ensures.evaluations;
       entries = grows (attributes_for pool request) c.as_slice-place-items.result.now c.args.places.now c.as_slice-place-items.ensures
           c.loop-place.place-index c.args.entry.now c.loop-place.entry c.member_at.new.entry c.loop-place.invariant.entries c.loop-place-test.true c.member_at.ensures.entries;
+      ratio = λ small ads holders. omega (arith, c.loop-place.invariant.ratio small ads holders, c.member_at.ensures.ratio small ads holders);
       looks = omega (arith, c.loop-place.invariant.looks, c.member_at.ensures.looks);
     }
 

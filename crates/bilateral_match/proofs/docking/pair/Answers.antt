@@ -9,6 +9,7 @@ use Rattle.eval_scope.specs.World.{PlainWorld, attribute_count, request_side}
 use Rattle.bilateral_match.specs.Docks.{is_last_decided}
 use Rattle.bilateral_match.specs.Pool.{slots_world}
 use Rattle.bilateral_match.proofs.DockingLemmas.{ad-looked, few-slots, frame-there, most-undecided, none-docked, pair-decided, pair-world, room-for-last}
+use Rattle.bilateral_match.proofs.SmallLemmas.{slots-small}
 use Rattle.bilateral_match.proofs.docking.pair.Goals as goal
 
 pub slots_world-before-requires-clause-few : goal.slots_world-before-requires-clause-few
@@ -83,3 +84,14 @@ returns-clause-entries g c =
     let decided = pair-decided c.args.moment stock request slots some last refl (world_of c.slots_world-before.result) (world_of c.with-world.result) (ad_frames c.look-ad.result.now) c.slots_world-before.ensures.world looked c.with-world.ensures c.request_place.result c.request_place.ensures in
     most-undecided (is_last_decided (slots_world c.args.moment stock request slots)) (2 * attribute_count (slots_world c.args.moment stock request slots)) c.args.entry.now c.dock.new.entry (sym decided ∙ sym c.is_decided.ensures ∙ c.if-is_decided.false)
     (subst (λ (w : PlainWorld). c.dock.new.entry ≤ c.args.entry.now + 2 * attribute_count w) world c.dock.ensures.entries)
+
+pub returns-clause-ratio : goal.returns-clause-ratio
+returns-clause-ratio g c small ads =
+    let stock = stock_of c.args.store.now in
+    let request = c.args.request.now in
+    let slots = c.args.slots.now in
+    let last = length slots - 1 in
+    let some = c.requires.some in
+    let looked = ad-looked stock (get_or slots last 0) (ad_frames c.look-ad.result.now) (c.requires.stored last 0 (omega (arith, some))) c.look-ad.ensures.ad in
+    let world = pair-world c.args.moment stock request slots some last refl (world_of c.slots_world-before.result) (world_of c.with-world.result) (ad_frames c.look-ad.result.now) c.slots_world-before.ensures.world looked c.with-world.ensures in
+    c.dock.ensures.ratio (slots-small c.args.moment stock request slots (world_of c.with-world.result) world small ads)

@@ -1,11 +1,14 @@
-use Rattle.std.proofs.Common.{◌≡◌, ◌+◌, ℤ, All, Bool, Contains, IfOk, int_lt, subst, w64}
+use Rattle.std.proofs.Common.{◌≡◌, ◌+◌, ℤ, All, Bool, Contains, IfOk, int_lt, subst, take, w64}
 use Rattle.std.proofs.lemmas.Int.{to_z-of_z}
 use Rattle.std.proofs.lemmas.List.Elements.{All-take}
+use Rattle.ad_tree.specs.Ad.{ad_frames}
+use Rattle.ad_tree.specs.Small.{IsSmall}
 use Rattle.ad_store.specs.Store.{stock_of}
 use Rattle.ad_eval.specs.Dock.{rank_by}
 use Rattle.eval_scope.specs.Shown.{world_of}
 use Rattle.eval_scope.specs.World.{resource_side}
 use Rattle.bilateral_match.proofs.MemberWeighLemmas.{rank-of-holder, some-of}
+use Rattle.bilateral_match.proofs.SmallLemmas.{slots-small}
 use Rattle.bilateral_match.proofs.members.is_won.Goals as goal
 
 pub slots_world-world-requires-clause-stored : goal.slots_world-world-requires-clause-stored
@@ -20,3 +23,10 @@ returns-clause-won g c =
     subst (λ (won : Bool). IfOk c.is_ranked_lower.result (λ b. b ≡ won))
     (rank-of-holder c.args.moment (stock_of c.args.store.now) c.args.holder c.in-Some.holder w c.args.regard c.in-Some.is c.slots_world-world.ensures.world)
     lower
+
+pub returns-clause-ratio : goal.returns-clause-ratio
+returns-clause-ratio g c small ads =
+    let holder = c.in-Some.holder in
+    c.is_ranked_lower.ensures.ratio
+    (slots-small c.args.moment (stock_of c.args.store.now) holder.request.now (take (holder.port + 1) holder.slots.now) (world_of c.slots_world-world.result) c.slots_world-world.ensures.world
+    (some-of c.args.holder holder (λ h. IsSmall (ad_frames h.request.now.ad)) c.in-Some.is small) ads)

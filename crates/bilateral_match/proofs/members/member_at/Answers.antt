@@ -8,6 +8,7 @@ use Rattle.ad_store.specs.Store.{stock_of}
 use Rattle.eval_scope.specs.World.{attribute_count}
 use Rattle.bilateral_match.specs.Pool.{holder_world, pool_of}
 use Rattle.bilateral_match.proofs.MemberWeighLemmas.{are-ranks, attributes-in-all, attributes-of-dock, five-in-all, four-of-five, holder-stands, holder-stored, holder-there, none-dead, none-lost, none-offered, some-won, won-by}
+use Rattle.bilateral_match.proofs.SmallLemmas.{found-small, holder-small}
 use Rattle.bilateral_match.proofs.members.member_at.Goals as goal
 
 pub returns-then-offered-clause-member : goal.returns-then-offered-clause-member
@@ -36,6 +37,10 @@ returns-in_err-met-clause-entries g c =
     let request = ad_frames c.args.request.now.ad in
     omega (arith, c.ranks.ensures.entries, attributes-of-dock c.args.moment (stock_of c.args.store.now) (g.H.Holdings.is_offered c.args.held.now) (g.H.Holdings.holding c.args.held.now) request c.args.place c.at-slot.result c.at-slot.ensures.place ad (sym c.offered.ensures ∙ c.if-offered.false) (slice_get pool.ads c.args.place) (c.look-ad.ensures.ad c.args.place c.at-slot.ensures.place))
 
+pub returns-in_err-met-clause-ratio : goal.returns-in_err-met-clause-ratio
+returns-in_err-met-clause-ratio g c request ads holders =
+    c.ranks.ensures.ratio request (found-small (stock_of c.args.store.now).ads c.args.place (ad_frames c.look-ad.result.now) ads (c.look-ad.ensures.ad c.args.place c.at-slot.ensures.place))
+
 pub returns-in_default-clause-evaluations : goal.returns-in_default-clause-evaluations
 returns-in_default-clause-evaluations g c =
     let pool = pool_of c.args.moment (stock_of c.args.store.now) (g.H.Holdings.is_offered c.args.held.now) (g.H.Holdings.holding c.args.held.now) in
@@ -49,6 +54,10 @@ returns-in_default-clause-entries g c =
     let ad = ad_frames c.look-ad.result.now in
     let request = ad_frames c.args.request.now.ad in
     omega (arith, c.ranks.ensures.entries, attributes-of-dock c.args.moment (stock_of c.args.store.now) (g.H.Holdings.is_offered c.args.held.now) (g.H.Holdings.holding c.args.held.now) request c.args.place c.at-slot.result c.at-slot.ensures.place ad (sym c.offered.ensures ∙ c.if-offered.false) (slice_get pool.ads c.args.place) (c.look-ad.ensures.ad c.args.place c.at-slot.ensures.place))
+
+pub returns-in_default-clause-ratio : goal.returns-in_default-clause-ratio
+returns-in_default-clause-ratio g c request ads holders =
+    c.ranks.ensures.ratio request (found-small (stock_of c.args.store.now).ads c.args.place (ad_frames c.look-ad.result.now) ads (c.look-ad.ensures.ad c.args.place c.at-slot.ensures.place))
 
 pub returns-in_err-won-clause-evaluations : goal.returns-in_err-won-clause-evaluations
 returns-in_err-won-clause-evaluations g c =
@@ -65,6 +74,10 @@ returns-in_err-won-clause-entries g c =
     let taken = ap (λ h. option_map_or (λ h. attribute_count (holder_world c.args.moment (stock_of c.args.store.now) h)) h 0) (c.holder-holder.ensures.who) in
     omega (arith, taken, c.ranks.ensures.entries, c.is_won.ensures.entries, attributes-in-all c.args.moment (stock_of c.args.store.now) (g.H.Holdings.is_offered c.args.held.now) (g.H.Holdings.holding c.args.held.now) request c.args.place c.at-slot.result c.at-slot.ensures.place ad (sym c.offered.ensures ∙ c.if-offered.false) (slice_get pool.ads c.args.place) c.in-Some.ranks (c.look-ad.ensures.ad c.args.place c.at-slot.ensures.place) (sym c.in-Some.is ∙ c.in_ok-met.ensures.ranks))
 
+pub returns-in_err-won-clause-ratio : goal.returns-in_err-won-clause-ratio
+returns-in_err-won-clause-ratio g c request ads holders =
+    omega (arith, c.ranks.ensures.ratio request (found-small (stock_of c.args.store.now).ads c.args.place (ad_frames c.look-ad.result.now) ads (c.look-ad.ensures.ad c.args.place c.at-slot.ensures.place)), c.is_won.ensures.ratio (holder-small (g.H.Holdings.holding c.args.held.now) c.at-slot.result c.holder-holder.result c.holder-holder.ensures.who holders) ads)
+
 pub returns-then-not-won-clause-evaluations : goal.returns-then-not-won-clause-evaluations
 returns-then-not-won-clause-evaluations g c =
     let pool = pool_of c.args.moment (stock_of c.args.store.now) (g.H.Holdings.is_offered c.args.held.now) (g.H.Holdings.holding c.args.held.now) in
@@ -80,6 +93,10 @@ returns-then-not-won-clause-entries g c =
     let taken = ap (λ h. option_map_or (λ h. attribute_count (holder_world c.args.moment (stock_of c.args.store.now) h)) h 0) (c.holder-holder.ensures.who) in
     omega (arith, taken, c.ranks.ensures.entries, c.is_won.ensures.entries, attributes-in-all c.args.moment (stock_of c.args.store.now) (g.H.Holdings.is_offered c.args.held.now) (g.H.Holdings.holding c.args.held.now) request c.args.place c.at-slot.result c.at-slot.ensures.place ad (sym c.offered.ensures ∙ c.if-offered.false) (slice_get pool.ads c.args.place) c.in-Some.ranks (c.look-ad.ensures.ad c.args.place c.at-slot.ensures.place) (sym c.in-Some.is ∙ c.in_ok-met.ensures.ranks))
 
+pub returns-then-not-won-clause-ratio : goal.returns-then-not-won-clause-ratio
+returns-then-not-won-clause-ratio g c request ads holders =
+    omega (arith, c.ranks.ensures.ratio request (found-small (stock_of c.args.store.now).ads c.args.place (ad_frames c.look-ad.result.now) ads (c.look-ad.ensures.ad c.args.place c.at-slot.ensures.place)), c.is_won.ensures.ratio (holder-small (g.H.Holdings.holding c.args.held.now) c.at-slot.result c.holder-holder.result c.holder-holder.ensures.who holders) ads)
+
 pub returns-clause-evaluations : goal.returns-clause-evaluations
 returns-clause-evaluations g c =
     let pool = pool_of c.args.moment (stock_of c.args.store.now) (g.H.Holdings.is_offered c.args.held.now) (g.H.Holdings.holding c.args.held.now) in
@@ -94,6 +111,10 @@ returns-clause-entries g c =
     let request = ad_frames c.args.request.now.ad in
     let taken = ap (λ h. option_map_or (λ h. attribute_count (holder_world c.args.moment (stock_of c.args.store.now) h)) h 0) (c.holder-holder.ensures.who) in
     omega (arith, taken, c.ranks.ensures.entries, c.is_won.ensures.entries, attributes-in-all c.args.moment (stock_of c.args.store.now) (g.H.Holdings.is_offered c.args.held.now) (g.H.Holdings.holding c.args.held.now) request c.args.place c.at-slot.result c.at-slot.ensures.place ad (sym c.offered.ensures ∙ c.if-offered.false) (slice_get pool.ads c.args.place) c.in-Some.ranks (c.look-ad.ensures.ad c.args.place c.at-slot.ensures.place) (sym c.in-Some.is ∙ c.in_ok-met.ensures.ranks))
+
+pub returns-clause-ratio : goal.returns-clause-ratio
+returns-clause-ratio g c request ads holders =
+    omega (arith, c.ranks.ensures.ratio request (found-small (stock_of c.args.store.now).ads c.args.place (ad_frames c.look-ad.result.now) ads (c.look-ad.ensures.ad c.args.place c.at-slot.ensures.place)), c.is_won.ensures.ratio (holder-small (g.H.Holdings.holding c.args.held.now) c.at-slot.result c.holder-holder.result c.holder-holder.ensures.who holders) ads)
 
 pub returns-then-not-won-clause-member : goal.returns-then-not-won-clause-member
 returns-then-not-won-clause-member g c =

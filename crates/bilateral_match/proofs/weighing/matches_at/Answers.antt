@@ -19,6 +19,9 @@ returns-in_err-weighed-clause-entries g c =
     stays (attributes_at c.args.moment (ad_frames c.args.request.now.ad) (stock_of c.args.store.now).ads) c.as_slice-place-items.result.now c.args.places.now c.as_slice-place-items.ensures
     c.loop-place.place-index c.args.entry.now c.loop-place.entry c.weigh.new.entry c.loop-place.invariant.entries c.loop-place-test.true c.weigh.ensures.entries
 
+pub returns-in_err-weighed-clause-ratio : goal.returns-in_err-weighed-clause-ratio
+returns-in_err-weighed-clause-ratio g c request ads = omega (arith, c.loop-place.invariant.ratio request ads, c.weigh.ensures.ratio request ads)
+
 pub returns-in_err-keep-clause-evaluations : goal.returns-in_err-keep-clause-evaluations
 returns-in_err-keep-clause-evaluations g c =
     stays (evaluations_at (ad_frames c.args.request.now.ad) (stock_of c.args.store.now).ads) c.as_slice-place-items.result.now c.args.places.now c.as_slice-place-items.ensures
@@ -29,6 +32,9 @@ returns-in_err-keep-clause-entries g c =
     stays (attributes_at c.args.moment (ad_frames c.args.request.now.ad) (stock_of c.args.store.now).ads) c.as_slice-place-items.result.now c.args.places.now c.as_slice-place-items.ensures
     c.loop-place.place-index c.args.entry.now c.loop-place.entry c.weigh.new.entry c.loop-place.invariant.entries c.loop-place-test.true c.weigh.ensures.entries
 
+pub returns-in_err-keep-clause-ratio : goal.returns-in_err-keep-clause-ratio
+returns-in_err-keep-clause-ratio g c request ads = omega (arith, c.loop-place.invariant.ratio request ads, c.weigh.ensures.ratio request ads)
+
 pub loop-place-preserved : goal.loop-place-preserved
 loop-place-preserved g c = record {
   found = finds-next (match_at c.args.moment (ad_frames c.args.request.now.ad) (stock_of c.args.store.now).ads) c.as_slice-place-items.result.now c.loop-place.place-index
@@ -37,6 +43,7 @@ loop-place-preserved g c = record {
       c.loop-place.place-index c.args.tops.now c.loop-place.tops c.weigh.new.tops c.loop-place.invariant.evaluations c.loop-place-test.true c.weigh.ensures.evaluations;
   entries = grows (attributes_at c.args.moment (ad_frames c.args.request.now.ad) (stock_of c.args.store.now).ads) c.as_slice-place-items.result.now c.args.places.now c.as_slice-place-items.ensures
       c.loop-place.place-index c.args.entry.now c.loop-place.entry c.weigh.new.entry c.loop-place.invariant.entries c.loop-place-test.true c.weigh.ensures.entries;
+  ratio = λ request ads. omega (arith, c.loop-place.invariant.ratio request ads, c.weigh.ensures.ratio request ads);
   looks = omega (arith, c.loop-place.invariant.looks, c.weigh.ensures.looks);
 }
 

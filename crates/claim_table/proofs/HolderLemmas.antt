@@ -1,10 +1,14 @@
 -- Who holds a slot: it stands at its port, and there are as many slots as the request wants.
-use Rattle.std.proofs.Common.{◌≡◌, ◌≢◌, ℕ, zero, suc, ◌+◌, All, Bool, true, false, not, ◌||◌, cond, eqb, List, [], ◌∷◌, length, slice_get, Option, Some, refl, sym, ◌∙◌, ap, subst, arith}
+use Rattle.std.proofs.Common.{◌≡◌, ◌≢◌, ℕ, zero, suc, ◌+◌, All, Bool, true, false, not, ◌||◌, cond, eqb, List, [], ◌∷◌, length, slice_get, Option, None, Some, refl, sym, ◌∙◌, ap, subst, arith}
+use Rattle.std.specs.Prelude.{option_map}
 use Rattle.std.specs.List.{position_or_len}
+use Rattle.std.specs.Option.{option_and_then}
 use Rattle.std.proofs.lemmas.Bool.Decides.{nat_tests}
 use Rattle.std.proofs.lemmas.List.Elements.{All-head, All-tail}
+use Rattle.ad_store.specs.Holdings.{Holding}
 use Rattle.claim_table.specs.declared.job.Job.{Job}
 use Rattle.claim_table.specs.declared.job.Standing.{Standing}
+use Rattle.claim_table.specs.Holders.{holder_of, holding_in}
 use Rattle.claim_table.specs.Jobs.{IsFilled, claim_of, claimed_by, lists, slots_of, wanted}
 use Rattle.claim_table.specs.Kept.{AreNoted, note_at}
 use Rattle.claim_table.proofs.NoteLemmas.{noted-passes, noted-position}
@@ -27,6 +31,18 @@ pub All-found : (P : Job → Type 0) (jobs : List Job) (i : ℕ) (job : Job) →
 All-found P [] i job all at = absurd (cc)
 All-found P (first ∷ jobs) zero job all at = let here : first ≡ job = cc in subst P here (All-head P first jobs all)
 All-found P (first ∷ jobs) (suc i) job all at = All-found P jobs i job (All-tail P first jobs all) at
+
+-- what holds of all that jobs hold holds of what the holder of a slot does
+pub holder-found : (P : Holding → Type 0) (jobs : List Job) (slot : ℕ) (h : Holding) → All (λ job. P (holding_in slot job)) jobs → holder_of jobs slot ≡ Some h → P h
+holder-found P jobs slot h all holds = by_number (claimed_by slot jobs) holds
+  where
+    by_job : (i : ℕ) (o : Option Job) → slice_get jobs i ≡ o → option_map (holding_in slot) o ≡ Some h → P h
+    by_job i None at is = absurd (cc)
+    by_job i (Some job) at is = let same : holding_in slot job ≡ h = cc in subst P same (All-found (λ j. P (holding_in slot j)) jobs i job all at)
+
+    by_number : (o : Option ℕ) → option_map (holding_in slot) (option_and_then (λ i. slice_get jobs i) o) ≡ Some h → P h
+    by_number None is = absurd (cc)
+    by_number (Some i) is = by_job i (slice_get jobs i) refl is
 
 enough_at : (standing : Standing) (n slot : ℕ) → (standing ≢ Standing.Idle → length (slots_of standing) ≡ n) → lists (claim_of standing) slot ≡ true → length (claim_of standing) ≡ n
 enough_at Standing.Idle n slot enough listed = absurd (cc)

@@ -7,4 +7,5 @@ pub mod LoserLemmas
 pub mod NameLemmas
 pub mod NoteLemmas
 pub mod PassingLemmas
+pub mod SmallLemmas
 pub mod StoredLemmas

@@ -2,7 +2,7 @@
 use Rattle.std.proofs.Common.{◌≡◌, ◌<◌, ◌+◌, ◌*◌, ℕ, ℤ, All, Contains, Bool, true, false, not, ◌&&◌, if◌then◌else◌, int_lt, List, length, slice_get, Option, None, Some, IfOk, is_some, refl, sym, ◌∙◌, ap, subst, arith}
 use Rattle.std.specs.Prelude.{Result, option_map}
 use Rattle.std.specs.Option.{option_and_then, option_map_or}
-use Rattle.std.proofs.lemmas.List.Elements.{All-nil}
+use Rattle.std.proofs.lemmas.List.Elements.{All-nil, All-weaker}
 use Rattle.pool_text.specs.declared.language.AdPlace.{AdPlace}
 use Rattle.pool_text.specs.declared.memory.OutOfMemory.{OutOfMemory}
 use Rattle.ad_tree.specs.Ad.{ad_frames}
@@ -24,7 +24,7 @@ use Rattle.claim_table.specs.declared.job.Standing.{Standing}
 use Rattle.claim_table.specs.Claims.{entered_in, is_won, passes}
 use Rattle.claim_table.specs.Holders.{holder_of, holding_in}
 use Rattle.claim_table.specs.Jobs.{claim_of, claimed_by, slots_of}
-use Rattle.claim_table.proofs.HolderLemmas.{All-found}
+use Rattle.claim_table.proofs.HolderLemmas.{holder-found}
 
 -- ---- the test of literal attributes
 
@@ -51,15 +51,6 @@ claim-listed P (Standing.Claimed slots) all = all
 
 -- what jobs hold is in the store where all that they list is
 pub holders-stored : (stock : Stock) (jobs : List Job) → All (λ job. All (Contains stock.slots) (slots_of job.standing)) jobs → AreStored stock (holder_of jobs)
-holders-stored stock jobs all slot h holds = by_number (claimed_by slot jobs) holds
-  where
-    by_job : (i : ℕ) (o : Option Job) → slice_get jobs i ≡ o → option_map (holding_in slot) o ≡ Some h → All (Contains stock.slots) h.slots
-    by_job i None at is = absurd (cc)
-    by_job i (Some job) at is =
-        let same : holding_in slot job ≡ h = cc in
-        subst (λ (x : Holding). All (Contains stock.slots) x.slots) same
-        (claim-listed (Contains stock.slots) job.standing (All-found (λ j. All (Contains stock.slots) (slots_of j.standing)) jobs i job all at))
-
-    by_number : (o : Option ℕ) → option_map (holding_in slot) (option_and_then (λ i. slice_get jobs i) o) ≡ Some h → All (Contains stock.slots) h.slots
-    by_number None is = absurd (cc)
-    by_number (Some i) is = by_job i (slice_get jobs i) refl is
+holders-stored stock jobs all slot h =
+    holder-found (λ x. All (Contains stock.slots) x.slots) jobs slot h
+    (All-weaker (λ job. All (Contains stock.slots) (slots_of job.standing)) (λ job. All (Contains stock.slots) (claim_of job.standing)) (λ job. claim-listed (Contains stock.slots) job.standing) jobs all)

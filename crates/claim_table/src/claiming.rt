@@ -2,19 +2,21 @@
 ghost use Rattle.std.specs.Prelude.{◌≡◌, ◌≤◌, ◌<◌, ◌+◌, ◌*◌, All, Contains, IfOk, OnErr, OnOk, None, Some, length, option_map, slice_get, if◌then◌else◌};
 ghost use Rattle.std.specs.Option.{option_map_or};
 ghost use Rattle.ad_tree.specs.Ad.{ad_frames};
+ghost use Rattle.ad_tree.specs.Small.{IsSmall};
 ghost use Rattle.ad_store.specs.Store.{stock_of};
 ghost use Rattle.eval_scope.specs.Shown.{world_of};
 ghost use Rattle.eval_scope.specs.World.{attribute_count};
+ghost use Rattle.ad_eval.specs.Small.{AreSmall};
 ghost use Rattle.bilateral_match.specs.Docks.{is_last_decided, last_ad};
 ghost use Rattle.bilateral_match.specs.Pool.{holder_world};
+ghost use Rattle.bilateral_match.specs.Small.{AreSmallAds};
 ghost use Rattle.claim_table.specs.declared.answers.JobState.{JobState};
 ghost use Rattle.claim_table.specs.declared.job.Standing.{Standing};
 ghost use Rattle.claim_table.specs.Claims as claims;
 ghost use Rattle.claim_table.specs.Holders.{holder_of};
 ghost use Rattle.claim_table.specs.Jobs.{claimed_by, offer_of, slots_of, state_of, with_standing};
-ghost use Rattle.claim_table.specs.Table.{jobs_of};
-ghost use Rattle.bilateral_match.specs.Small.{AreSmallAds};
 ghost use Rattle.claim_table.specs.Small.{AreSmallJobs};
+ghost use Rattle.claim_table.specs.Table.{jobs_of};
 
 use crate::notes::put;
 use crate::{ClaimFault, ClaimTable, FreedList, Job, JobState};
@@ -93,6 +95,7 @@ impl ClaimTable {
         ensures failing { IfOk result (λ slot. slot ≡ claims.first_failing moment (stock_of store.now) (jobs_of self.now) job.now.request (offer_of job.now.standing)) }
         ensures evaluations { tops.new ≤ tops.old + 4 * claims.sum_over (λ slot world. if is_last_decided world then 0 else 1) moment (stock_of store.now) job.now }
         ensures entries { entry.new ≤ entry.old + claims.sum_over (claims.entered_in moment (stock_of store.now) (jobs_of self.now)) moment (stock_of store.now) job.now }
+        ensures ratio { IsSmall (ad_frames job.now.request.ad) → AreSmallAds (stock_of store.now).ads → AreSmallJobs (jobs_of self.now) → entry.new + 9216 * tops.old ≤ entry.old + 9216 * tops.new }
         ensures looks { touch.new ≤ touch.old + 9 * length (offer_of job.now.standing) }
     {
         let request = &job.request;
@@ -131,6 +134,7 @@ impl ClaimTable {
         ensures passes { IfOk result (λ b. b ≡ claims.passes moment (stock_of store.now) (jobs_of self.now) slot (world_of world.now)) }
         ensures evaluations { tops.new ≤ tops.old + 4 * (if is_last_decided (world_of world.now) then 0 else 1) }
         ensures entries { entry.new ≤ entry.old + claims.entered_in moment (stock_of store.now) (jobs_of self.now) slot (world_of world.now) }
+        ensures ratio { AreSmall (world_of world.now) → AreSmallAds (stock_of store.now).ads → AreSmallJobs (jobs_of self.now) → entry.new + 9216 * tops.old ≤ entry.old + 9216 * tops.new }
         ensures looks { touch.new ≤ touch.old + 8 }
     {
         if is_decided(self.alloc, request, world.request_place().frame, ad) {
@@ -158,6 +162,7 @@ impl ClaimTable {
         ensures evaluations { tops.new ≤ tops.old + 2 }
         ensures entries { entry.new ≤ entry.old + attribute_count (world_of world.now)
             + option_map_or (λ holding. attribute_count (holder_world moment (stock_of store.now) holding)) (holder_of (jobs_of self.now) slot) 0 }
+        ensures ratio { AreSmall (world_of world.now) → AreSmallAds (stock_of store.now).ads → AreSmallJobs (jobs_of self.now) → entry.new + 9216 * tops.old ≤ entry.old + 9216 * tops.new }
         ensures looks { touch.new ≤ touch.old + 8 }
     {
         let holder = self.holder(slot);

@@ -1,6 +1,8 @@
 use Rattle.std.proofs.Common.{◌≡◌, ◌≤◌, ◌+◌, ◌*◌, ◌∙◌, ◌<◌, ℕ, All, Contains, Some, None, ap, arith, length, refl, rules, slice_get, subst, sym}
 use Rattle.std.specs.Prelude.{Err, Ok, option_map}
 use Rattle.std.proofs.lemmas.Option.{slice_get_read}
+use Rattle.ad_tree.specs.Ad.{ad_frames}
+use Rattle.ad_tree.specs.Small.{IsSmall}
 use Rattle.ad_store.specs.Store.{stock_of}
 use Rattle.claim_table.specs.declared.answers.ClaimFault.{ClaimFault}
 use Rattle.claim_table.specs.declared.answers.JobState.{JobState}
@@ -46,6 +48,15 @@ returns-in_default-first_failing-clause-entries g c =
     let named = entered-named c.args.moment (stock_of c.args.store.now) c.args.name.now jobs i job (sym c.in-Some.ensures.number) at in
     omega (arith, named, c.first_failing.ensures.entries)
 
+pub returns-in_default-first_failing-clause-ratio : goal.returns-in_default-first_failing-clause-ratio
+returns-in_default-first_failing-clause-ratio g c ads requests =
+    let jobs = jobs_of c.args.self.now in
+    let i = c.in-Some.i in
+    let job = c.index-job.result.now in
+    let at : slice_get jobs i ≡ Some job = slice_get_read jobs (length jobs) i job refl c.in-Some.ensures.within c.index-job.ensures in
+    let small = All-found (λ j. IsSmall (ad_frames j.request.ad)) jobs i job requests at in
+    omega (arith, c.first_failing.ensures.ratio small ads requests)
+
 pub returns-in_default-first_failing-clause-looks : goal.returns-in_default-first_failing-clause-looks
 returns-in_default-first_failing-clause-looks g c =
     let jobs = jobs_of c.args.self.now in
@@ -84,6 +95,15 @@ returns-in-Some-failing-clause-entries g c =
     let named = entered-named c.args.moment (stock_of c.args.store.now) c.args.name.now jobs i job (sym c.in-Some.ensures.number) at in
     omega (arith, named, c.first_failing.ensures.entries)
 
+pub returns-in-Some-failing-clause-ratio : goal.returns-in-Some-failing-clause-ratio
+returns-in-Some-failing-clause-ratio g c ads requests =
+    let jobs = jobs_of c.args.self.now in
+    let i = c.in-Some.i in
+    let job = c.index-job.result.now in
+    let at : slice_get jobs i ≡ Some job = slice_get_read jobs (length jobs) i job refl c.in-Some.ensures.within c.index-job.ensures in
+    let small = All-found (λ j. IsSmall (ad_frames j.request.ad)) jobs i job requests at in
+    omega (arith, c.first_failing.ensures.ratio small ads requests)
+
 pub returns-in-Some-failing-clause-looks : goal.returns-in-Some-failing-clause-looks
 returns-in-Some-failing-clause-looks g c =
     let jobs = jobs_of c.args.self.now in
@@ -119,6 +139,15 @@ returns-in_default-grant-clause-entries g c =
     let at : slice_get jobs i ≡ Some job = slice_get_read jobs (length jobs) i job refl c.in-Some.ensures.within c.index-job.ensures in
     let named = entered-named c.args.moment (stock_of c.args.store.now) c.args.name.now jobs i job (sym c.in-Some.ensures.number) at in
     omega (arith, named, c.first_failing.ensures.entries)
+
+pub returns-in_default-grant-clause-ratio : goal.returns-in_default-grant-clause-ratio
+returns-in_default-grant-clause-ratio g c ads requests =
+    let jobs = jobs_of c.args.self.now in
+    let i = c.in-Some.i in
+    let job = c.index-job.result.now in
+    let at : slice_get jobs i ≡ Some job = slice_get_read jobs (length jobs) i job refl c.in-Some.ensures.within c.index-job.ensures in
+    let small = All-found (λ j. IsSmall (ad_frames j.request.ad)) jobs i job requests at in
+    omega (arith, c.first_failing.ensures.ratio small ads requests)
 
 pub returns-in_default-grant-clause-looks : goal.returns-in_default-grant-clause-looks
 returns-in_default-grant-clause-looks g c =
@@ -156,6 +185,15 @@ returns-clause-entries g c =
     let at : slice_get jobs i ≡ Some job = slice_get_read jobs (length jobs) i job refl c.in-Some.ensures.within c.index-job.ensures in
     let named = entered-named c.args.moment (stock_of c.args.store.now) c.args.name.now jobs i job (sym c.in-Some.ensures.number) at in
     omega (arith, named, c.first_failing.ensures.entries)
+
+pub returns-clause-ratio : goal.returns-clause-ratio
+returns-clause-ratio g c ads requests =
+    let jobs = jobs_of c.args.self.now in
+    let i = c.in-Some.i in
+    let job = c.index-job.result.now in
+    let at : slice_get jobs i ≡ Some job = slice_get_read jobs (length jobs) i job refl c.in-Some.ensures.within c.index-job.ensures in
+    let small = All-found (λ j. IsSmall (ad_frames j.request.ad)) jobs i job requests at in
+    omega (arith, c.first_failing.ensures.ratio small ads requests)
 
 pub returns-clause-looks : goal.returns-clause-looks
 returns-clause-looks g c =

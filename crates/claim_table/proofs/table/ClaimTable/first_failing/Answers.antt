@@ -1,14 +1,16 @@
-use Rattle.std.proofs.Common.{◌≡◌, ◌≤◌, ℕ, ◌+◌, ◌*◌, ◌∙◌, All, Contains, Some, None, ap, arith, false, get_or, if◌then◌else◌, length, refl, subst, sym, true}
+use Rattle.std.proofs.Common.{◌≡◌, ◌≤◌, ℕ, ◌+◌, ◌*◌, ◌∙◌, All, Contains, Some, None, ap, arith, false, get_or, if◌then◌else◌, length, refl, subst, suc, sym, take, true}
 use borrow.Author.Count.{below_more}
 use Rattle.ad_tree.specs.Ad.{ad_frames}
 use Rattle.ad_store.specs.Store.{stock_of}
 use Rattle.eval_scope.specs.Shown.{world_of}
 use Rattle.eval_scope.specs.World.{PlainWorld}
+use Rattle.ad_eval.specs.Small.{AreSmall}
 use Rattle.bilateral_match.specs.Docks.{is_last_decided, last_ad}
 use Rattle.bilateral_match.proofs.DockingLemmas.{ad-looked, dock-next, last-docked}
 use Rattle.claim_table.specs.Claims.{entered_in, passes, world_at}
 use Rattle.claim_table.specs.Table.{jobs_of}
 use Rattle.claim_table.proofs.FailingLemmas.{all-pass, counted-most, counted-within, docked-at, first-found, upto, upto-next}
+use Rattle.claim_table.proofs.SmallLemmas.{slots-small}
 use Rattle.claim_table.proofs.table.ClaimTable.first_failing.Goals as goal
 
 pub look-ad-requires : goal.look-ad-requires
@@ -42,6 +44,18 @@ returns-in_err-passes-clause-entries g c =
     let world = docked-at c.args.moment stock c.args.job.now.request slots i (world_of c.loop-slot.world) v (ad_frames c.look-ad.result.now) c.loop-slot-test.true c.loop-slot.invariant.world looked c.dock.ensures in
     let most = counted-within c.args.moment stock c.args.job.now slots c.offer-slots.ensures (entered_in c.args.moment stock (jobs_of c.args.self.now)) i v c.loop-slot-test.true world in
     omega (arith, most, c.loop-slot.invariant.entries, c.passes.ensures.entries)
+
+pub returns-in_err-passes-clause-ratio : goal.returns-in_err-passes-clause-ratio
+returns-in_err-passes-clause-ratio g c small ads jobs =
+    let stock = stock_of c.args.store.now in
+    let slots = c.offer-slots.result.now in
+    let i = c.loop-slot.slot-index in
+    let v = world_of c.dock.new.self in
+    let all = subst (All (Contains stock.slots)) (sym c.offer-slots.ensures) c.requires.offered in
+    let looked = ad-looked stock (get_or slots i 0) (ad_frames c.look-ad.result.now) (all i 0 c.loop-slot-test.true) c.look-ad.ensures.ad in
+    let world = docked-at c.args.moment stock c.args.job.now.request slots i (world_of c.loop-slot.world) v (ad_frames c.look-ad.result.now) c.loop-slot-test.true c.loop-slot.invariant.world looked c.dock.ensures in
+    let worlds = subst AreSmall (sym world) (slots-small c.args.moment stock c.args.job.now.request (take (suc i) slots) small ads) in
+    omega (arith, c.loop-slot.invariant.ratio small ads jobs, c.passes.ensures.ratio worlds ads jobs)
 
 pub returns-then-not-branch-clause-failing : goal.returns-then-not-branch-clause-failing
 returns-then-not-branch-clause-failing g c =
@@ -79,6 +93,18 @@ returns-then-not-branch-clause-entries g c =
     let most = counted-within c.args.moment stock c.args.job.now slots c.offer-slots.ensures (entered_in c.args.moment stock (jobs_of c.args.self.now)) i v c.loop-slot-test.true world in
     omega (arith, most, c.loop-slot.invariant.entries, c.passes.ensures.entries)
 
+pub returns-then-not-branch-clause-ratio : goal.returns-then-not-branch-clause-ratio
+returns-then-not-branch-clause-ratio g c small ads jobs =
+    let stock = stock_of c.args.store.now in
+    let slots = c.offer-slots.result.now in
+    let i = c.loop-slot.slot-index in
+    let v = world_of c.dock.new.self in
+    let all = subst (All (Contains stock.slots)) (sym c.offer-slots.ensures) c.requires.offered in
+    let looked = ad-looked stock (get_or slots i 0) (ad_frames c.look-ad.result.now) (all i 0 c.loop-slot-test.true) c.look-ad.ensures.ad in
+    let world = docked-at c.args.moment stock c.args.job.now.request slots i (world_of c.loop-slot.world) v (ad_frames c.look-ad.result.now) c.loop-slot-test.true c.loop-slot.invariant.world looked c.dock.ensures in
+    let worlds = subst AreSmall (sym world) (slots-small c.args.moment stock c.args.job.now.request (take (suc i) slots) small ads) in
+    omega (arith, c.loop-slot.invariant.ratio small ads jobs, c.passes.ensures.ratio worlds ads jobs)
+
 pub loop-slot-preserved : goal.loop-slot-preserved
 loop-slot-preserved g c =
     let stock = stock_of c.args.store.now in
@@ -100,6 +126,9 @@ loop-slot-preserved g c =
       passed = below_more (λ k. passes c.args.moment stock (jobs_of c.args.self.now) (get_or slots k 0) (world_at c.args.moment stock c.args.job.now.request slots k) ≡ true) i c.loop-slot.invariant.passed here;
       evaluations = omega (arith, evaluated, evaluations, c.loop-slot.invariant.evaluations, c.passes.ensures.evaluations);
       entries = omega (arith, attributes, entries, c.loop-slot.invariant.entries, c.passes.ensures.entries);
+      ratio = λ small ads jobs.
+          let worlds = subst AreSmall (sym world) (slots-small c.args.moment stock c.args.job.now.request (take (suc i) slots) small ads) in
+          omega (arith, c.loop-slot.invariant.ratio small ads jobs, c.passes.ensures.ratio worlds ads jobs);
       looks = omega (arith, c.loop-slot.invariant.looks, c.passes.ensures.looks, c.look-ad.ensures.counted);
     }
 

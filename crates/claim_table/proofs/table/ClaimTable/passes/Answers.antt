@@ -1,4 +1,4 @@
-use Rattle.std.proofs.Common.{◌∙◌, sym}
+use Rattle.std.proofs.Common.{◌∙◌, arith, sym}
 use Rattle.ad_tree.specs.Ad.{ad_frames}
 use Rattle.ad_store.specs.Store.{stock_of}
 use Rattle.eval_scope.specs.Shown.{world_of}
@@ -12,3 +12,12 @@ returns-then-is_decided-clause-passes g c =
     let request = c.args.request.now in
     let decided = decided-here w request (ad_frames c.args.ad.now) c.request_place.result c.request_place.ensures c.requires.request c.requires.ports c.requires.last in
     decided-fails c.args.moment (stock_of c.args.store.now) (jobs_of c.args.self.now) c.args.slot w c.requires.docked (sym decided ∙ sym c.is_decided.ensures ∙ c.if-is_decided.true)
+
+pub returns-in_err-dock-clause-ratio : goal.returns-in_err-dock-clause-ratio
+returns-in_err-dock-clause-ratio g c world ads jobs = omega (arith, c.dock.ensures.ratio world)
+
+pub returns-then-not-branch-clause-ratio : goal.returns-then-not-branch-clause-ratio
+returns-then-not-branch-clause-ratio g c world ads jobs = omega (arith, c.dock.ensures.ratio world)
+
+pub returns-clause-ratio : goal.returns-clause-ratio
+returns-clause-ratio g c world ads jobs = omega (arith, c.dock.ensures.ratio world, c.wins.ensures.ratio world ads jobs)

@@ -16,7 +16,7 @@ pub mod RowLemmas
 mod SameLemmas
 mod ScanLemmas
 mod ShortlistLemmas
-mod SmallLemmas
+pub mod SmallLemmas
 mod TestLemmas
 pub mod UndecidedLemmas
 mod WeighLemmas

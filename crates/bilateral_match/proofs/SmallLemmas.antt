@@ -24,7 +24,7 @@ found-small (a ∷ ads) zero fs small is = let same : a.ad ≡ fs = cc in subst 
 found-small (a ∷ ads) (suc i) fs small is = found-small ads i fs (All-tail (λ (advert : Advert). IsSmall advert.ad) a ads small) is
 
 -- so is the ad in a slot, and an ad that isn't there has no attributes
-in-small : (stock : Stock) (slot : ℕ) → AreSmallAds stock.ads → IsSmall (ad_in stock slot)
+pub in-small : (stock : Stock) (slot : ℕ) → AreSmallAds stock.ads → IsSmall (ad_in stock slot)
 in-small stock slot small = by (slice_get stock.ads (position_or_len (λ s. s == slot) stock.slots)) refl
   where
     by : (o : Option Advert) → slice_get stock.ads (position_or_len (λ s. s == slot) stock.slots) ≡ o → IsSmall (option_map_or (λ (a : Advert). a.ad) o [])

@@ -4,13 +4,12 @@ use Rattle.ad_tree.specs.Ad.{ad_frames}
 use Rattle.ad_store.specs.Store.{stock_of}
 use Rattle.eval_scope.specs.Shown.{world_of}
 use Rattle.eval_scope.specs.World.{PlainWorld}
-use Rattle.ad_eval.specs.Small.{AreSmall}
 use Rattle.bilateral_match.specs.Docks.{is_last_decided, last_ad}
 use Rattle.bilateral_match.proofs.DockingLemmas.{ad-looked, dock-next, last-docked}
+use Rattle.bilateral_match.proofs.SmallLemmas.{slots-small}
 use Rattle.claim_table.specs.Claims.{entered_in, passes, world_at}
 use Rattle.claim_table.specs.Table.{jobs_of}
 use Rattle.claim_table.proofs.FailingLemmas.{all-pass, counted-most, counted-within, docked-at, first-found, upto, upto-next}
-use Rattle.claim_table.proofs.SmallLemmas.{slots-small}
 use Rattle.claim_table.proofs.table.ClaimTable.first_failing.Goals as goal
 
 pub look-ad-requires : goal.look-ad-requires
@@ -54,7 +53,7 @@ returns-in_err-passes-clause-ratio g c small ads jobs =
     let all = subst (All (Contains stock.slots)) (sym c.offer-slots.ensures) c.requires.offered in
     let looked = ad-looked stock (get_or slots i 0) (ad_frames c.look-ad.result.now) (all i 0 c.loop-slot-test.true) c.look-ad.ensures.ad in
     let world = docked-at c.args.moment stock c.args.job.now.request slots i (world_of c.loop-slot.world) v (ad_frames c.look-ad.result.now) c.loop-slot-test.true c.loop-slot.invariant.world looked c.dock.ensures in
-    let worlds = subst AreSmall (sym world) (slots-small c.args.moment stock c.args.job.now.request (take (suc i) slots) small ads) in
+    let worlds = slots-small c.args.moment stock c.args.job.now.request (take (suc i) slots) _ world small ads in
     omega (arith, c.loop-slot.invariant.ratio small ads jobs, c.passes.ensures.ratio worlds ads jobs)
 
 pub returns-then-not-branch-clause-failing : goal.returns-then-not-branch-clause-failing
@@ -102,7 +101,7 @@ returns-then-not-branch-clause-ratio g c small ads jobs =
     let all = subst (All (Contains stock.slots)) (sym c.offer-slots.ensures) c.requires.offered in
     let looked = ad-looked stock (get_or slots i 0) (ad_frames c.look-ad.result.now) (all i 0 c.loop-slot-test.true) c.look-ad.ensures.ad in
     let world = docked-at c.args.moment stock c.args.job.now.request slots i (world_of c.loop-slot.world) v (ad_frames c.look-ad.result.now) c.loop-slot-test.true c.loop-slot.invariant.world looked c.dock.ensures in
-    let worlds = subst AreSmall (sym world) (slots-small c.args.moment stock c.args.job.now.request (take (suc i) slots) small ads) in
+    let worlds = slots-small c.args.moment stock c.args.job.now.request (take (suc i) slots) _ world small ads in
     omega (arith, c.loop-slot.invariant.ratio small ads jobs, c.passes.ensures.ratio worlds ads jobs)
 
 pub loop-slot-preserved : goal.loop-slot-preserved
@@ -127,7 +126,7 @@ loop-slot-preserved g c =
       evaluations = omega (arith, evaluated, evaluations, c.loop-slot.invariant.evaluations, c.passes.ensures.evaluations);
       entries = omega (arith, attributes, entries, c.loop-slot.invariant.entries, c.passes.ensures.entries);
       ratio = λ small ads jobs.
-          let worlds = subst AreSmall (sym world) (slots-small c.args.moment stock c.args.job.now.request (take (suc i) slots) small ads) in
+          let worlds = slots-small c.args.moment stock c.args.job.now.request (take (suc i) slots) _ world small ads in
           omega (arith, c.loop-slot.invariant.ratio small ads jobs, c.passes.ensures.ratio worlds ads jobs);
       looks = omega (arith, c.loop-slot.invariant.looks, c.passes.ensures.looks, c.look-ad.ensures.counted);
     }

@@ -1,10 +1,11 @@
 use Rattle.std.proofs.Common.{arith}
 use Rattle.ad_store.specs.Store.{stock_of}
 use Rattle.bilateral_match.proofs.MemberWeighLemmas.{holder-stands, holder-stored}
+use Rattle.bilateral_match.proofs.SmallLemmas.{holder-small}
 use Rattle.claim_table.specs.Holders.{holder_of}
 use Rattle.claim_table.specs.Table.{jobs_of}
 use Rattle.claim_table.proofs.PassingLemmas.{holders-stored}
-use Rattle.claim_table.proofs.SmallLemmas.{holder-small}
+use Rattle.claim_table.proofs.SmallLemmas.{holders-small}
 use Rattle.claim_table.proofs.table.ClaimTable.wins.Goals as goal
 
 pub is_won-requires-clause-stored : goal.is_won-requires-clause-stored
@@ -22,5 +23,5 @@ returns-in_err-regard-clause-ratio g c world ads jobs = omega (arith, c.rank.ens
 
 pub returns-clause-ratio : goal.returns-clause-ratio
 returns-clause-ratio g c world ads jobs =
-    let small = holder-small (jobs_of c.args.self.now) c.args.slot c.holder-holder.result jobs c.holder-holder.ensures.who in
+    let small = holder-small (holder_of (jobs_of c.args.self.now)) c.args.slot c.holder-holder.result c.holder-holder.ensures.who (holders-small (jobs_of c.args.self.now) jobs) in
     omega (arith, c.rank.ensures.ratio world, c.is_won.ensures.ratio small ads)

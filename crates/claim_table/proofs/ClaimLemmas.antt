@@ -1,10 +1,9 @@
 -- What a claim answers, and what it may count.
 use Rattle.std.proofs.Common.{◌≡◌, ◌≢◌, ℕ, ◌≤◌, All, List, [], if◌then◌else◌, length, slice_get, Option, None, Some, refl, sym, ◌∙◌, ap, arith}
-use Rattle.std.specs.Prelude.{Err, Ok, Result, option_map, slice_index}
+use Rattle.std.specs.Prelude.{Err, Ok, Result}
 use Rattle.std.specs.Option.{option_and_then, option_map_or}
 use Rattle.std.proofs.lemmas.List.Elements.{All-nil}
 use Rattle.ad_store.specs.Stock.{Stock}
-use Rattle.eval_scope.specs.World.{PlainWorld}
 use Rattle.bilateral_match.specs.Docks.{is_last_decided}
 use Rattle.claim_table.specs.declared.answers.ClaimFault.{ClaimFault}
 use Rattle.claim_table.specs.declared.answers.Freed.{Freed}

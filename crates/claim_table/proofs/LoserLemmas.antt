@@ -1,5 +1,5 @@
 -- Which jobs lose their resources to a claim, and what the jobs are once these are idle.
-use Rattle.std.proofs.Common.{◌≡◌, ℕ, zero, suc, ◌<◌, All, Bool, true, false, not, ◌||◌, cond, eqb, List, [], ◌∷◌, ◌++◌, fold, get_or, length, slice_get, slice_set, Option, None, Some, IfSome, refl, sym, ◌∙◌, ap, subst, arith}
+use Rattle.std.proofs.Common.{◌≡◌, ℕ, zero, suc, ◌<◌, All, Bool, true, false, ◌||◌, cond, eqb, List, [], ◌∷◌, ◌++◌, fold, get_or, length, slice_get, slice_set, Option, None, Some, IfSome, refl, sym, ◌∙◌, ap, subst, arith}
 use Rattle.std.specs.Option.{option_map_or}
 use Rattle.std.specs.Prelude.{option_map}
 use Rattle.std.proofs.lemmas.Bool.Decides.{nat_tests}
@@ -11,7 +11,7 @@ use Rattle.claim_table.specs.Claims.{all_idle, losers, offer_at, once}
 use Rattle.claim_table.specs.Jobs.{claim_of, claimed_by, idle_at, lists, offer_of, state_of}
 use Rattle.claim_table.specs.Kept.{AreNoted, names, note_at, passes_at}
 use Rattle.claim_table.proofs.ListLemmas.{passes_at-set}
-use Rattle.claim_table.proofs.NoteLemmas.{listed_at, listed_one, noted-position, passes_from, passes_within}
+use Rattle.claim_table.proofs.NoteLemmas.{listed_at, listed_one, noted-position, passes_within}
 
 -- ---- jobs that are made idle
 

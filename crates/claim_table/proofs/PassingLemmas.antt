@@ -1,29 +1,22 @@
 -- Whether one resource of an offer passes, and what it takes to tell.
-use Rattle.std.proofs.Common.{◌≡◌, ◌<◌, ◌+◌, ◌*◌, ℕ, ℤ, All, Contains, Bool, true, false, not, ◌&&◌, if◌then◌else◌, int_lt, List, length, slice_get, Option, None, Some, IfOk, is_some, refl, sym, ◌∙◌, ap, subst, arith}
-use Rattle.std.specs.Prelude.{Result, option_map}
-use Rattle.std.specs.Option.{option_and_then, option_map_or}
+use Rattle.std.proofs.Common.{◌≡◌, ◌<◌, ℕ, All, Contains, true, false, ◌&&◌, List, length, sym, ◌∙◌, ap}
 use Rattle.std.proofs.lemmas.List.Elements.{All-nil, All-weaker}
 use Rattle.pool_text.specs.declared.language.AdPlace.{AdPlace}
-use Rattle.pool_text.specs.declared.memory.OutOfMemory.{OutOfMemory}
 use Rattle.ad_tree.specs.Ad.{ad_frames}
 use Rattle.ad_tree.specs.Frames.{Frame}
 use Rattle.ad_tree.specs.declared.request.Request.{Request}
-use Rattle.ad_store.specs.declared.holdings.Held.{Held}
-use Rattle.ad_store.specs.Holdings.{Holding, holding_of}
 use Rattle.ad_store.specs.Stock.{Stock}
-use Rattle.eval_scope.specs.World.{PlainWorld, attribute_count, request_side, resource_side}
-use Rattle.ad_eval.specs.Dock.{is_docked, rank_by}
+use Rattle.eval_scope.specs.World.{PlainWorld, request_side}
 use Rattle.conjunct_plan.specs.Decided.{is_dock_decided}
 use Rattle.conjunct_plan.specs.Tests.{labels_of}
 use Rattle.bilateral_match.specs.Docks.{is_last_decided, last_ad}
-use Rattle.bilateral_match.specs.Pool.{AreStored, holder_world, regard_in}
+use Rattle.bilateral_match.specs.Pool.{AreStored}
 use Rattle.bilateral_match.proofs.DecidedLemmas.{not-docked}
-use Rattle.bilateral_match.proofs.DockingLemmas.{frame-there}
 use Rattle.claim_table.specs.declared.job.Job.{Job}
 use Rattle.claim_table.specs.declared.job.Standing.{Standing}
-use Rattle.claim_table.specs.Claims.{entered_in, is_won, passes}
-use Rattle.claim_table.specs.Holders.{holder_of, holding_in}
-use Rattle.claim_table.specs.Jobs.{claim_of, claimed_by, slots_of}
+use Rattle.claim_table.specs.Claims.{is_won, passes}
+use Rattle.claim_table.specs.Holders.{holder_of}
+use Rattle.claim_table.specs.Jobs.{claim_of, slots_of}
 use Rattle.claim_table.proofs.HolderLemmas.{holder-found}
 
 -- ---- the test of literal attributes

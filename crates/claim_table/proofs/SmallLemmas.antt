@@ -1,5 +1,5 @@
 -- Where the ads of the jobs are small, so are those of the holders.
-use Rattle.std.proofs.Common.{ℕ, List}
+use Rattle.std.proofs.Common.{List}
 use Rattle.ad_tree.specs.Ad.{ad_frames}
 use Rattle.ad_tree.specs.Small.{IsSmall}
 use Rattle.bilateral_match.specs.Small.{AreSmallHolders}

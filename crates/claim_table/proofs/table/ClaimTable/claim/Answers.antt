@@ -1,5 +1,5 @@
-use Rattle.std.proofs.Common.{◌≡◌, ◌≤◌, ◌+◌, ◌*◌, ◌∙◌, ◌<◌, ℕ, All, Contains, Some, None, ap, arith, length, refl, rules, slice_get, subst, sym}
-use Rattle.std.specs.Prelude.{Err, Ok, option_map}
+use Rattle.std.proofs.Common.{◌≡◌, ◌∙◌, ℕ, All, Contains, Some, ap, arith, length, refl, rules, slice_get, sym}
+use Rattle.std.specs.Prelude.{Err, option_map}
 use Rattle.std.proofs.lemmas.Option.{slice_get_read}
 use Rattle.ad_tree.specs.Ad.{ad_frames}
 use Rattle.ad_tree.specs.Small.{IsSmall}
@@ -7,9 +7,9 @@ use Rattle.ad_store.specs.Store.{stock_of}
 use Rattle.claim_table.specs.declared.answers.ClaimFault.{ClaimFault}
 use Rattle.claim_table.specs.declared.answers.JobState.{JobState}
 use Rattle.claim_table.specs.declared.job.Job.{Job}
-use Rattle.claim_table.specs.Jobs.{IsFilled, offer_of, slots_of, state_of}
+use Rattle.claim_table.specs.Jobs.{IsFilled, slots_of, state_of}
 use Rattle.claim_table.specs.Table.{jobs_of}
-use Rattle.claim_table.proofs.ClaimLemmas.{claimed-granted, claimed-stale, entered-named, offer-few, offer-found, offer-listed, offer-named, undecided-named}
+use Rattle.claim_table.proofs.ClaimLemmas.{claimed-granted, claimed-stale, entered-named, offer-few, offer-listed, offer-named, undecided-named}
 use Rattle.claim_table.proofs.HolderLemmas.{All-found}
 use Rattle.claim_table.proofs.table.ClaimTable.claim.Goals as goal
 

@@ -1,4 +1,4 @@
-use Rattle.std.proofs.Common.{◌≡◌, ◌≤◌, ℕ, ◌+◌, ◌*◌, ◌∙◌, All, Contains, Some, None, ap, arith, false, get_or, if◌then◌else◌, length, refl, subst, suc, sym, take, true}
+use Rattle.std.proofs.Common.{◌≡◌, ℕ, ◌∙◌, All, Contains, ap, arith, get_or, if◌then◌else◌, subst, suc, sym, take, true}
 use borrow.Author.Count.{below_more}
 use Rattle.ad_tree.specs.Ad.{ad_frames}
 use Rattle.ad_store.specs.Store.{stock_of}
@@ -9,7 +9,7 @@ use Rattle.bilateral_match.proofs.DockingLemmas.{ad-looked, dock-next, last-dock
 use Rattle.bilateral_match.proofs.SmallLemmas.{slots-small}
 use Rattle.claim_table.specs.Claims.{entered_in, passes, world_at}
 use Rattle.claim_table.specs.Table.{jobs_of}
-use Rattle.claim_table.proofs.FailingLemmas.{all-pass, counted-most, counted-within, docked-at, first-found, upto, upto-next}
+use Rattle.claim_table.proofs.FailingLemmas.{all-pass, counted-most, counted-within, docked-at, first-found, upto-next}
 use Rattle.claim_table.proofs.table.ClaimTable.first_failing.Goals as goal
 
 pub look-ad-requires : goal.look-ad-requires

@@ -15,4 +15,5 @@ mod ReferenceLemmas
 pub mod SameLemmas
 mod SearchLemmas
 mod SideLemmas
+mod SmallLemmas
 mod WeighLemmas

@@ -1,6 +1,6 @@
 -- The evaluations of a whole search: each undecided dock of a free port once, and those of another port behind each valid prefix.
-use Rattle.std.proofs.Common.{◌≡◌, ◌<◌, ◌≤◌, ◌+◌, ◌*◌, ℕ, zero, suc, Bool, true, false, not, if◌then◌else◌, refl, List, [], ◌∷◌, ◌++◌, length, map, get_or, sum_by, All, ap, sym, ◌∙◌, subst, arith, add-one}
-use Rattle.std.specs.List.{flat_map, range_with_len}
+use Rattle.std.proofs.Common.{◌≡◌, ◌≤◌, ◌+◌, ◌*◌, ℕ, zero, suc, Bool, true, false, not, if◌then◌else◌, refl, List, [], ◌∷◌, ◌++◌, length, map, get_or, sum_by, All, ap, sym, ◌∙◌, subst, arith, add-one}
+use Rattle.std.specs.List.{range_with_len}
 use Rattle.std.proofs.Math.Nat.{mul_comm, mul_left_comm}
 use Rattle.std.proofs.lemmas.List.Elements.{All-cons, All-map, All-nil}
 use Rattle.std.proofs.lemmas.List.Sorted.{length_permutation}

@@ -3,7 +3,7 @@ use Rattle.std.proofs.Common.{◌≡◌, ◌<◌, ◌≤◌, ◌+◌, ℕ, zero,
 use Rattle.std.specs.List.{list_any}
 use Rattle.std.proofs.lemmas.List.{drop_all}
 use Rattle.ad_tree.specs.Frames.{Frame, attributes_at, attributes_in}
-use Rattle.ad_tree.specs.Tree.{Tree, Trees, pack}
+use Rattle.ad_tree.specs.Tree.{Tree, pack}
 use Rattle.ad_tree.proofs.TreeLemmas.{pack-drop}
 use Rattle.gang_ports.specs.FreePorts.{any_refers, is_referred, refers}
 

@@ -1,5 +1,5 @@
 -- A port's side once its resources are weighed behind a prefix.
-use Rattle.std.proofs.Common.{◌≡◌, ◌≤◌, ◌+◌, ℕ, suc, Bool, true, false, if◌then◌else◌, refl, List, [], ◌∷◌, ◌++◌, length, map, sum_by, None, Some, All, ap, sym, ◌∙◌, subst, arith, ℤ}
+use Rattle.std.proofs.Common.{◌≡◌, ◌≤◌, ◌+◌, ℕ, suc, Bool, true, false, if◌then◌else◌, List, [], ◌∷◌, ◌++◌, length, map, sum_by, None, Some, All, ap, sym, ◌∙◌, subst, arith, ℤ}
 use Rattle.std.specs.List.Sorted.{IsPermutation}
 use Rattle.std.proofs.lemmas.List.Elements.{All-map}
 use Rattle.ad_tree.specs.Ad.{ad_frames}

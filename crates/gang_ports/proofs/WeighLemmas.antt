@@ -1,5 +1,5 @@
 -- Resources as they are weighed again: which candidates they are, what that takes, and what is kept of them.
-use Rattle.std.proofs.Common.{◌≡◌, ◌≤◌, ◌+◌, ◌*◌, ℕ, Bool, true, false, cond, if◌then◌else◌, refl, List, [], ◌∷◌, map, sum_by, Option, None, Some, option_map, All, ap, sym, ◌∙◌, subst, arith, ℤ}
+use Rattle.std.proofs.Common.{◌≡◌, ◌≤◌, ◌+◌, ℕ, Bool, true, false, if◌then◌else◌, refl, List, [], ◌∷◌, map, sum_by, Option, None, option_map, All, ap, sym, ◌∙◌, subst, arith, ℤ}
 use Rattle.std.specs.List.{cons_option, filter_map}
 use Rattle.std.proofs.lemmas.List.Elements.{All-head, All-map, All-tail}
 use Rattle.std.proofs.lemmas.List.Sums.{sum_by-cons, sum_by-le-sum_by}
@@ -11,7 +11,7 @@ use Rattle.gang_ports.specs.declared.weighing.Kept.{Kept}
 use Rattle.gang_ports.specs.declared.weighing.Resource.{Resource}
 use Rattle.gang_ports.specs.Choice.{is_among}
 use Rattle.gang_ports.specs.Search.{IsWorth, attributes_of, candidate_in, candidate_of, evaluations_ahead, evaluations_in, evaluations_of, forgotten, is_unknown, kept_in, rank_kept, remembered, weighed, weighed_in, worth}
-use Rattle.gang_ports.proofs.ListLemmas.{sum_by-map, sum_by-same}
+use Rattle.gang_ports.proofs.ListLemmas.{sum_by-map}
 
 module _ (w : PlainWorld) (before : List ℕ) where
   -- what is kept of a resource is right in this world

@@ -3,3 +3,4 @@ pub mod FreePorts
 pub mod Gangs
 pub mod Ports
 pub mod Search
+pub mod Small

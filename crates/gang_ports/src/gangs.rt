@@ -1,14 +1,14 @@
 // The gang of a request.
 ghost use Rattle.std.specs.Prelude.{◌≡◌, ◌≤◌, ◌<◌, ◌+◌, ◌*◌, All, length, map, IfOk, Some, option_map};
 ghost use Rattle.ad_tree.specs.Ad.{ad_frames};
+ghost use Rattle.ad_tree.specs.Small.{IsSmall};
 ghost use Rattle.ad_store.specs.Store.{stock_of};
 ghost use Rattle.literal_index.specs.Shown.{IsIndex};
 ghost use Rattle.bilateral_match.specs.Pool.{pool_of, slot_at};
 ghost use Rattle.bilateral_match.specs.Rows.{rows_of};
+ghost use Rattle.bilateral_match.specs.Small.{AreSmallAds};
 ghost use Rattle.gang_ports.specs.Gangs.{attributes_open, docks_open, docks_weighed, gang, looks_most};
 ghost use Rattle.gang_ports.specs.Ports.{ports_of};
-ghost use Rattle.ad_tree.specs.Small.{IsSmall};
-ghost use Rattle.bilateral_match.specs.Small.{AreSmallAds};
 
 use crate::reading::read_sides;
 use crate::searching::search;

@@ -1,8 +1,10 @@
 // The search for a gang: port by port, from the best resource on, and back where a port finds none.
-ghost use Rattle.std.specs.Prelude.{◌≤◌, ◌+◌, length, IfOk, OnOk};
+ghost use Rattle.std.specs.Prelude.{◌≤◌, ◌+◌, ◌*◌, length, IfOk, OnOk};
 ghost use Rattle.eval_scope.specs.Shown.{world_of};
+ghost use Rattle.ad_eval.specs.Small.{AreSmall};
 ghost use Rattle.bilateral_match.specs.Pool.{Pool};
 ghost use Rattle.gang_ports.specs.Search.{AreSides, IsBehind, Outcome, attributes_from, choice_in, evaluations_from, evaluations_once, sides_ahead};
+ghost use Rattle.gang_ports.specs.Small.{AreSmallSides};
 
 use crate::weighing::{Side, candidates};
 use eval_scope::World;
@@ -37,6 +39,8 @@ pub fn search<'a, F: Ledger, E: Ledger>(
         → tops.new + sides_ahead sides.new ≤ tops.old + evaluations_once pool (world_of world.now) before.old.items sides.old) }
     ensures entries { (pool : Pool) → IsBehind pool (world_of world.now) before.old.items sides.old
         → entry.new ≤ entry.old + attributes_from pool (world_of world.now) (length sides.old) before.old.items }
+    ensures small { OnOk result (AreSmallSides sides.old → AreSmallSides sides.new) }
+    ensures ratio { AreSmall (world_of world.now) → AreSmallSides sides.old → entry.new + 9216 * tops.old ≤ entry.old + 9216 * tops.new }
 {
     if sides.is_empty() {
         return Ok(true);

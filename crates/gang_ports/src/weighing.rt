@@ -2,10 +2,14 @@
 ghost use Rattle.std.specs.Prelude.{◌≡◌, ◌≤◌, ◌<◌, ◌+◌, ◌*◌, [], length, map, option_map, sum_by, IfOk, OnOk, ◌++◌};
 ghost use Rattle.std.specs.List.{cons_option, filter_map};
 ghost use Rattle.std.specs.List.Sorted.{IsPermutation, IsSorted};
+ghost use Rattle.ad_tree.specs.Ad.{ad_frames};
+ghost use Rattle.ad_tree.specs.Small.{IsSmall};
 ghost use Rattle.eval_scope.specs.Shown.{world_of};
 ghost use Rattle.eval_scope.specs.World.{attribute_count};
+ghost use Rattle.ad_eval.specs.Small.{AreSmall};
 ghost use Rattle.gang_ports.specs.Choice.{is_among};
 ghost use Rattle.gang_ports.specs.Search.{attributes_of, candidate_in, candidate_order, evaluations_in, forgotten, remembered, weighed_in, worth};
+ghost use Rattle.gang_ports.specs.Small.{AreSmallResources};
 
 use ad_eval::{dock, rank};
 use ad_tree::Ad;
@@ -64,6 +68,7 @@ pub fn candidates<'a, F: Ledger, E: Ledger>(
     ensures kept { OnOk result (side.new.resources.items ≡ map (weighed_in (world_of world.now) before.now) (remembered side.old.is_free side.old.resources.items)) }
     ensures evaluations { tops.new ≤ tops.old + sum_by (evaluations_in before.now) (remembered side.old.is_free side.old.resources.items) }
     ensures entries { entry.new ≤ entry.old + sum_by (attributes_of (world_of world.now) before.now) (remembered side.old.is_free side.old.resources.items) }
+    ensures ratio { AreSmall (world_of world.now) → AreSmallResources side.old.resources.items → entry.new + 9216 * tops.old ≤ entry.old + 9216 * tops.new }
 {
     let resources = side.resources.as_mut_slice();
     remember(side.is_free, resources);
@@ -112,6 +117,7 @@ fn weigh_all<'a, F: Ledger, E: Ledger>(
     ensures kept { OnOk result (resources.new ≡ map (weighed_in (world_of world.now) before.now) resources.old) }
     ensures evaluations { tops.new ≤ tops.old + sum_by (evaluations_in before.now) resources.old }
     ensures entries { entry.new ≤ entry.old + sum_by (attributes_of (world_of world.now) before.now) resources.old }
+    ensures ratio { AreSmall (world_of world.now) → AreSmallResources resources.old → entry.new + 9216 * tops.old ≤ entry.old + 9216 * tops.new }
 {
     let mut tries = Vec::new(alloc);
     for resource in resources.iter_mut() {
@@ -135,6 +141,7 @@ fn weigh<'a, F: Ledger, E: Ledger>(
     ensures kept { OnOk result (resource.new ≡ weighed_in (world_of world.now) before.now resource.old) }
     ensures evaluations { tops.new ≤ tops.old + evaluations_in before.now resource.old }
     ensures entries { entry.new ≤ entry.old + attributes_of (world_of world.now) before.now resource.old }
+    ensures ratio { AreSmall (world_of world.now) → IsSmall (ad_frames resource.old.ad.now) → entry.new + 9216 * tops.old ≤ entry.old + 9216 * tops.new }
 {
     if is_among(before, resource.place) {
         return Ok(None);
@@ -176,6 +183,7 @@ fn rank_where_docked<F: Ledger, E: Ledger>(
     ensures rank { IfOk result (λ rank. rank ≡ worth (world_of world.now)) }
     ensures evaluations { tops.new ≤ tops.old + 3 }
     ensures entries { entry.new ≤ entry.old + 3 * attribute_count (world_of world.now) }
+    ensures ratio { AreSmall (world_of world.now) → entry.new + 9216 * tops.old ≤ entry.old + 9216 * tops.new }
 {
     if !dock(alloc, world, tops, entry)? {
         return Ok(None);

@@ -2,8 +2,7 @@ use Rattle.std.proofs.Common.{sym, ◌∙◌}
 use Rattle.ad_tree.specs.Ad.{ad_frames}
 use Rattle.ad_tree.specs.Frames.{attributes_at}
 use Rattle.ad_tree.specs.Tree.{tree}
-use Rattle.gang_ports.specs.FreePorts.{refers}
-use Rattle.gang_ports.proofs.ReferenceLemmas.{any-end, attribute-found, attribute-next}
+use Rattle.gang_ports.proofs.ReferenceLemmas.{attribute-found, attribute-next}
 use Rattle.gang_ports.proofs.free_ports.is_referred_in.Goals as goal
 
 pub returns-then-refers : goal.returns-then-refers

@@ -7,6 +7,7 @@ use Rattle.bilateral_match.specs.Pool.{Pool, pool_of, slot_at}
 use Rattle.gang_ports.specs.Search.{IsBehind, Outcome, choice_in}
 use Rattle.gang_ports.proofs.OnceLemmas.{once-whole}
 use Rattle.gang_ports.proofs.PoolLemmas.{attributes-whole, evaluations-whole, found-whole, none-whole, starts, within-whole}
+use Rattle.gang_ports.proofs.SmallLemmas.{sides-small, start-small}
 use Rattle.gang_ports.proofs.gangs.first_gang.Goals as goal
 
 pub returns-in_err-search-clause-evaluations : goal.returns-in_err-search-clause-evaluations
@@ -210,3 +211,35 @@ returns-clause-once g c =
     let starting : IsBehind pool w before sides = starts pool request ports w c.new-world.ensures before c.new-places.ensures.items sides c.in_ok-sides.sides.items c.as_mut_slice.ensures.value c.in_ok-sides.ensures.sides in
     let many : length sides ≡ length ports = ap length c.as_mut_slice.ensures.value ∙ c.in_ok-sides.ensures.many in
     once-whole pool request ports w c.new-world.ensures before c.new-places.ensures.items sides c.in_ok-sides.sides.items c.as_mut_slice.ensures.value c.in_ok-sides.ensures.sides many c.args.tops.now c.search.new.tops (c.search.ensures.once pool starting)
+
+pub returns-in_err-search-clause-ratio : goal.returns-in_err-search-clause-ratio
+returns-in_err-search-clause-ratio g c small stored =
+    let stock = stock_of c.args.store.now in
+    let pool : Pool = pool_of c.args.moment stock (g.H.Holdings.is_offered c.args.held.now) (g.H.Holdings.holding c.args.held.now) in
+    let request = ad_frames c.args.request.now.ad in
+    let ports = c.args.request.now.ports in
+    omega (arith, c.search.ensures.ratio (start-small pool request ports (world_of c.new-world.result) c.new-world.ensures small) (sides-small pool request ports c.as_mut_slice.result.now c.in_ok-sides.sides.items c.as_mut_slice.ensures.value c.in_ok-sides.ensures.sides stored))
+
+pub returns-then-not-branch-clause-ratio : goal.returns-then-not-branch-clause-ratio
+returns-then-not-branch-clause-ratio g c small stored =
+    let stock = stock_of c.args.store.now in
+    let pool : Pool = pool_of c.args.moment stock (g.H.Holdings.is_offered c.args.held.now) (g.H.Holdings.holding c.args.held.now) in
+    let request = ad_frames c.args.request.now.ad in
+    let ports = c.args.request.now.ports in
+    omega (arith, c.search.ensures.ratio (start-small pool request ports (world_of c.new-world.result) c.new-world.ensures small) (sides-small pool request ports c.as_mut_slice.result.now c.in_ok-sides.sides.items c.as_mut_slice.ensures.value c.in_ok-sides.ensures.sides stored))
+
+pub returns-in_err-slots_at-clause-ratio : goal.returns-in_err-slots_at-clause-ratio
+returns-in_err-slots_at-clause-ratio g c small stored =
+    let stock = stock_of c.args.store.now in
+    let pool : Pool = pool_of c.args.moment stock (g.H.Holdings.is_offered c.args.held.now) (g.H.Holdings.holding c.args.held.now) in
+    let request = ad_frames c.args.request.now.ad in
+    let ports = c.args.request.now.ports in
+    omega (arith, c.search.ensures.ratio (start-small pool request ports (world_of c.new-world.result) c.new-world.ensures small) (sides-small pool request ports c.as_mut_slice.result.now c.in_ok-sides.sides.items c.as_mut_slice.ensures.value c.in_ok-sides.ensures.sides stored))
+
+pub returns-clause-ratio : goal.returns-clause-ratio
+returns-clause-ratio g c small stored =
+    let stock = stock_of c.args.store.now in
+    let pool : Pool = pool_of c.args.moment stock (g.H.Holdings.is_offered c.args.held.now) (g.H.Holdings.holding c.args.held.now) in
+    let request = ad_frames c.args.request.now.ad in
+    let ports = c.args.request.now.ports in
+    omega (arith, c.search.ensures.ratio (start-small pool request ports (world_of c.new-world.result) c.new-world.ensures small) (sides-small pool request ports c.as_mut_slice.result.now c.in_ok-sides.sides.items c.as_mut_slice.ensures.value c.in_ok-sides.ensures.sides stored))

@@ -3,12 +3,14 @@ use Rattle.std.specs.List.Sorted.{IsPermutation}
 use Rattle.ad_tree.specs.Ad.{ad_frames}
 use Rattle.eval_scope.specs.Shown.{world_of}
 use Rattle.eval_scope.specs.World.{PlainWorld}
+use Rattle.ad_eval.specs.Small.{AreSmall}
 use Rattle.gang_ports.specs.declared.weighing.Candidate.{Candidate}
 use Rattle.gang_ports.specs.declared.weighing.Side.{Side}
 use Rattle.gang_ports.specs.Gangs.{attributes_behind, evaluations_behind}
-use Rattle.gang_ports.specs.Search.{AreSides, Outcome, candidate_order, choice_in, evaluations_anew, evaluations_once, side_ahead, sides_ahead, weighed}
+use Rattle.gang_ports.specs.Search.{AreSides, Outcome, candidate_order, choice_in, evaluations_anew, evaluations_once, sides_ahead, weighed}
 use Rattle.gang_ports.proofs.ListLemmas.{length-more}
 use Rattle.gang_ports.proofs.SearchLemmas.{ahead-cons, first-attributes, first-cut, first-evaluations, first-once, first-spent, first-whole, once-deeper, once-next, once-place, outcome-whole, popped, ports-left, pushed, rest-fewer, rest_of, some-first, side-after, tries-all, turn-attributes, turn-behind, turn-deeper, turn-evaluations, turn-first, turn-found, turn-left, turn-next, turn-none, turn-once, turn-passed, turn-place}
+use Rattle.gang_ports.proofs.SmallLemmas.{kept-small, rest-small, turn-small, whole-small}
 use Rattle.gang_ports.proofs.searching.+search.Goals as goal
 
 pub returns-then-is_empty-clause-outcome : goal.returns-then-is_empty-clause-outcome
@@ -32,6 +34,9 @@ returns-then-is_empty-clause-ahead g t c = λ pool h. omega arith
 
 pub returns-then-is_empty-clause-entries : goal.returns-then-is_empty-clause-entries
 returns-then-is_empty-clause-entries g t c = λ pool h. omega arith
+
+pub returns-then-is_empty-clause-ratio : goal.returns-then-is_empty-clause-ratio
+returns-then-is_empty-clause-ratio g t c small are = omega arith
 
 pub candidates-requires : goal.candidates-requires
 candidates-requires g t c = let some : 0 < length c.args.sides.now = some-first c.args.sides.now c.is_empty.result c.is_empty.ensures c.if-is_empty.false in omega (arith, c.requires, some)
@@ -75,6 +80,11 @@ returns-in_err-tries-clause-once g t c = λ pool h.
     let same = c.as_slice.ensures.value in
     omega (arith, turn-first pool w before side sides others cut h (evaluations_anew pool w) (c.args.tops.now + sides_ahead sides) c.candidates.new.tops (first-spent pool w before side sides others cut h b same c.args.tops.now c.candidates.new.tops c.candidates.ensures.evaluations))
 
+pub returns-in_err-tries-clause-ratio : goal.returns-in_err-tries-clause-ratio
+returns-in_err-tries-clause-ratio g t c small are =
+    let some : 0 < length c.args.sides.now = some-first c.args.sides.now c.is_empty.result c.is_empty.ensures c.if-is_empty.false in
+    omega (arith, c.candidates.ensures.ratio small (are 0 c.index-sides-0.result some))
+
 pub loop-candidate-init : goal.loop-candidate-init
 loop-candidate-init g t c = record {
   long = refl;
@@ -87,6 +97,8 @@ loop-candidate-init g t c = record {
   evaluations = λ pool h. omega arith;
   once = λ pool h. omega arith;
   entries = λ pool h. omega arith;
+  small = λ are. rest-small c.args.sides.now c.candidates.new.side (some-first c.args.sides.now c.is_empty.result c.is_empty.ensures c.if-is_empty.false) are;
+  ratio = λ small are. omega arith;
 }
 
 pub with-deeper-requires : goal.with-deeper-requires
@@ -142,6 +154,11 @@ returns-in_err-push-clause-once g t c = λ pool h.
     let i = c.loop-candidate.candidate-index in
     let left = c.loop-candidate.others in
     omega (arith, once-place pool w before side sides others cut h tries all new c.args.tops.now c.candidates.new.tops (first-once pool w before side sides others cut h b same c.args.tops.now c.candidates.new.tops new c.candidates.ensures.free c.in_ok-tries.ensures.kept c.candidates.ensures.evaluations) left i c.loop-candidate.tops (c.loop-candidate.invariant.once pool h))
+
+pub returns-in_err-push-clause-ratio : goal.returns-in_err-push-clause-ratio
+returns-in_err-push-clause-ratio g t c small are =
+    let some : 0 < length c.args.sides.now = some-first c.args.sides.now c.is_empty.result c.is_empty.ensures c.if-is_empty.false in
+    omega (arith, c.candidates.ensures.ratio small (are 0 c.index-sides-0.result some), c.loop-candidate.invariant.ratio small are)
 
 pub search-requires : goal.search-requires
 search-requires g t c κs within =
@@ -229,6 +246,13 @@ returns-in_err-search-clause-once g t c = λ pool h.
     let longer = c.push.new.self.items in
     let is : longer ≡ before ++ here.place ∷ [] = pushed longer c.loop-candidate.before.items before here.place c.in_ok-push.ensures.items (c.loop-candidate.invariant.same pool h) in
     omega (arith, once-deeper pool w before side sides others cut h tries all new c.args.tops.now c.candidates.new.tops (first-once pool w before side sides others cut h b same c.args.tops.now c.candidates.new.tops new c.candidates.ensures.free c.in_ok-tries.ensures.kept c.candidates.ensures.evaluations) left i c.loop-candidate.tops (c.loop-candidate.invariant.once pool h) here within at c.search.new.tops (turn-once pool w before side sides others cut h tries all left long are i here within at deeper docked longer is c.loop-candidate.tops c.search.new.tops (c.search.ensures.once pool (turn-behind pool w before side sides others cut h tries all left long are i here within at deeper docked longer is))))
+
+pub returns-in_err-search-clause-ratio : goal.returns-in_err-search-clause-ratio
+returns-in_err-search-clause-ratio g t c small are =
+    let some : 0 < length c.args.sides.now = some-first c.args.sides.now c.is_empty.result c.is_empty.ensures c.if-is_empty.false in
+    let side = get_or c.args.sides.now 0 c.index-sides-0.result in
+    let deeper : AreSmall (world_of c.with-deeper.result) = turn-small (world_of c.args.world.now) c.as_slice.result.now side c.in_ok-tries.tries.items c.deref-candidate-items.result.now c.deref-candidate-items.ensures.value c.in_ok-tries.ensures.all c.loop-candidate.candidate-index c.candidate-item.result c.loop-candidate-test.true c.candidate-item.is (world_of c.with-deeper.result) c.with-deeper.ensures small (are 0 c.index-sides-0.result some) in
+    omega (arith, c.candidates.ensures.ratio small (are 0 c.index-sides-0.result some), c.loop-candidate.invariant.ratio small are, c.search.ensures.ratio deeper (c.loop-candidate.invariant.small are))
 
 pub returns-then-branch-clause-evaluations : goal.returns-then-branch-clause-evaluations
 returns-then-branch-clause-evaluations g t c = λ pool h.
@@ -393,6 +417,20 @@ returns-then-branch-clause-ahead g t c = λ pool h.
     let whole : c.search.new.tops + sides_ahead (new ∷ c.search.new.sides) ≤ c.args.tops.now + evaluations_once pool w before sides = omega (arith, once-deeper pool w before side sides others cut h tries all new c.args.tops.now c.candidates.new.tops (first-once pool w before side sides others cut h b same c.args.tops.now c.candidates.new.tops new c.candidates.ensures.free c.in_ok-tries.ensures.kept c.candidates.ensures.evaluations) left i c.loop-candidate.tops (c.loop-candidate.invariant.once pool h) here within at (c.search.new.tops + sides_ahead c.search.new.sides) (turn-once pool w before side sides others cut h tries all left long are i here within at deeper docked longer is c.loop-candidate.tops (c.search.new.tops + sides_ahead c.search.new.sides) (c.in_ok-search.ensures.ahead pool (turn-behind pool w before side sides others cut h tries all left long are i here within at deeper docked longer is))), ahead-cons new c.search.new.sides) in
     subst (λ (xs : List Side). c.search.new.tops + sides_ahead xs ≤ c.args.tops.now + evaluations_once pool w before sides) (sym (first-whole sides new c.search.new.sides (some-first c.args.sides.now c.is_empty.result c.is_empty.ensures c.if-is_empty.false) (c.search.auto.sides ∙ long))) whole
 
+pub returns-then-branch-clause-small : goal.returns-then-branch-clause-small
+returns-then-branch-clause-small g t c are =
+    let some : 0 < length c.args.sides.now = some-first c.args.sides.now c.is_empty.result c.is_empty.ensures c.if-is_empty.false in
+    whole-small c.args.sides.now c.candidates.new.side c.search.new.sides some (c.search.auto.sides ∙ c.loop-candidate.invariant.long)
+    (kept-small (world_of c.args.world.now) c.as_slice.result.now (get_or c.args.sides.now 0 c.index-sides-0.result) c.candidates.new.side c.in_ok-tries.ensures.kept (are 0 c.index-sides-0.result some))
+    (c.in_ok-search.ensures.small (c.loop-candidate.invariant.small are))
+
+pub returns-then-branch-clause-ratio : goal.returns-then-branch-clause-ratio
+returns-then-branch-clause-ratio g t c small are =
+    let some : 0 < length c.args.sides.now = some-first c.args.sides.now c.is_empty.result c.is_empty.ensures c.if-is_empty.false in
+    let side = get_or c.args.sides.now 0 c.index-sides-0.result in
+    let deeper : AreSmall (world_of c.with-deeper.result) = turn-small (world_of c.args.world.now) c.as_slice.result.now side c.in_ok-tries.tries.items c.deref-candidate-items.result.now c.deref-candidate-items.ensures.value c.in_ok-tries.ensures.all c.loop-candidate.candidate-index c.candidate-item.result c.loop-candidate-test.true c.candidate-item.is (world_of c.with-deeper.result) c.with-deeper.ensures small (are 0 c.index-sides-0.result some) in
+    omega (arith, c.candidates.ensures.ratio small (are 0 c.index-sides-0.result some), c.loop-candidate.invariant.ratio small are, c.search.ensures.ratio deeper (c.loop-candidate.invariant.small are))
+
 pub loop-candidate-preserved : goal.loop-candidate-preserved
 loop-candidate-preserved g t c =
     record {
@@ -548,6 +586,12 @@ loop-candidate-preserved g t c =
           let is : longer ≡ before ++ here.place ∷ [] = pushed longer c.loop-candidate.before.items before here.place c.in_ok-push.ensures.items (c.loop-candidate.invariant.same pool h) in
           turn-next pool w before side sides others cut h tries all (attributes_behind pool w.request w.ports) c.args.entry.now c.candidates.new.entry (first-attributes pool w before side sides others cut h b same c.args.entry.now c.candidates.new.entry c.candidates.ensures.entries) i c.loop-candidate.entry (c.loop-candidate.invariant.entries pool h)
           here within at c.search.new.entry (turn-attributes pool w before side sides others cut h tries all left long are i here within at deeper docked longer is c.loop-candidate.entry c.search.new.entry (c.search.ensures.entries pool (turn-behind pool w before side sides others cut h tries all left long are i here within at deeper docked longer is)));
+      small = λ are. c.in_ok-search.ensures.small (c.loop-candidate.invariant.small are);
+      ratio = λ small are.
+          let some : 0 < length c.args.sides.now = some-first c.args.sides.now c.is_empty.result c.is_empty.ensures c.if-is_empty.false in
+          let side = get_or c.args.sides.now 0 c.index-sides-0.result in
+          let deeper : AreSmall (world_of c.with-deeper.result) = turn-small (world_of c.args.world.now) c.as_slice.result.now side c.in_ok-tries.tries.items c.deref-candidate-items.result.now c.deref-candidate-items.ensures.value c.in_ok-tries.ensures.all c.loop-candidate.candidate-index c.candidate-item.result c.loop-candidate-test.true c.candidate-item.is (world_of c.with-deeper.result) c.with-deeper.ensures small (are 0 c.index-sides-0.result some) in
+          omega (arith, c.loop-candidate.invariant.ratio small are, c.search.ensures.ratio deeper (c.loop-candidate.invariant.small are));
     }
 
 pub returns-clause-outcome : goal.returns-clause-outcome
@@ -653,3 +697,15 @@ returns-clause-ahead g t c = λ pool h.
     let left = c.loop-candidate.others in
     let whole : c.loop-candidate.tops + sides_ahead (new ∷ left) ≤ c.args.tops.now + evaluations_once pool w before sides = once-place pool w before side sides others cut h tries all new c.args.tops.now c.candidates.new.tops (first-once pool w before side sides others cut h b same c.args.tops.now c.candidates.new.tops new c.candidates.ensures.free c.in_ok-tries.ensures.kept c.candidates.ensures.evaluations) left i c.loop-candidate.tops (c.loop-candidate.invariant.once pool h) in
     subst (λ (xs : List Side). c.loop-candidate.tops + sides_ahead xs ≤ c.args.tops.now + evaluations_once pool w before sides) (sym (first-whole sides new left (some-first c.args.sides.now c.is_empty.result c.is_empty.ensures c.if-is_empty.false) c.loop-candidate.invariant.long)) whole
+
+pub returns-clause-small : goal.returns-clause-small
+returns-clause-small g t c are =
+    let some : 0 < length c.args.sides.now = some-first c.args.sides.now c.is_empty.result c.is_empty.ensures c.if-is_empty.false in
+    whole-small c.args.sides.now c.candidates.new.side c.loop-candidate.others some c.loop-candidate.invariant.long
+    (kept-small (world_of c.args.world.now) c.as_slice.result.now (get_or c.args.sides.now 0 c.index-sides-0.result) c.candidates.new.side c.in_ok-tries.ensures.kept (are 0 c.index-sides-0.result some))
+    (c.loop-candidate.invariant.small are)
+
+pub returns-clause-ratio : goal.returns-clause-ratio
+returns-clause-ratio g t c small are =
+    let some : 0 < length c.args.sides.now = some-first c.args.sides.now c.is_empty.result c.is_empty.ensures c.if-is_empty.false in
+    omega (arith, c.candidates.ensures.ratio small (are 0 c.index-sides-0.result some), c.loop-candidate.invariant.ratio small are)

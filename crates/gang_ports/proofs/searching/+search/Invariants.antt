@@ -1,9 +1,11 @@
-use Rattle.std.proofs.Common.{◌≡◌, ◌<◌, ◌≤◌, ◌+◌, ℕ, suc, [], ◌∷◌, ◌++◌, get_or, length, map, take}
+use Rattle.std.proofs.Common.{◌≡◌, ◌<◌, ◌≤◌, ◌+◌, ◌*◌, ℕ, suc, [], ◌∷◌, ◌++◌, get_or, length, map, take}
 use Rattle.eval_scope.specs.Shown.{world_of}
+use Rattle.ad_eval.specs.Small.{AreSmall}
 use Rattle.bilateral_match.specs.Pool.{Pool}
 use Rattle.gang_ports.specs.Choice.{tuples}
 use Rattle.gang_ports.specs.Gangs.{attributes_behind, evaluations_behind}
 use Rattle.gang_ports.specs.Search.{AreSides, IsBehind, choice_in, evaluations_anew, sides_ahead}
+use Rattle.gang_ports.specs.Small.{AreSmallSides}
 use Rattle.gang_ports.proofs.CountLemmas.{behind}
 use Rattle.gang_ports.proofs.SearchLemmas.{place_of}
 use Rattle.gang_ports.proofs.searching.+search.Given as goal
@@ -29,4 +31,6 @@ invariant-loop-candidate g l =
           → l.tops + sides_ahead l.others ≤ l.initial.tops + sides_ahead l.initial.others + behind (choice_in pool w) (evaluations_anew pool w) (length l.initial.others) start tried;
       entries : (pool : Pool) → IsBehind pool w start l.fn.sides
           → l.entry ≤ l.initial.entry + behind (choice_in pool w) (attributes_behind pool w.request w.ports) (length l.initial.others) start tried;
+      small : AreSmallSides l.fn.sides → AreSmallSides l.others;
+      ratio : AreSmall w → AreSmallSides l.fn.sides → l.entry + 9216 * l.initial.tops ≤ l.initial.entry + 9216 * l.tops;
     }

@@ -5,6 +5,7 @@ use Rattle.gang_ports.specs.declared.weighing.Resource.{Resource}
 use Rattle.gang_ports.specs.Search.{attributes_of, candidate_in, evaluations_in, weighed_in}
 use Rattle.gang_ports.proofs.CandidateLemmas.{found-all, found-next, front-all, item-at}
 use Rattle.gang_ports.proofs.ListLemmas.{count-all, count-next, count-within}
+use Rattle.gang_ports.proofs.SmallLemmas.{item-small}
 use Rattle.gang_ports.proofs.weighing.weigh_all.Goals as goal
 
 pub returns-in_err-found-clause-evaluations : goal.returns-in_err-found-clause-evaluations
@@ -31,6 +32,16 @@ returns-in_err-found-clause-entries g c =
     count-within (attributes_of w before) start i c.args.entry.now c.loop-resource.entry c.loop-resource.invariant.entries item c.weigh.new.entry within at
     (subst (λ (r : Resource). c.weigh.new.entry ≤ c.loop-resource.entry + attributes_of w before r) (sym c.resource-item.is) c.weigh.ensures.entries)
 
+pub returns-in_err-found-clause-ratio : goal.returns-in_err-found-clause-ratio
+returns-in_err-found-clause-ratio g c small are =
+    let w = world_of c.args.world.now in
+    let before = c.args.before.now in
+    let start = c.args.resources.now in
+    let i = c.loop-resource.resource-index in
+    let item = c.resource-item.result in
+    let within : i < length start = omega (arith, c.loop-resource-test.true, c.loop-resource.auto.resource-index-end, c.loop-resource.auto.resources) in
+    omega (arith, c.loop-resource.invariant.ratio small are, c.weigh.ensures.ratio small (item-small (weighed_in w before) start c.loop-resource.resources i item within c.resource-item.is c.loop-resource.invariant.kept are))
+
 pub returns-in_err-keep-clause-evaluations : goal.returns-in_err-keep-clause-evaluations
 returns-in_err-keep-clause-evaluations g c =
     let w = world_of c.args.world.now in
@@ -55,6 +66,16 @@ returns-in_err-keep-clause-entries g c =
     count-within (attributes_of w before) start i c.args.entry.now c.loop-resource.entry c.loop-resource.invariant.entries item c.weigh.new.entry within at
     (subst (λ (r : Resource). c.weigh.new.entry ≤ c.loop-resource.entry + attributes_of w before r) (sym c.resource-item.is) c.weigh.ensures.entries)
 
+pub returns-in_err-keep-clause-ratio : goal.returns-in_err-keep-clause-ratio
+returns-in_err-keep-clause-ratio g c small are =
+    let w = world_of c.args.world.now in
+    let before = c.args.before.now in
+    let start = c.args.resources.now in
+    let i = c.loop-resource.resource-index in
+    let item = c.resource-item.result in
+    let within : i < length start = omega (arith, c.loop-resource-test.true, c.loop-resource.auto.resource-index-end, c.loop-resource.auto.resources) in
+    omega (arith, c.loop-resource.invariant.ratio small are, c.weigh.ensures.ratio small (item-small (weighed_in w before) start c.loop-resource.resources i item within c.resource-item.is c.loop-resource.invariant.kept are))
+
 pub loop-resource-preserved : goal.loop-resource-preserved
 loop-resource-preserved g c =
     let w = world_of c.args.world.now in
@@ -78,6 +99,8 @@ loop-resource-preserved g c =
       entries =
           count-next (attributes_of w before) start i c.args.entry.now c.loop-resource.entry c.loop-resource.invariant.entries item c.weigh.new.entry within at
           (subst (λ (r : Resource). c.weigh.new.entry ≤ c.loop-resource.entry + attributes_of w before r) (sym c.resource-item.is) c.weigh.ensures.entries);
+      ratio = λ small are.
+          omega (arith, c.loop-resource.invariant.ratio small are, c.weigh.ensures.ratio small (item-small (weighed_in w before) start c.loop-resource.resources i item within c.resource-item.is c.loop-resource.invariant.kept are));
     }
 
 pub returns-clause-tries : goal.returns-clause-tries
@@ -115,3 +138,6 @@ returns-clause-entries g c =
     let i = c.loop-resource.resource-index in
     let past : length start ≤ i = omega (arith, c.loop-resource-test.false, c.loop-resource.auto.resource-index-end, c.loop-resource.auto.resources) in
     count-all (attributes_of w before) start i c.args.entry.now c.loop-resource.entry c.loop-resource.invariant.entries past
+
+pub returns-clause-ratio : goal.returns-clause-ratio
+returns-clause-ratio g c small are = omega (arith, c.loop-resource.invariant.ratio small are)

@@ -1,7 +1,9 @@
-use Rattle.std.proofs.Common.{◌≡◌, ◌≤◌, ◌+◌, ◌++◌, drop, map, sum_by, take}
+use Rattle.std.proofs.Common.{◌≡◌, ◌≤◌, ◌+◌, ◌*◌, ◌++◌, drop, map, sum_by, take}
 use Rattle.std.specs.List.{filter_map}
 use Rattle.eval_scope.specs.Shown.{world_of}
+use Rattle.ad_eval.specs.Small.{AreSmall}
 use Rattle.gang_ports.specs.Search.{attributes_of, candidate_in, evaluations_in, weighed_in}
+use Rattle.gang_ports.specs.Small.{AreSmallResources}
 use Rattle.gang_ports.proofs.weighing.weigh_all.Given as goal
 
 -- the resources so far were weighed, and no others
@@ -15,4 +17,5 @@ invariant-loop-resource g l =
       kept : l.resources ≡ map (weighed_in w l.before) (take i start) ++ drop i start;
       evaluations : l.tops ≤ l.initial.tops + sum_by (evaluations_in l.before) (take i start);
       entries : l.entry ≤ l.initial.entry + sum_by (attributes_of w l.before) (take i start);
+      ratio : AreSmall w → AreSmallResources start → l.entry + 9216 * l.initial.tops ≤ l.initial.entry + 9216 * l.tops;
     }

@@ -1,0 +1,17 @@
+use Rattle.std.proofs.Common.{arith}
+use Rattle.ad_tree.specs.Ad.{ad_frames}
+use Rattle.eval_scope.specs.Shown.{world_of}
+use Rattle.gang_ports.proofs.SmallLemmas.{docked-small}
+use Rattle.gang_ports.proofs.weighing.weigh.Goals.{in-Weighed, in-Unknown+in_ok-rank-in-Unknown}
+use Rattle.gang_ports.proofs.weighing.weigh.Goals as goal
+
+pub returns-in_err-rank-in-Unknown-clause-ratio : goal.returns-in_err-rank-in-Unknown-clause-ratio
+returns-in_err-rank-in-Unknown-clause-ratio g c small fits =
+    omega (arith, c.rank_where_docked.ensures.ratio (docked-small (world_of c.args.world.now) (world_of c.with.result) (ad_frames c.args.resource.now.ad.now) c.with.ensures small fits))
+
+pub returns-clause-ratio : goal.returns-clause-ratio
+returns-clause-ratio g c small fits =
+    elim c.match-resource.branch [
+      | in-Weighed w ↦ omega (arith, w.tops-is, w.entry-is)
+      | in-Unknown+in_ok-rank-in-Unknown w ↦ omega (arith, w.tops-is, w.entry-is, w.rank_where_docked.ensures.ratio (docked-small (world_of c.args.world.now) (world_of w.with.result) (ad_frames c.args.resource.now.ad.now) w.with.ensures small fits))
+    ]

@@ -6,7 +6,6 @@ use Rattle.std.specs.Option.{option_map_or}
 use borrow.Rule.Slice.PartMut.{put_mid}
 use Rattle.std.proofs.lemmas.List.Elements.{All-append, All-cons, All-head, All-nil, All-tail}
 use Rattle.std.proofs.lemmas.List.Sorted.{All-permutation}
-use Rattle.std.proofs.lemmas.Option.{get_or_from_slice_get, slice_get_within}
 use Rattle.ad_tree.specs.Ad.{ad_frames}
 use Rattle.ad_tree.specs.Frames.{Frame}
 use Rattle.ad_tree.specs.Small.{IsSmall}
@@ -16,6 +15,7 @@ use Rattle.eval_scope.specs.World.{PlainWorld, ads, with_docked}
 use Rattle.ad_eval.specs.Small.{AreSmall}
 use Rattle.bilateral_match.specs.Pool.{Pool}
 use Rattle.bilateral_match.specs.Small.{AreSmallAds}
+use Rattle.bilateral_match.proofs.SmallLemmas.{found-small}
 use Rattle.gang_ports.specs.declared.weighing.Candidate.{Candidate}
 use Rattle.gang_ports.specs.declared.weighing.Resource.{Resource}
 use Rattle.gang_ports.specs.declared.weighing.Side.{Side}
@@ -47,8 +47,7 @@ docked-small w deeper ad is small fits = subst AreSmall (sym is) (All-append IsS
 -- the ad at a place of a small stock, or none
 at-small : (adverts : List Advert) → AreSmallAds adverts → (place : ℕ) (o : Option Advert) → slice_get adverts place ≡ o → IsSmall (option_map_or (λ advert. advert.ad) o [])
 at-small adverts small place None at = omega arith
-at-small adverts small place (Some a) at =
-    subst (λ (advert : Advert). IsSmall advert.ad) (get_or_from_slice_get adverts place a a at) (small place a (slice_get_within adverts place a at))
+at-small adverts small place (Some a) at = found-small adverts place a.ad small (ap (option_map (λ (advert : Advert). advert.ad)) at)
 
 module _ (pool : Pool) (request : List Frame) (ports : List Port) where
   -- nothing is docked to a small request

@@ -4,7 +4,7 @@ use Rattle.std.specs.Prelude.{option_and_then, option_map}
 use Rattle.std.specs.List.{list_any, position_or_len}
 use Rattle.std.specs.Option.{option_map_or}
 use Rattle.std.proofs.lemmas.Bool.Decides.{nat_tests}
-use Rattle.std.proofs.lemmas.List.Elements.{All-cons, All-head, All-nil, All-tail}
+use Rattle.std.proofs.lemmas.List.Elements.{All-cons, All-head, All-map, All-nil, All-tail}
 use Rattle.std.proofs.Math.ListN.{length-set}
 use Rattle.ad_tree.specs.Ad.{ad_frames}
 use Rattle.ad_tree.specs.Frames.{Frame}
@@ -104,6 +104,15 @@ idle-set (j ∷ jobs) (suc i) (suc k) old new at busy =
     let next : eqb i k ≡ eqb (suc i) (suc k) = grind (arith, nat_tests) in
     idle-set jobs i k old new at busy ∙ ap (λ b. is_idle_at jobs k && not b) next
 
+-- what holds of all requests holds of the jobs that have the same ones
+pub all-same : (P : Request → Type 0) (jobs others : List Job) → map (λ (job : Job). job.request) others ≡ map (λ (job : Job). job.request) jobs
+    → All (λ (job : Job). P job.request) jobs → All (λ (job : Job). P job.request) others
+all-same P jobs others same all = All-unmap others (subst (All P) (sym same) (All-map P (λ (job : Job). job.request) jobs all))
+  where
+    All-unmap : (js : List Job) → All P (map (λ (job : Job). job.request) js) → All (λ (job : Job). P job.request) js
+    All-unmap [] h = All-nil (λ (job : Job). P job.request)
+    All-unmap (j ∷ js) h = All-cons (λ (job : Job). P job.request) j js (All-head P j.request (map (λ (job : Job). job.request) js) h) (All-unmap js (All-tail P j.request (map (λ (job : Job). job.request) js) h))
+
 -- ---- one more offer
 
 module _ (jobs : List Job) (i : ℕ) (slots : List ℕ) (idle : is_idle_at jobs i ≡ true) where
@@ -164,15 +173,7 @@ module _ (jobs : List Job) (i : ℕ) (slots : List ℕ) (idle : is_idle_at jobs 
 
   -- what holds of all requests holds of them still
   pub all-later : (P : Request → Type 0) → All (λ (job : Job). P job.request) jobs → All (λ (job : Job). P job.request) later
-  all-later P all = All-unmap later (subst (All P) (sym requests-later) (All-mapped jobs all))
-    where
-      All-mapped : (js : List Job) → All (λ (job : Job). P job.request) js → All P (map (λ (job : Job). job.request) js)
-      All-mapped [] h = All-nil P
-      All-mapped (j ∷ js) h = All-cons P j.request (map (λ (job : Job). job.request) js) (All-head (λ (job : Job). P job.request) j js h) (All-mapped js (All-tail (λ (job : Job). P job.request) j js h))
-
-      All-unmap : (js : List Job) → All P (map (λ (job : Job). job.request) js) → All (λ (job : Job). P job.request) js
-      All-unmap [] h = All-nil (λ (job : Job). P job.request)
-      All-unmap (j ∷ js) h = All-cons (λ (job : Job). P job.request) j js (All-head P j.request (map (λ (job : Job). job.request) js) h) (All-unmap js (All-tail P j.request (map (λ (job : Job). job.request) js) h))
+  all-later P all = all-same P jobs later requests-later all
 
   -- ---- what is offered stays offered
 

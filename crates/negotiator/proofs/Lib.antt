@@ -10,6 +10,7 @@ mod QueueLemmas
 mod ReadyLemmas
 mod ShiftLemmas
 mod SearchLemmas
+mod SmallLemmas
 mod SpinLoopLemmas
 pub mod StoredLemmas
 mod SumLemmas

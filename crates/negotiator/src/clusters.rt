@@ -8,7 +8,9 @@ ghost use Rattle.bilateral_match.specs.Members.{best_slot};
 ghost use Rattle.bilateral_match.specs.Pool.{AreStored};
 ghost use Rattle.bilateral_match.specs.Rows.{rows_of};
 ghost use Rattle.bilateral_match.specs.Shortlists as shortlists;
+ghost use Rattle.bilateral_match.specs.Small.{AreSmallAds};
 ghost use Rattle.claim_table.specs.Holders.{holder_of};
+ghost use Rattle.claim_table.specs.Small.{AreSmallJobs};
 ghost use Rattle.claim_table.specs.Table.{jobs_of};
 ghost use Rattle.conjunct_plan.specs.Tests.{tests_of};
 ghost use Rattle.literal_index.specs.Shown.{IsIndex};
@@ -109,6 +111,7 @@ pub(crate) fn choose<F: Ledger, E: Ledger, T: Ledger>(
     ensures clusters { AreClusters scene.now.moment (stock_in scene.now) (jobs_of claims.now) clusters.new }
     ensures evaluations { tops.new ≤ tops.old + 5 * open_count (pool_for scene.now.moment (stock_in scene.now) (jobs_of claims.now)) (ad_frames request.now.ad) }
     ensures entries { entry.new ≤ entry.old + entered_for (pool_for scene.now.moment (stock_in scene.now) (jobs_of claims.now)) (ad_frames request.now.ad) }
+    ensures ratio { AreSmallAds (stock_in scene.now).ads → AreSmallJobs (jobs_of claims.now) → entry.new + 9216 * tops.old ≤ entry.old + 9216 * tops.new }
     ensures looks { touch.new ≤ touch.old + 9 * least_left (stock_in scene.now).ads (tests_of (ad_frames request.now.ad) 0 []) }
 {
     if let Some(k) = cluster_of(scene, claims, clusters.ranked.as_slice(), request) {
@@ -204,6 +207,7 @@ fn rank<F: Ledger, E: Ledger, T: Ledger>(
     ensures place { IfOk result (λ cluster. cluster.place ≡ i) }
     ensures evaluations { tops.new ≤ tops.old + 5 * open_count (pool_for scene.now.moment (stock_in scene.now) (jobs_of claims.now)) (ad_frames request.now.ad) }
     ensures entries { entry.new ≤ entry.old + entered_for (pool_for scene.now.moment (stock_in scene.now) (jobs_of claims.now)) (ad_frames request.now.ad) }
+    ensures ratio { AreSmallAds (stock_in scene.now).ads → AreSmallJobs (jobs_of claims.now) → entry.new + 9216 * tops.old ≤ entry.old + 9216 * tops.new }
     ensures looks { touch.new ≤ touch.old + 9 * least_left (stock_in scene.now).ads (tests_of (ad_frames request.now.ad) 0 []) }
 {
     let slots = shortlist(

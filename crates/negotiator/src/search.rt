@@ -1,12 +1,15 @@
 // The search for one job.
-ghost use Rattle.std.specs.Prelude.{◌≡◌, ◌≢◌, ◌<◌, ◌≤◌, ◌+◌, ◌∷◌, true, [], All, AllPairs, IfOk, IfSome, OnErr, OnOk, Some, length, option_map, slice_get};
+ghost use Rattle.std.specs.Prelude.{◌≡◌, ◌≢◌, ◌<◌, ◌≤◌, ◌+◌, ◌*◌, ◌∷◌, true, [], All, AllPairs, IfOk, IfSome, OnErr, OnOk, Some, length, option_map, slice_get};
 ghost use Rattle.std.specs.Option.{option_map_or};
 ghost use Rattle.ad_tree.specs.Ad.{ad_frames};
+ghost use Rattle.ad_tree.specs.Small.{IsSmall};
 ghost use Rattle.bilateral_match.specs.Pool.{AreStored};
 ghost use Rattle.bilateral_match.specs.Rows.{rows_of};
+ghost use Rattle.bilateral_match.specs.Small.{AreSmallAds};
 ghost use Rattle.claim_table.specs.declared.job.Standing.{Standing};
 ghost use Rattle.claim_table.specs.Holders.{holder_of};
 ghost use Rattle.claim_table.specs.Jobs.{AreFree, wanted, with_standing};
+ghost use Rattle.claim_table.specs.Small.{AreSmallJobs};
 ghost use Rattle.claim_table.specs.Table.{jobs_of};
 ghost use Rattle.gang_ports.specs.Ports.{ports_of};
 ghost use Rattle.literal_index.specs.Shown.{IsIndex};
@@ -71,6 +74,7 @@ fn search<F: Ledger, E: Ledger, T: Ledger>(
     ensures enough { IfOk result (λ slots. IfSome slots (λ list. option_map (λ job. wanted job.request) (slice_get (jobs_of claims.now) i) ≡ Some (length list))) }
     ensures clusters { AreClusters scene.now.moment (stock_in scene.now) (jobs_of claims.now) clusters.new }
     ensures counted { IsSearched scene.now.moment (stock_in scene.now) (jobs_of claims.now) i (counts tops.old entry.old touch.old) (counts tops.new entry.new touch.new) }
+    ensures ratio { AreSmallAds (stock_in scene.now).ads → AreSmallJobs (jobs_of claims.now) → entry.new + 9216 * tops.old ≤ entry.old + 9216 * tops.new }
 {
     let request = claims.request(i);
     if request.ports.len() == 0 {
@@ -103,6 +107,7 @@ fn search_one<F: Ledger, E: Ledger, T: Ledger>(
     ensures clusters { AreClusters scene.now.moment (stock_in scene.now) (jobs_of claims.now) clusters.new }
     ensures evaluations { tops.new ≤ tops.old + evaluations_for scene.now.moment (stock_in scene.now) (jobs_of claims.now) request.now }
     ensures entries { entry.new ≤ entry.old + entries_for scene.now.moment (stock_in scene.now) (jobs_of claims.now) request.now }
+    ensures ratio { AreSmallAds (stock_in scene.now).ads → AreSmallJobs (jobs_of claims.now) → entry.new + 9216 * tops.old ≤ entry.old + 9216 * tops.new }
     ensures looks { touch.new ≤ touch.old + looks_for (stock_in scene.now) (jobs_of claims.now) request.now }
 {
     let slot = choose(scene, claims, i, request, clusters, tops, entry, touch)?;
@@ -139,6 +144,7 @@ fn search_gang<F: Ledger, E: Ledger, T: Ledger>(
     ensures enough { IfOk result (λ slots. IfSome slots (λ list. wanted request.now ≡ length list)) }
     ensures evaluations { tops.new ≤ tops.old + evaluations_for scene.now.moment (stock_in scene.now) (jobs_of claims.now) request.now }
     ensures entries { entry.new ≤ entry.old + entries_for scene.now.moment (stock_in scene.now) (jobs_of claims.now) request.now }
+    ensures ratio { IsSmall (ad_frames request.now.ad) → AreSmallAds (stock_in scene.now).ads → entry.new + 9216 * tops.old ≤ entry.old + 9216 * tops.new }
     ensures looks { touch.new ≤ touch.old + looks_for (stock_in scene.now) (jobs_of claims.now) request.now }
 {
     scene.store.slots_are_apart();
@@ -209,6 +215,7 @@ pub(crate) fn try_job<F: Ledger, E: Ledger, T: Ledger>(
     ensures clusters { AreClusters scene.now.moment (stock_in scene.now) (jobs_of claims.new) clusters.new }
     ensures paid { OnOk result (ArePaid scene.now.moment (stock_in scene.now) (jobs_of claims.old) (jobs_of claims.new) failed.old failed.new (counts tops.old entry.old touch.old) (counts tops.new entry.new touch.new)) }
     ensures within { AreWithin scene.now.moment (stock_in scene.now) (jobs_of claims.old) failed.old (counts tops.old entry.old touch.old) (counts tops.new entry.new touch.new) }
+    ensures ratio { AreSmallAds (stock_in scene.now).ads → AreSmallJobs (jobs_of claims.old) → entry.new + 9216 * tops.old ≤ entry.old + 9216 * tops.new }
 {
     if failed[i] {
         return Ok(None);

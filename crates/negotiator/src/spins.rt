@@ -5,7 +5,9 @@ ghost use Rattle.ad_tree.specs.Ad.{ad_frames};
 ghost use Rattle.ad_store.specs.Store.{stock_of};
 ghost use Rattle.bilateral_match.specs.Pool.{AreStored};
 ghost use Rattle.bilateral_match.specs.Rows.{rows_of};
+ghost use Rattle.bilateral_match.specs.Small.{AreSmallAds};
 ghost use Rattle.claim_table.specs.Holders.{holder_of};
+ghost use Rattle.claim_table.specs.Small.{AreSmallJobs};
 ghost use Rattle.claim_table.specs.Table.{jobs_of};
 ghost use Rattle.literal_index.specs.Shown.{IsIndex};
 ghost use Rattle.negotiator.specs.Budget.{ArePaid, AreWithin, counts, entries_for, left_for, open_for, over_idle};
@@ -17,8 +19,6 @@ ghost use Rattle.negotiator.specs.Queues.{AreQueues};
 ghost use Rattle.negotiator.specs.Scenes.{IsReady, market_in, stock_in, users_at};
 ghost use Rattle.negotiator.specs.Settings.{settings_of};
 ghost use Rattle.pie_slices.specs.Slices.{weight_of};
-ghost use Rattle.bilateral_match.specs.Small.{AreSmallAds};
-ghost use Rattle.claim_table.specs.Small.{AreSmallJobs};
 
 use crate::queues::queues_of;
 use crate::search::is_idle;
@@ -113,6 +113,7 @@ fn run_spins<F: Ledger, E: Ledger, T: Ledger>(
     ensures table { OnOk result (jobs_of claims.new ≡ with_offers (offers_of (cycle_of (market_in scene.now (jobs_of claims.old)))) (jobs_of claims.old)) }
     ensures part { OnErr result (IsPart (offers_of (cycle_of (market_in scene.now (jobs_of claims.old)))) (jobs_of claims.old) (jobs_of claims.new)) }
     ensures within { AreWithin scene.now.moment (stock_in scene.now) (jobs_of claims.old) failed.old (counts tops.old entry.old touch.old) (counts tops.new entry.new touch.new) }
+    ensures ratio { AreSmallAds (stock_in scene.now).ads → AreSmallJobs (jobs_of claims.old) → entry.new + 9216 * tops.old ≤ entry.old + 9216 * tops.new }
 {
     let mut spins = Cycle::new(scene.alloc);
     loop {
@@ -146,6 +147,7 @@ fn run_spin<F: Ledger, E: Ledger, T: Ledger>(
     ensures clusters { AreClusters scene.now.moment (stock_in scene.now) (jobs_of claims.new) clusters.new }
     ensures paid { OnOk result (ArePaid scene.now.moment (stock_in scene.now) (jobs_of claims.old) (jobs_of claims.new) failed.old failed.new (counts tops.old entry.old touch.old) (counts tops.new entry.new touch.new)) }
     ensures within { AreWithin scene.now.moment (stock_in scene.now) (jobs_of claims.old) failed.old (counts tops.old entry.old touch.old) (counts tops.new entry.new touch.new) }
+    ensures ratio { AreSmallAds (stock_in scene.now).ads → AreSmallJobs (jobs_of claims.old) → entry.new + 9216 * tops.old ≤ entry.old + 9216 * tops.new }
 {
     let free = free_count(scene.store, claims);
     let active = active_of(scene, claims, queues)?;

@@ -1,5 +1,7 @@
 // A user's turn, and the turns of a spin.
-ghost use Rattle.std.specs.Prelude.{◌≡◌, ◌<◌, ◌∷◌, ◌++◌, [], All, IfOk, OnErr, OnOk, false, filter, if◌then◌else◌, length, map};
+ghost use Rattle.std.specs.Prelude.{◌≡◌, ◌<◌, ◌≤◌, ◌+◌, ◌*◌, ◌∷◌, ◌++◌, [], All, IfOk, OnErr, OnOk, false, filter, if◌then◌else◌, length, map};
+ghost use Rattle.bilateral_match.specs.Small.{AreSmallAds};
+ghost use Rattle.claim_table.specs.Small.{AreSmallJobs};
 ghost use Rattle.claim_table.specs.Table.{jobs_of};
 ghost use Rattle.negotiator.specs.Budget.{ArePaid, AreWithin, counts};
 ghost use Rattle.negotiator.specs.Clusters.{AreClusters};
@@ -41,6 +43,7 @@ pub(crate) fn run_turn<F: Ledger, E: Ledger, T: Ledger>(
     ensures clusters { AreClusters scene.now.moment (stock_in scene.now) (jobs_of claims.new) clusters.new }
     ensures paid { OnOk result (ArePaid scene.now.moment (stock_in scene.now) (jobs_of claims.old) (jobs_of claims.new) failed.old failed.new (counts tops.old entry.old touch.old) (counts tops.new entry.new touch.new)) }
     ensures within { AreWithin scene.now.moment (stock_in scene.now) (jobs_of claims.old) failed.old (counts tops.old entry.old touch.old) (counts tops.new entry.new touch.new) }
+    ensures ratio { AreSmallAds (stock_in scene.now).ads → AreSmallJobs (jobs_of claims.old) → entry.new + 9216 * tops.old ≤ entry.old + 9216 * tops.new }
 {
     let mut offers = OfferedList::new(scene.alloc);
     let mut left = slice;
@@ -91,6 +94,7 @@ pub(crate) fn run_turns<F: Ledger, E: Ledger, T: Ledger>(
     ensures clusters { AreClusters scene.now.moment (stock_in scene.now) (jobs_of claims.new) clusters.new }
     ensures paid { OnOk result (ArePaid scene.now.moment (stock_in scene.now) (jobs_of claims.old) (jobs_of claims.new) failed.old failed.new (counts tops.old entry.old touch.old) (counts tops.new entry.new touch.new)) }
     ensures within { AreWithin scene.now.moment (stock_in scene.now) (jobs_of claims.old) failed.old (counts tops.old entry.old touch.old) (counts tops.new entry.new touch.new) }
+    ensures ratio { AreSmallAds (stock_in scene.now).ads → AreSmallJobs (jobs_of claims.old) → entry.new + 9216 * tops.old ≤ entry.old + 9216 * tops.new }
 {
     let mut turns = Turns::new(scene.alloc);
     for k in 0..active.len() {

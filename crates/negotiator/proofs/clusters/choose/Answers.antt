@@ -7,6 +7,7 @@ use Rattle.negotiator.specs.declared.clusters.Cluster.{Cluster}
 use Rattle.negotiator.specs.Clusters.{IsCluster, ad_at}
 use Rattle.negotiator.specs.Scenes.{stock_in}
 use Rattle.negotiator.proofs.ClusterLemmas.{best-alike, best-here, job-within, one-changed, one-ranked, one-seen}
+use Rattle.negotiator.proofs.SmallLemmas.{small-holders, small-job}
 use Rattle.negotiator.proofs.clusters.choose.Goals as goal
 
 pub cluster_of-requires : goal.cluster_of-requires
@@ -76,3 +77,8 @@ returns-in_err-note-clause-clusters g c =
 pub returns-clause-clusters : goal.returns-clause-clusters
 returns-clause-clusters g c =
     one-seen c.args.scene.now.moment (stock_in c.args.scene.now) (jobs_of c.args.claims.now) c.args.clusters.now c.requires.clusters _ c.note.ensures refl
+
+pub returns-clause-ratio : goal.returns-clause-ratio
+returns-clause-ratio g c ads small =
+    let jobs = jobs_of c.args.claims.now in
+    c.best.ensures.ratio (small-job jobs c.args.i c.args.request.now c.requires.job small) ads (small-holders jobs small)

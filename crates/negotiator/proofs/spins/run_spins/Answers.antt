@@ -2,8 +2,10 @@ use Rattle.std.proofs.Common.{List, arith, subst, sym, ◌∙◌}
 use Rattle.claim_table.specs.Table.{jobs_of}
 use Rattle.negotiator.specs.declared.answers.Spin.{Spin}
 use Rattle.negotiator.specs.Budget.{counts}
+use Rattle.negotiator.specs.Cycle.{offers_of}
 use Rattle.negotiator.specs.Scenes.{stock_in}
 use Rattle.negotiator.proofs.BudgetLemmas.{paid-none, paid-on, paid-within, within-on}
+use Rattle.negotiator.proofs.SmallLemmas.{small-offers}
 use Rattle.negotiator.proofs.SpinLoopLemmas.{SpinsLoop, on_err, queues-here, spins-fewer, spins-list, spins-more, spins-start, spins-stopped, spins-stopped-behind, spins-table}
 use Rattle.negotiator.proofs.spins.run_spins.Goals as goal
 
@@ -15,6 +17,7 @@ loop-spins-init g c =
       spins = subst (λ (list : List Spin). SpinsLoop c.args.scene.now began c.args.failed.now start list began c.args.failed.now start) (sym c.new-spins.ensures)
           (spins-start c.args.scene.now began c.args.failed.now start c.requires.ready (paid-none c.args.scene.now.moment (stock_in c.args.scene.now) began c.args.failed.now start));
       clusters = c.requires.clusters;
+      ratio = λ ads small. omega arith;
     }
 
 pub run_spin-requires-clause-queues : goal.run_spin-requires-clause-queues
@@ -40,6 +43,11 @@ returns-in_err-spin-clause-within g c =
     let after = counts c.run_spin.new.tops c.run_spin.new.entry c.run_spin.new.touch in
     within-on c.args.scene.now.moment (stock_in c.args.scene.now) began jobs c.args.failed.now c.loop-spins.failed start now after c.loop-spins.invariant.spins.paid c.in_err-spin.ensures.within
 
+pub returns-in_err-spin-clause-ratio : goal.returns-in_err-spin-clause-ratio
+returns-in_err-spin-clause-ratio g c ads small =
+    let spins = c.loop-spins.invariant.spins in
+    omega (arith, c.loop-spins.invariant.ratio ads small, c.run_spin.ensures.ratio ads (small-offers (offers_of spins.done) (jobs_of c.args.claims.now) (jobs_of c.loop-spins.claims) spins.table small))
+
 pub returns-in_err-push-clause-part : goal.returns-in_err-push-clause-part
 returns-in_err-push-clause-part g c =
     on_err _ (spins-stopped-behind c.args.scene.now (jobs_of c.args.claims.now) c.loop-spins.invariant.spins (jobs_of c.run_spin.new.claims) c.in_ok-spin.ensures.table)
@@ -54,6 +62,11 @@ returns-in_err-push-clause-within g c =
     let after = counts c.run_spin.new.tops c.run_spin.new.entry c.run_spin.new.touch in
     paid-within c.args.scene.now.moment (stock_in c.args.scene.now) began later c.args.failed.now c.run_spin.new.failed start after
     (paid-on c.args.scene.now.moment (stock_in c.args.scene.now) began jobs later c.args.failed.now c.loop-spins.failed c.run_spin.new.failed start now after c.loop-spins.invariant.spins.paid c.in_ok-spin.ensures.paid)
+
+pub returns-in_err-push-clause-ratio : goal.returns-in_err-push-clause-ratio
+returns-in_err-push-clause-ratio g c ads small =
+    let spins = c.loop-spins.invariant.spins in
+    omega (arith, c.loop-spins.invariant.ratio ads small, c.run_spin.ensures.ratio ads (small-offers (offers_of spins.done) (jobs_of c.args.claims.now) (jobs_of c.loop-spins.claims) spins.table small))
 
 pub returns-then-last-clause-cycle : goal.returns-then-last-clause-cycle
 returns-then-last-clause-cycle g c =
@@ -74,6 +87,11 @@ returns-then-last-clause-within g c =
     paid-within c.args.scene.now.moment (stock_in c.args.scene.now) began later c.args.failed.now c.run_spin.new.failed start after
     (paid-on c.args.scene.now.moment (stock_in c.args.scene.now) began jobs later c.args.failed.now c.loop-spins.failed c.run_spin.new.failed start now after c.loop-spins.invariant.spins.paid c.in_ok-spin.ensures.paid)
 
+pub returns-then-last-clause-ratio : goal.returns-then-last-clause-ratio
+returns-then-last-clause-ratio g c ads small =
+    let spins = c.loop-spins.invariant.spins in
+    omega (arith, c.loop-spins.invariant.ratio ads small, c.run_spin.ensures.ratio ads (small-offers (offers_of spins.done) (jobs_of c.args.claims.now) (jobs_of c.loop-spins.claims) spins.table small))
+
 pub loop-spins-smaller : goal.loop-spins-smaller
 loop-spins-smaller g c =
     spins-fewer c.args.scene.now (jobs_of c.args.claims.now) c.loop-spins.invariant.spins c.in_ok-spin.spin c.in_ok-spin.ensures.spin c.push.new.self c.in_ok-push.ensures.ok (jobs_of c.run_spin.new.claims) c.in_ok-spin.ensures.table (omega (arith, c.len-last.ensures, c.if-last.false))
@@ -91,4 +109,5 @@ loop-spins-preserved g c =
           c.run_spin.new.failed after c.in_ok-spin.ensures.ready
           (paid-on c.args.scene.now.moment (stock_in c.args.scene.now) began jobs later c.args.failed.now c.loop-spins.failed c.run_spin.new.failed start now after c.loop-spins.invariant.spins.paid c.in_ok-spin.ensures.paid);
       clusters = c.in_ok-spin.ensures.clusters;
+      ratio = λ ads small. omega (arith, c.loop-spins.invariant.ratio ads small, c.run_spin.ensures.ratio ads (small-offers (offers_of c.loop-spins.invariant.spins.done) began jobs c.loop-spins.invariant.spins.table small));
     }

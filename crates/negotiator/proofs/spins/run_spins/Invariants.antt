@@ -1,4 +1,6 @@
-use Rattle.std.proofs.Common.{[]}
+use Rattle.std.proofs.Common.{◌≤◌, ◌+◌, ◌*◌, []}
+use Rattle.bilateral_match.specs.Small.{AreSmallAds}
+use Rattle.claim_table.specs.Small.{AreSmallJobs}
 use Rattle.claim_table.specs.Table.{jobs_of}
 use Rattle.negotiator.specs.Budget.{counts}
 use Rattle.negotiator.specs.Clusters.{AreClusters}
@@ -11,6 +13,7 @@ abbrev pub invariant-loop-spins : goal.invariant-loop-spins
 invariant-loop-spins g l = record {
   spins : SpinsLoop l.scene (jobs_of l.fn.claims) l.fn.failed (counts l.fn.tops l.fn.entry l.fn.touch) l.spins (jobs_of l.claims) l.failed (counts l.tops l.entry l.touch);
   clusters : AreClusters l.scene.moment (stock_in l.scene) (jobs_of l.claims) l.clusters;
+  ratio : AreSmallAds (stock_in l.scene).ads → AreSmallJobs (jobs_of l.fn.claims) → l.entry + 9216 * l.fn.tops ≤ l.fn.entry + 9216 * l.tops;
 }
 
 abbrev pub decreases-loop-spins : goal.decreases-loop-spins

@@ -1,4 +1,5 @@
 use Rattle.std.proofs.Common.{List, ℕ, ap, arith, false, get_or, map, refl, subst, sym, ◌∙◌}
+use Rattle.claim_table.specs.Small.{AreSmallJobs}
 use Rattle.claim_table.specs.Table.{jobs_of}
 use Rattle.negotiator.specs.declared.answers.Offered.{Offered}
 use Rattle.negotiator.specs.Budget.{counts}
@@ -7,6 +8,7 @@ use Rattle.negotiator.specs.Markets.{IsPart, offer_named, with_offers}
 use Rattle.negotiator.specs.Scenes.{stock_in}
 use Rattle.negotiator.proofs.BudgetLemmas.{paid-none, paid-on, paid-within, within-on}
 use Rattle.negotiator.proofs.ClusterLemmas.{same-clusters}
+use Rattle.negotiator.proofs.SmallLemmas.{small-offers}
 use Rattle.negotiator.proofs.SpinLoopLemmas.{on_err}
 use Rattle.negotiator.proofs.TurnLoopLemmas.{TurnLoop, ended-all, ended-offers, ended-table, in-slice-either, length-here, loop-same, over-slice, own-place, own-turn, own-within, stopped, tried-none, tried-some, tried-stopped, turn-passes, turn-start, turn-stops, wants-here}
 use Rattle.negotiator.proofs.turns.run_turn.Goals.{then-is_idle+else-given+in_ok-offer+in-Some+in_ok-push, then-is_idle+else-given+in_ok-offer+in_default, else-is_idle}
@@ -21,6 +23,7 @@ loop-place-init g c =
       turn = subst (λ (list : List Offered). TurnLoop c.args.scene.now began c.args.queue.now.user items c.args.slice c.args.failed.now start 0 c.args.slice false list began c.args.failed.now start) (sym c.new-offers.ensures)
           (turn-start c.args.scene.now began c.args.queue.now.user items c.args.slice c.args.failed.now start c.requires.ready (paid-none c.args.scene.now.moment (stock_in c.args.scene.now) began c.args.failed.now start));
       clusters = c.requires.clusters;
+      ratio = λ ads small. omega arith;
     }
 
 pub is_idle-requires : goal.is_idle-requires
@@ -64,6 +67,9 @@ pub returns-then-left-wants-clause-within : goal.returns-then-left-wants-clause-
 returns-then-left-wants-clause-within g c =
     paid-within c.args.scene.now.moment (stock_in c.args.scene.now) (jobs_of c.args.claims.now) (jobs_of c.loop-place.claims) c.args.failed.now c.loop-place.failed (counts c.args.tops.now c.args.entry.now c.args.touch.now) (counts c.loop-place.tops c.loop-place.entry c.loop-place.touch) c.loop-place.invariant.turn.paid
 
+pub returns-then-left-wants-clause-ratio : goal.returns-then-left-wants-clause-ratio
+returns-then-left-wants-clause-ratio g c = c.loop-place.invariant.ratio
+
 pub try_job-requires-clause-idle : goal.try_job-requires-clause-idle
 try_job-requires-clause-idle g c = sym c.is_idle.ensures ∙ c.if-is_idle.true
 
@@ -88,6 +94,11 @@ returns-in_err-offer-clause-within g c =
     let after = counts c.try_job.new.tops c.try_job.new.entry c.try_job.new.touch in
     within-on c.args.scene.now.moment (stock_in c.args.scene.now) began jobs c.args.failed.now c.loop-place.failed start now after c.loop-place.invariant.turn.paid c.in_err-offer.ensures.within
 
+pub returns-in_err-offer-clause-ratio : goal.returns-in_err-offer-clause-ratio
+returns-in_err-offer-clause-ratio g c ads small =
+    let turn = c.loop-place.invariant.turn in
+    omega (arith, c.loop-place.invariant.ratio ads small, c.try_job.ensures.ratio ads (small-offers turn.made (jobs_of c.args.claims.now) (jobs_of c.loop-place.claims) turn.table small))
+
 pub returns-in_err-push-clause-part : goal.returns-in_err-push-clause-part
 returns-in_err-push-clause-part g c =
     let items = c.as_slice-place-items.result.now in
@@ -107,6 +118,11 @@ returns-in_err-push-clause-within g c =
     paid-within c.args.scene.now.moment (stock_in c.args.scene.now) began (jobs_of c.try_job.new.claims) c.args.failed.now c.try_job.new.failed start after
     (paid-on c.args.scene.now.moment (stock_in c.args.scene.now) began jobs (jobs_of c.try_job.new.claims) c.args.failed.now c.loop-place.failed c.try_job.new.failed start now after c.loop-place.invariant.turn.paid c.in_ok-offer.ensures.paid)
 
+pub returns-in_err-push-clause-ratio : goal.returns-in_err-push-clause-ratio
+returns-in_err-push-clause-ratio g c ads small =
+    let turn = c.loop-place.invariant.turn in
+    omega (arith, c.loop-place.invariant.ratio ads small, c.try_job.ensures.ratio ads (small-offers turn.made (jobs_of c.args.claims.now) (jobs_of c.loop-place.claims) turn.table small))
+
 pub loop-place-preserved : goal.loop-place-preserved
 loop-place-preserved g c =
     let scene = c.args.scene.now in
@@ -114,6 +130,7 @@ loop-place-preserved g c =
     let items = c.as_slice-place-items.result.now in
     let i = get_or items c.loop-place.place-index 0 in
     let own = own-place scene began c.args.queue.now.user items c.loop-place.place-index (c.as_slice-place-items.ensures ∙ c.requires.own) c.loop-place-test.true in
+    let here = λ (small : AreSmallJobs began). small-offers c.loop-place.invariant.turn.made began (jobs_of c.loop-place.claims) c.loop-place.invariant.turn.table small in
     record {
       turn = elim c.if-is_idle.branch [
         | then-is_idle+else-given+in_ok-offer+in-Some+in_ok-push w ↦
@@ -140,6 +157,11 @@ loop-place-preserved g c =
         | then-is_idle+else-given+in_ok-offer+in_default w ↦ same-clusters scene (ap jobs_of w.claims-is) w.clusters-is w.in_ok-offer.ensures.clusters
         | else-is_idle w ↦ same-clusters scene (ap jobs_of w.claims-is) w.clusters-is c.loop-place.invariant.clusters
       ];
+      ratio = λ ads small. elim c.if-is_idle.branch [
+        | then-is_idle+else-given+in_ok-offer+in-Some+in_ok-push w ↦ omega (arith, c.loop-place.invariant.ratio ads small, w.in_ok-offer.ensures.ratio ads (here small), w.tops-is, w.entry-is)
+        | then-is_idle+else-given+in_ok-offer+in_default w ↦ omega (arith, c.loop-place.invariant.ratio ads small, w.in_ok-offer.ensures.ratio ads (here small), w.tops-is, w.entry-is)
+        | else-is_idle w ↦ omega (arith, c.loop-place.invariant.ratio ads small, w.tops-is, w.entry-is)
+      ];
     }
 
 pub returns-clause-offers : goal.returns-clause-offers
@@ -164,3 +186,6 @@ returns-clause-paid g c = c.loop-place.invariant.turn.paid
 pub returns-clause-within : goal.returns-clause-within
 returns-clause-within g c =
     paid-within c.args.scene.now.moment (stock_in c.args.scene.now) (jobs_of c.args.claims.now) (jobs_of c.loop-place.claims) c.args.failed.now c.loop-place.failed (counts c.args.tops.now c.args.entry.now c.args.touch.now) (counts c.loop-place.tops c.loop-place.entry c.loop-place.touch) c.loop-place.invariant.turn.paid
+
+pub returns-clause-ratio : goal.returns-clause-ratio
+returns-clause-ratio g c = c.loop-place.invariant.ratio

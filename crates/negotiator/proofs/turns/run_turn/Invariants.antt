@@ -1,3 +1,6 @@
+use Rattle.std.proofs.Common.{◌≤◌, ◌+◌, ◌*◌}
+use Rattle.bilateral_match.specs.Small.{AreSmallAds}
+use Rattle.claim_table.specs.Small.{AreSmallJobs}
 use Rattle.claim_table.specs.Table.{jobs_of}
 use Rattle.negotiator.specs.Budget.{counts}
 use Rattle.negotiator.specs.Clusters.{AreClusters}
@@ -10,4 +13,5 @@ invariant-loop-place g l = record {
   turn : TurnLoop l.scene (jobs_of l.fn.claims) l.queue.user l.place-items l.slice l.fn.failed (counts l.fn.tops l.fn.entry l.fn.touch)
       l.place-index l.left l.given l.offers (jobs_of l.claims) l.failed (counts l.tops l.entry l.touch);
   clusters : AreClusters l.scene.moment (stock_in l.scene) (jobs_of l.claims) l.clusters;
+  ratio : AreSmallAds (stock_in l.scene).ads → AreSmallJobs (jobs_of l.fn.claims) → l.entry + 9216 * l.fn.tops ≤ l.fn.entry + 9216 * l.tops;
 }

@@ -5,10 +5,11 @@ use Rattle.claim_table.specs.Table.{jobs_of}
 use Rattle.negotiator.specs.declared.answers.Turn.{Turn}
 use Rattle.negotiator.specs.declared.queues.Queue.{Queue}
 use Rattle.negotiator.specs.Budget.{counts}
-use Rattle.negotiator.specs.Cycle.{is_of, places}
+use Rattle.negotiator.specs.Cycle.{is_of, offers_in, places}
 use Rattle.negotiator.specs.Scenes.{market_in, stock_in, users_at}
 use Rattle.negotiator.proofs.ActiveLemmas.{user-here}
 use Rattle.negotiator.proofs.BudgetLemmas.{paid-none, paid-on, paid-within, within-on}
+use Rattle.negotiator.proofs.SmallLemmas.{small-offers}
 use Rattle.negotiator.proofs.SpinLoopLemmas.{TurnsLoop, on_err, own-here, turns-list, turns-more, turns-start, turns-stopped, turns-stopped-behind, turns-table}
 use Rattle.negotiator.proofs.turns.run_turns.Goals as goal
 
@@ -21,6 +22,7 @@ loop-k-init g c =
       turns = subst (λ (list : List Turn). TurnsLoop c.args.scene.now began users c.args.slices.now c.args.failed.now start 0 list began c.args.failed.now start) (sym c.new-turns.ensures)
           (turns-start c.args.scene.now began users c.args.slices.now c.args.failed.now start c.requires.ready (paid-none c.args.scene.now.moment (stock_in c.args.scene.now) began c.args.failed.now start));
       clusters = c.requires.clusters;
+      ratio = λ ads small. omega arith;
     }
 
 pub bounds-queues-active : goal.bounds-queues-active
@@ -66,6 +68,11 @@ returns-in_err-offers-clause-within g c =
     let after = counts c.run_turn.new.tops c.run_turn.new.entry c.run_turn.new.touch in
     within-on c.args.scene.now.moment (stock_in c.args.scene.now) began jobs c.args.failed.now c.loop-k.failed start now after c.loop-k.invariant.turns.paid c.in_err-offers.ensures.within
 
+pub returns-in_err-offers-clause-ratio : goal.returns-in_err-offers-clause-ratio
+returns-in_err-offers-clause-ratio g c ads small =
+    let turns = c.loop-k.invariant.turns in
+    omega (arith, c.loop-k.invariant.ratio ads small, c.run_turn.ensures.ratio ads (small-offers (offers_in turns.done) (jobs_of c.args.claims.now) (jobs_of c.loop-k.claims) turns.table small))
+
 pub returns-in_err-keep-clause-part : goal.returns-in_err-keep-clause-part
 returns-in_err-keep-clause-part g c =
     let began = jobs_of c.args.claims.now in
@@ -87,6 +94,11 @@ returns-in_err-keep-clause-within g c =
     paid-within c.args.scene.now.moment (stock_in c.args.scene.now) began (jobs_of c.run_turn.new.claims) c.args.failed.now c.run_turn.new.failed start after
     (paid-on c.args.scene.now.moment (stock_in c.args.scene.now) began jobs (jobs_of c.run_turn.new.claims) c.args.failed.now c.loop-k.failed c.run_turn.new.failed start now after c.loop-k.invariant.turns.paid c.in_ok-offers.ensures.paid)
 
+pub returns-in_err-keep-clause-ratio : goal.returns-in_err-keep-clause-ratio
+returns-in_err-keep-clause-ratio g c ads small =
+    let turns = c.loop-k.invariant.turns in
+    omega (arith, c.loop-k.invariant.ratio ads small, c.run_turn.ensures.ratio ads (small-offers (offers_in turns.done) (jobs_of c.args.claims.now) (jobs_of c.loop-k.claims) turns.table small))
+
 pub loop-k-preserved : goal.loop-k-preserved
 loop-k-preserved g c =
     let began = jobs_of c.args.claims.now in
@@ -106,6 +118,7 @@ loop-k-preserved g c =
           c.run_turn.new.failed after c.in_ok-offers.ensures.ready
           (paid-on c.args.scene.now.moment (stock_in c.args.scene.now) began jobs (jobs_of c.run_turn.new.claims) c.args.failed.now c.loop-k.failed c.run_turn.new.failed start now after c.loop-k.invariant.turns.paid c.in_ok-offers.ensures.paid);
       clusters = c.in_ok-offers.ensures.clusters;
+      ratio = λ ads small. omega (arith, c.loop-k.invariant.ratio ads small, c.run_turn.ensures.ratio ads (small-offers (offers_in c.loop-k.invariant.turns.done) began jobs c.loop-k.invariant.turns.table small));
     }
 
 pub returns-clause-turns : goal.returns-clause-turns
@@ -131,3 +144,6 @@ pub returns-clause-within : goal.returns-clause-within
 returns-clause-within g c =
     paid-within c.args.scene.now.moment (stock_in c.args.scene.now) (jobs_of c.args.claims.now) (jobs_of c.loop-k.claims) c.args.failed.now c.loop-k.failed
     (counts c.args.tops.now c.args.entry.now c.args.touch.now) (counts c.loop-k.tops c.loop-k.entry c.loop-k.touch) c.loop-k.invariant.turns.paid
+
+pub returns-clause-ratio : goal.returns-clause-ratio
+returns-clause-ratio g c = c.loop-k.invariant.ratio

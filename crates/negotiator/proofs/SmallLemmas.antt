@@ -1,15 +1,11 @@
--- Jobs as small as those that are read stay so through a cycle, and the requests that hold resources are as small.
+-- Jobs as small as those that are read stay so through a cycle.
 use Rattle.std.proofs.Common.{◌≡◌, ℕ, zero, suc, List, [], ◌∷◌, map, slice_get, Option, None, Some, refl, ap, ◌∙◌, subst}
-use Rattle.std.specs.Prelude.{option_and_then, option_map}
+use Rattle.std.specs.Prelude.{option_map}
 use Rattle.std.proofs.lemmas.List.Elements.{All-head, All-tail}
 use Rattle.ad_tree.specs.Ad.{ad_frames}
 use Rattle.ad_tree.specs.Small.{IsSmall}
 use Rattle.ad_tree.specs.declared.request.Request.{Request}
-use Rattle.ad_store.specs.Holdings.{Holding}
-use Rattle.bilateral_match.specs.Small.{AreSmallHolders}
 use Rattle.claim_table.specs.declared.job.Job.{Job}
-use Rattle.claim_table.specs.Holders.{holder_of, holding_in}
-use Rattle.claim_table.specs.Jobs.{claimed_by}
 use Rattle.claim_table.specs.Small.{AreSmallJobs}
 use Rattle.negotiator.specs.Cycle.{Offer}
 use Rattle.negotiator.specs.Markets.{with_offers}
@@ -23,18 +19,6 @@ small-job (j ∷ jobs) zero request at small =
     let same : j.request ≡ request = cc in
     subst (λ (r : Request). IsSmall (ad_frames r.ad)) same (All-head (λ (job : Job). IsSmall (ad_frames job.request.ad)) j jobs small)
 small-job (j ∷ jobs) (suc i) request at small = small-job jobs i request at (All-tail (λ (job : Job). IsSmall (ad_frames job.request.ad)) j jobs small)
-
--- so is that of each holder
-pub small-holders : (jobs : List Job) → AreSmallJobs jobs → AreSmallHolders (holder_of jobs)
-small-holders jobs small slot h is = by (claimed_by slot jobs) is
-  where
-    request-of : (o : Option Job) → option_map (holding_in slot) o ≡ Some h → option_map (λ (job : Job). job.request) o ≡ Some h.request
-    request-of None e = absurd (cc)
-    request-of (Some job) e = let same : holding_in slot job ≡ h = cc in ap (λ (held : Holding). Some held.request) same
-
-    by : (o : Option ℕ) → option_map (holding_in slot) (option_and_then (λ i. slice_get jobs i) o) ≡ Some h → IsSmall (ad_frames h.request.ad)
-    by None e = absurd (cc)
-    by (Some i) e = small-job jobs i h.request (request-of (slice_get jobs i) e) small
 
 -- jobs are small once offers are made to them
 pub small-offers : (made : List (Offer ℕ)) (jobs later : List Job) → later ≡ with_offers made jobs → AreSmallJobs jobs → AreSmallJobs later

@@ -3,11 +3,12 @@ use Rattle.std.proofs.lemmas.Option.{slice_get_read}
 use Rattle.ad_tree.specs.Ad.{ad_frames}
 use Rattle.bilateral_match.specs.Alike.{AreAlike}
 use Rattle.claim_table.specs.Table.{jobs_of}
+use Rattle.claim_table.proofs.SmallLemmas.{holders-small}
 use Rattle.negotiator.specs.declared.clusters.Cluster.{Cluster}
 use Rattle.negotiator.specs.Clusters.{IsCluster, ad_at}
 use Rattle.negotiator.specs.Scenes.{stock_in}
 use Rattle.negotiator.proofs.ClusterLemmas.{best-alike, best-here, job-within, one-changed, one-ranked, one-seen}
-use Rattle.negotiator.proofs.SmallLemmas.{small-holders, small-job}
+use Rattle.negotiator.proofs.SmallLemmas.{small-job}
 use Rattle.negotiator.proofs.clusters.choose.Goals as goal
 
 pub cluster_of-requires : goal.cluster_of-requires
@@ -81,4 +82,4 @@ returns-clause-clusters g c =
 pub returns-clause-ratio : goal.returns-clause-ratio
 returns-clause-ratio g c ads small =
     let jobs = jobs_of c.args.claims.now in
-    c.best.ensures.ratio (small-job jobs c.args.i c.args.request.now c.requires.job small) ads (small-holders jobs small)
+    c.best.ensures.ratio (small-job jobs c.args.i c.args.request.now c.requires.job small) ads (holders-small jobs small)

@@ -1,13 +1,14 @@
 use Rattle.claim_table.specs.Table.{jobs_of}
+use Rattle.claim_table.proofs.SmallLemmas.{holders-small}
 use Rattle.negotiator.specs.Scenes.{stock_in}
 use Rattle.negotiator.proofs.ClusterLemmas.{first-cluster}
-use Rattle.negotiator.proofs.SmallLemmas.{small-holders, small-job}
+use Rattle.negotiator.proofs.SmallLemmas.{small-job}
 use Rattle.negotiator.proofs.clusters.rank.Goals as goal
 
 pub returns-in_err-slots-clause-ratio : goal.returns-in_err-slots-clause-ratio
 returns-in_err-slots-clause-ratio g c ads small =
     let jobs = jobs_of c.args.claims.now in
-    c.shortlist.ensures.ratio (small-job jobs c.args.i c.args.request.now c.requires.job small) ads (small-holders jobs small)
+    c.shortlist.ensures.ratio (small-job jobs c.args.i c.args.request.now c.requires.job small) ads (holders-small jobs small)
 
 pub returns-clause-cluster : goal.returns-clause-cluster
 returns-clause-cluster g c =
@@ -16,4 +17,4 @@ returns-clause-cluster g c =
 pub returns-clause-ratio : goal.returns-clause-ratio
 returns-clause-ratio g c ads small =
     let jobs = jobs_of c.args.claims.now in
-    c.shortlist.ensures.ratio (small-job jobs c.args.i c.args.request.now c.requires.job small) ads (small-holders jobs small)
+    c.shortlist.ensures.ratio (small-job jobs c.args.i c.args.request.now c.requires.job small) ads (holders-small jobs small)

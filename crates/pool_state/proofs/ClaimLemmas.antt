@@ -4,6 +4,7 @@ use Rattle.std.specs.List.{find, list_all}
 use Rattle.std.specs.Option.{option_and_then, option_map_or}
 use Rattle.std.specs.Cmp.Lexicographic.{bytes_decides}
 use Rattle.std.proofs.lemmas.List.Elements.{All-cons, All-head, All-nil, All-tail}
+use Rattle.ad_tree.specs.declared.request.Request.{Request}
 use Rattle.ad_store.specs.Stock.{Stock}
 use Rattle.ad_store.proofs.HeldLemmas.{both}
 use Rattle.claim_table.specs.Answers.{given_back, release_answer}
@@ -28,9 +29,9 @@ use Rattle.pool_state.proofs.FailingLemmas.{failing-seen, failing-stored, found-
 use Rattle.pool_state.proofs.GrantedLemmas.{granted-seen, restood-seen}
 use Rattle.pool_state.proofs.JobLemmas.{found-first}
 use Rattle.pool_state.proofs.LosersLemmas.{idle-seen, losers-seen}
-use Rattle.pool_state.proofs.MatchedLemmas.{IsOwned, owned-standing, standing_next}
+use Rattle.pool_state.proofs.MatchedLemmas.{IsOwned, kept-standing, standing_next}
 use Rattle.pool_state.proofs.NameLemmas.{AreBeside}
-use Rattle.pool_state.proofs.QueueLemmas.{names-mapped}
+use Rattle.pool_state.proofs.QueueLemmas.{RequestIs, names-mapped}
 use Rattle.pool_state.proofs.SlotLemmas.{all-contained, all-lists, lists-contains}
 
 -- ---- what jobs list is in the store
@@ -62,15 +63,15 @@ pub released-stored : (slots : List ℕ) (o : Option ℕ) (jobs : List Job) → 
 released-stored slots None jobs stored = stored
 released-stored slots (Some i) jobs stored = idle-stored slots i jobs stored
 
--- ---- jobs keep the ports that their ads list
+-- ---- jobs keep their requests
 
-owned-idle : (ks : List ℕ) (jobs : List Job) → All IsOwned jobs → All IsOwned (claims.all_idle jobs ks)
-owned-idle [] jobs owned = owned
-owned-idle (k ∷ ks) jobs owned = owned-idle ks (idle_at (Some k) jobs) (owned-standing k Standing.Idle jobs owned)
+kept-idle : (P : Request → Type 0) (ks : List ℕ) (jobs : List Job) → All (RequestIs P) jobs → All (RequestIs P) (claims.all_idle jobs ks)
+kept-idle P [] jobs kept = kept
+kept-idle P (k ∷ ks) jobs kept = kept-idle P ks (idle_at (Some k) jobs) (kept-standing P k Standing.Idle jobs kept)
 
-pub owned-released : (o : Option ℕ) (jobs : List Job) → All IsOwned jobs → All IsOwned (idle_at o jobs)
-owned-released None jobs owned = owned
-owned-released (Some i) jobs owned = owned-standing i Standing.Idle jobs owned
+pub kept-released : (P : Request → Type 0) (o : Option ℕ) (jobs : List Job) → All (RequestIs P) jobs → All (RequestIs P) (idle_at o jobs)
+kept-released P None jobs kept = kept
+kept-released P (Some i) jobs kept = kept-standing P i Standing.Idle jobs kept
 
 -- ---- the job of a name
 
@@ -200,39 +201,39 @@ module _ (stock : Stock) (moment : ℕ) (settings : List Setting) where
 
 -- ---- and after a claim
 
-module _ (moment : ℕ) (stock : Stock) (name : List ℕ) (jobs : List Job) (owned : All IsOwned jobs) where
+module _ (P : Request → Type 0) (moment : ℕ) (stock : Stock) (name : List ℕ) (jobs : List Job) (kept : All (RequestIs P) jobs) where
   abbrev no_job : Answer
   no_job = (Err ClaimFault.NoJob, jobs)
 
-  checked-owned : (i : ℕ) (slots : List ℕ) (o : Option ℕ) → All IsOwned (option_map_or {U = Answer} (λ slot. (Err (ClaimFault.Stale slot), with_standing jobs i Standing.Idle)) o (Ok (claims.freed_all jobs (claims.losers jobs slots)), claims.granted jobs i slots)).1
-  checked-owned i slots None = owned-standing i (Standing.Claimed slots) (claims.all_idle jobs (claims.losers jobs slots)) (owned-idle (claims.losers jobs slots) jobs owned)
-  checked-owned i slots (Some slot) = owned-standing i Standing.Idle jobs owned
+  checked-kept : (i : ℕ) (slots : List ℕ) (o : Option ℕ) → All (RequestIs P) (option_map_or {U = Answer} (λ slot. (Err (ClaimFault.Stale slot), with_standing jobs i Standing.Idle)) o (Ok (claims.freed_all jobs (claims.losers jobs slots)), claims.granted jobs i slots)).1
+  checked-kept i slots None = kept-standing P i (Standing.Claimed slots) (claims.all_idle jobs (claims.losers jobs slots)) (kept-idle P (claims.losers jobs slots) jobs kept)
+  checked-kept i slots (Some slot) = kept-standing P i Standing.Idle jobs kept
 
-  at-owned : (i : ℕ) (job : Job) (s : Standing) → All IsOwned (claims.claimed_at moment stock jobs i (record job { standing = s })).1
-  at-owned i job Standing.Idle = owned
-  at-owned i job (Standing.Claimed slots) = owned
-  at-owned i job (Standing.Matched slots) = checked-owned i slots (claims.first_failing moment stock jobs job.request slots)
+  at-kept : (i : ℕ) (job : Job) (s : Standing) → All (RequestIs P) (claims.claimed_at moment stock jobs i (record job { standing = s })).1
+  at-kept i job Standing.Idle = kept
+  at-kept i job (Standing.Claimed slots) = kept
+  at-kept i job (Standing.Matched slots) = checked-kept i slots (claims.first_failing moment stock jobs job.request slots)
 
-  job-owned : (i : ℕ) (o : Option Job) → All IsOwned (option_map_or {U = Answer} (claims.claimed_at moment stock jobs i) o no_job).1
-  job-owned i None = owned
-  job-owned i (Some job) = at-owned i job job.standing
+  job-kept : (i : ℕ) (o : Option Job) → All (RequestIs P) (option_map_or {U = Answer} (claims.claimed_at moment stock jobs i) o no_job).1
+  job-kept i None = kept
+  job-kept i (Some job) = at-kept i job job.standing
 
-  claimed-owned : All IsOwned (claims.claimed moment stock name jobs).1
-  claimed-owned = by (numbered name jobs)
+  claimed-kept : All (RequestIs P) (claims.claimed moment stock name jobs).1
+  claimed-kept = by (numbered name jobs)
     where
-      by : (o : Option ℕ) → All IsOwned (option_map_or {U = Answer} (λ i. option_map_or (claims.claimed_at moment stock jobs i) (slice_get jobs i) no_job) o no_job).1
-      by None = owned
-      by (Some i) = job-owned i (slice_get jobs i)
+      by : (o : Option ℕ) → All (RequestIs P) (option_map_or {U = Answer} (λ i. option_map_or (claims.claimed_at moment stock jobs i) (slice_get jobs i) no_job) o no_job).1
+      by None = kept
+      by (Some i) = job-kept i (slice_get jobs i)
 
-  after-owned : (answer : Result (List Freed) ClaimFault) (new : List Job) → claims.claimed moment stock name jobs ≡ (answer, new) → All IsOwned new
-  after-owned answer new same = subst (All IsOwned) (ap (λ (x : Answer). x.1) same) claimed-owned
+  after-kept : (answer : Result (List Freed) ClaimFault) (new : List Job) → claims.claimed moment stock name jobs ≡ (answer, new) → All (RequestIs P) new
+  after-kept answer new same = subst (All (RequestIs P)) (ap (λ (x : Answer). x.1) same) claimed-kept
 
-  pub claim-owned : (answer : Result (List Freed) ClaimFault) (new : List Job) → claims.IsClaimed answer jobs new (claims.claimed moment stock name jobs) → All IsOwned new
-  claim-owned (Ok freed) new same = after-owned (Ok freed) new same
-  claim-owned (Err ClaimFault.NoJob) new same = after-owned (Err ClaimFault.NoJob) new same
-  claim-owned (Err (ClaimFault.WrongState state)) new same = after-owned (Err (ClaimFault.WrongState state)) new same
-  claim-owned (Err (ClaimFault.Stale slot)) new same = after-owned (Err (ClaimFault.Stale slot)) new same
-  claim-owned (Err ClaimFault.OutOfMemory) new same = subst (All IsOwned) (sym same) owned
+  pub claim-kept : (answer : Result (List Freed) ClaimFault) (new : List Job) → claims.IsClaimed answer jobs new (claims.claimed moment stock name jobs) → All (RequestIs P) new
+  claim-kept (Ok freed) new same = after-kept (Ok freed) new same
+  claim-kept (Err ClaimFault.NoJob) new same = after-kept (Err ClaimFault.NoJob) new same
+  claim-kept (Err (ClaimFault.WrongState state)) new same = after-kept (Err (ClaimFault.WrongState state)) new same
+  claim-kept (Err (ClaimFault.Stale slot)) new same = after-kept (Err (ClaimFault.Stale slot)) new same
+  claim-kept (Err ClaimFault.OutOfMemory) new same = subst (All (RequestIs P)) (sym same) kept
 
 -- ---- releases
 
@@ -287,11 +288,6 @@ module _ (stock : Stock) (moment : ℕ) (settings : List Setting) (name : List �
   pub released : (r : Result (List ℕ) JobFault) (later : List Job) → r ≡ release_answer name jobs → OnOk r (later ≡ idle_at (numbered name jobs) jobs) → OnErr r (later ≡ jobs) → IsReleaseAnswer (here jobs) name (here later) r
   released (Ok slots) later is ok err = subst (λ (js : List Job). IsReleaseAnswer (here jobs) name (here js) (Ok slots)) (sym ok) (subst IsFree (sym is) release-seen)
   released (Err fault) later is ok err = subst (λ (js : List Job). IsReleaseAnswer (here jobs) name (here js) (Err fault)) (sym err) (subst IsFree (sym is) release-seen)
-
--- in any case what is left is stored, and keeps its ports
-pub either-released : {T E : Type 0} (slots : List ℕ) (o : Option ℕ) (jobs later : List Job) (r : Result T E) → OnOk r (later ≡ idle_at o jobs) → OnErr r (later ≡ jobs) → are_stored slots jobs ≡ true → All IsOwned jobs → (are_stored slots later ≡ true) × All IsOwned later
-either-released slots o jobs later (Ok x) ok err stored owned = (ap (are_stored slots) ok ∙ released-stored slots o jobs stored, subst (All IsOwned) (sym ok) (owned-released o jobs owned))
-either-released slots o jobs later (Err e) ok err stored owned = (ap (are_stored slots) err ∙ stored, subst (All IsOwned) (sym err) owned)
 
 -- ---- replies
 

@@ -1,7 +1,6 @@
 -- Names that listen, and the rows of a desk that commands leave on it.
-use Rattle.std.proofs.Common.{◌≡◌, ◌≢◌, ◌↔◌, ℕ, Bool, true, false, not, ◌||◌, cond, List, [], ◌∷◌, ◌++◌, Option, None, Some, is_some, IsSome, IsTrue, IfOk, OnOk, Result, Ok, Err, bytes_eq, refl, true≢false, sym, ◌∙◌, ap, subst, inl, inr}
+use Rattle.std.proofs.Common.{◌≡◌, ◌≢◌, ◌↔◌, ℕ, Bool, true, false, not, ◌||◌, cond, List, [], ◌∷◌, ◌++◌, Option, None, Some, is_some, IsSome, IsTrue, IfOk, OnOk, Result, Ok, Err, bytes_eq, refl, true≢false, sym, ◌∙◌, ap, subst}
 use Rattle.std.specs.List.{AllZip}
-use Rattle.std.proofs.lemmas.Bool.{cases_Bool}
 use Rattle.notice_desk.specs.Desk.{Row, failures_under, names_of, without}
 use Rattle.pool_script.specs.declared.command.Command.{Command}
 use Rattle.pool_script.specs.declared.command.Command.TheVariants as command

@@ -1,9 +1,10 @@
 -- The jobs of a state behind the changes of a table.
-use Rattle.std.proofs.Common.{◌≡◌, ℕ, suc, All, Bool, true, false, not, ◌||◌, cond, eqb, List, [], ◌∷◌, filter, find, length, map, position, slice_get, Option, None, Some, option_map, is_some, Result, Err, bytes_eq, refl, sym, ◌∙◌, ap}
+use Rattle.std.proofs.Common.{◌≡◌, ℕ, suc, All, Bool, true, false, not, ◌||◌, cond, eqb, List, [], ◌∷◌, filter, find, length, map, position, slice_get, Option, None, Some, option_map, is_some, Result, Ok, Err, OnErr, OnOk, bytes_eq, refl, sym, ◌∙◌, ap, subst}
 use Rattle.std.specs.List.{list_all, list_any}
 use Rattle.std.specs.Option.{option_and_then, option_map_or}
 use Rattle.std.specs.Result.{is_ok}
 use Rattle.std.specs.Cmp.Lexicographic.{bytes_decides}
+use Rattle.ad_tree.specs.declared.request.Request.{Request}
 use Rattle.ad_store.specs.Answers.{is_added, slots_put}
 use Rattle.ad_store.specs.declared.answers.Put.{Put}
 use Rattle.ad_store.specs.Stock.{Advert, Stock, has, is_named as is_advert, placed, slot_beside, slots_without, without}
@@ -14,12 +15,11 @@ use Rattle.claim_table.specs.Answers.{without_at}
 use Rattle.claim_table.specs.Jobs.{AreNamedApart, claim_of, claimed_by as claimer, is_named, job_named, lists, numbered, offer_of, offered_to as offeree, slots_of}
 use Rattle.claim_table.proofs.ListLemmas.{All-remove}
 use Rattle.pool_state.specs.Pool.{name_in, named_standing, queued}
-use Rattle.pool_state.specs.Ports.{HasOwnPorts}
 use Rattle.pool_state.specs.Queue.{claim_names, claimed_by, has_job, is_job, is_listed, names_of, offer_names, offered_to, without_job, without_resources}
 use Rattle.pool_state.specs.State.{JobStanding, QueuedJob, idle}
 use Rattle.pool_state.specs.Stored.{are_stored, is_stored}
 use Rattle.pool_state.proofs.NameLemmas.{AreBeside, beside-is, beside-put, beside-without, listed-named, lists-put, lists-without, named_beside}
-use Rattle.pool_state.proofs.QueueLemmas.{AtMostOne, all_kept, all_more, any-map, filter-map, freed, idle_job, names-mapped, once_behind, none_behind, position-cons, queue-same}
+use Rattle.pool_state.proofs.QueueLemmas.{AtMostOne, RequestIs, all_kept, all_more, any-map, filter-map, freed, idle_job, names-mapped, once_behind, none_behind, position-cons, queue-same}
 
 -- ---- an ad that is put
 
@@ -125,9 +125,16 @@ pub stored-without : (slots : List ℕ) (name : List ℕ) (jobs : List Job) → 
 stored-without slots name jobs apart stored =
     ap (are_stored slots) (without_at-filter (is_named name) jobs (named_once name jobs apart)) ∙ all_kept (is_stored slots) (λ job. not (is_named name job)) jobs stored
 
-pub owned-without : (o : Option ℕ) (jobs : List Job) → All (λ job. HasOwnPorts job.request) jobs → All (λ job. HasOwnPorts job.request) (without_at o jobs)
-owned-without None jobs owned = owned
-owned-without (Some i) jobs owned = All-remove (λ job. HasOwnPorts job.request) jobs i owned
+pub kept-without : (P : Request → Type 0) (o : Option ℕ) (jobs : List Job) → All (RequestIs P) jobs → All (RequestIs P) (without_at o jobs)
+kept-without P None jobs kept = kept
+kept-without P (Some i) jobs kept = All-remove (RequestIs P) jobs i kept
+
+-- ---- a change that may fail
+
+-- what is so of the jobs before it and after it, is so of those that are left
+pub either-way : {T E : Type 0} (P : List Job → Type 0) (r : Result T E) (jobs done later : List Job) → OnOk r (later ≡ done) → OnErr r (later ≡ jobs) → P done → P jobs → P later
+either-way P (Ok x) jobs done later ok err after before = subst P (sym ok) after
+either-way P (Err e) jobs done later ok err after before = subst P (sym err) before
 
 -- ---- the job of a name
 

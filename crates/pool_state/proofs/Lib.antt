@@ -23,6 +23,7 @@ mod PortLemmas
 mod QueueLemmas
 mod RowLemmas
 mod SlotLemmas
+mod SmallLemmas
 mod SpinRowLemmas
 mod StepLemmas
 mod SubmitLemmas

@@ -1,6 +1,6 @@
 -- The jobs that lose their resources, by slots and by names, and what is told of them.
-use Rattle.std.proofs.Common.{◌≡◌, ℕ, zero, suc, ◌+◌, ◌<◌, All, Bool, true, false, not, ◌||◌, cond, List, [], ◌∷◌, ◌++◌, codes, filter, find, fold, length, map, position, slice_get, take, Contains, Option, None, Some, option_map, Result, Ok, Err, IfSome, OnOk, bytes_eq, refl, sym, ◌∙◌, ap, subst, arith}
-use Rattle.std.specs.List.{list_all, list_any, position_or_len}
+use Rattle.std.proofs.Common.{◌≡◌, ℕ, zero, suc, ◌+◌, ◌<◌, All, Bool, true, false, not, ◌||◌, cond, List, [], ◌∷◌, ◌++◌, codes, length, map, position, slice_get, take, Contains, Option, None, Some, option_map, Result, Ok, Err, IfSome, OnOk, refl, sym, ◌∙◌, ap, arith}
+use Rattle.std.specs.List.{list_all, list_any}
 use Rattle.std.specs.Option.{option_and_then, option_map_or}
 use Rattle.std.proofs.lemmas.List.{append-nil, map-append}
 use Rattle.std.proofs.lemmas.List.Elements.{All-push, filter-append}
@@ -11,7 +11,7 @@ use Rattle.ad_store.specs.Stock.{Advert, Stock, is_live}
 use Rattle.ad_store.proofs.HeldLemmas.{both, neither}
 use Rattle.claim_table.specs.declared.job.Job.{Job}
 use Rattle.claim_table.specs.Claims.{once}
-use Rattle.claim_table.specs.Jobs.{AreNamedApart, claim_of, claimed_by as claimer, is_named, job_named as job_numbered, lists, numbered, offer_of, offered_to as offeree, slots_of}
+use Rattle.claim_table.specs.Jobs.{AreNamedApart, claim_of, claimed_by as claimer, job_named as job_numbered, lists, numbered, offer_of, offered_to as offeree, slots_of}
 use Rattle.claim_table.proofs.ListLemmas.{position-map}
 use Rattle.pool_state.specs.declared.posting.Notice.{Notice}
 use Rattle.pool_state.specs.ClaimAnswers.{names_given}

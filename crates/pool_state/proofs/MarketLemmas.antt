@@ -23,12 +23,12 @@ use Rattle.pool_replies.specs.declared.reply.Reply.TheVariants as reply
 use Rattle.pool_replies.specs.declared.rows.SpinRow.{SpinRow}
 use Rattle.pool_state.specs.Negotiation as seen
 use Rattle.pool_state.specs.Pool.{name_in, named_standing, queued}
-use Rattle.pool_state.specs.Ports.{ports_in}
+use Rattle.pool_state.specs.Ports.{HasOwnPorts, ports_in}
 use Rattle.pool_state.specs.Rows as rows
 use Rattle.pool_state.specs.State.{QueuedJob, State}
 use Rattle.pool_state.specs.Stored.{are_stored}
 use Rattle.pool_state.proofs.FoundLemmas.{find-seen}
-use Rattle.pool_state.proofs.MatchedLemmas.{AreOffered, IsOffered, IsOwned, offers-seen, owned-offers, stored-offers}
+use Rattle.pool_state.proofs.MatchedLemmas.{AreOffered, IsOffered, IsOwned, kept-offers, offers-seen, stored-offers}
 use Rattle.pool_state.proofs.NameLemmas.{AreBeside}
 use Rattle.pool_state.proofs.PoolLemmas.{docks-seen, free-seen, open-seen}
 use Rattle.pool_state.proofs.SpinRowLemmas.{spin-rows}
@@ -81,7 +81,7 @@ module _ (stock : Stock) (beside : AreBeside stock.ads stock.slots) (moment : �
   then_stored made offered = stored-offers stock.slots made jobs offered stored
 
   then_owned : (made : List (Offer ℕ)) → All IsOwned (market.with_offers made jobs)
-  then_owned made = owned-offers made jobs owned
+  then_owned made = kept-offers HasOwnPorts made jobs owned
 
   renames : IsRenamed (name_in stock) here (seen.market_in state) (AreOffered stock.slots)
   renames = record {

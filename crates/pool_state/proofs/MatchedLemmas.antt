@@ -4,6 +4,7 @@ use Rattle.std.specs.List.{list_all}
 use Rattle.std.specs.Option.{option_map_or}
 use Rattle.std.proofs.lemmas.List.{append-nil}
 use Rattle.std.proofs.lemmas.List.Elements.{All-cons, All-head, All-nil, All-tail}
+use Rattle.ad_tree.specs.declared.request.Request.{Request}
 use Rattle.ad_store.specs.Stock.{Stock}
 use Rattle.ad_store.proofs.HeldLemmas.{both}
 use Rattle.claim_table.specs.declared.job.Job.{Job}
@@ -17,6 +18,7 @@ use Rattle.pool_state.specs.Pool.{name_in, queued}
 use Rattle.pool_state.specs.Ports.{HasOwnPorts}
 use Rattle.pool_state.specs.State.{JobStanding, QueuedJob}
 use Rattle.pool_state.specs.Stored.{are_stored, is_stored}
+use Rattle.pool_state.proofs.QueueLemmas.{RequestIs}
 use Rattle.pool_state.proofs.SlotLemmas.{all-lists}
 
 -- ---- offers, seen by names
@@ -72,21 +74,22 @@ stored-offers slots (o ∷ os) jobs offered stored =
     stored-offers slots os (with_standing jobs o.job (Standing.Matched o.resources)) (All-tail (IsOffered slots) o os offered)
     (stored-standing slots o.job o.resources jobs (all-lists slots o.resources (All-head (IsOffered slots) o os offered)) stored)
 
--- ---- jobs keep the ports that their ads list
+-- ---- jobs keep their requests
 
+-- a job has the ports that its ad lists
 abbrev pub IsOwned : Job → Type 0
 IsOwned job = HasOwnPorts job.request
 
-pub owned-standing : (i : ℕ) (standing : Standing) (jobs : List Job) → All IsOwned jobs → All IsOwned (with_standing jobs i standing)
-owned-standing i standing [] owned = owned
-owned-standing zero standing (x ∷ xs) owned = All-cons IsOwned (record x { standing = standing }) xs (All-head IsOwned x xs owned) (All-tail IsOwned x xs owned)
-owned-standing (suc i) standing (x ∷ xs) owned =
-    subst (All IsOwned) (sym (standing_next (slice_get xs i) x xs i standing))
-    (All-cons IsOwned x (with_standing xs i standing) (All-head IsOwned x xs owned) (owned-standing i standing xs (All-tail IsOwned x xs owned)))
+pub kept-standing : (P : Request → Type 0) (i : ℕ) (standing : Standing) (jobs : List Job) → All (RequestIs P) jobs → All (RequestIs P) (with_standing jobs i standing)
+kept-standing P i standing [] kept = kept
+kept-standing P zero standing (x ∷ xs) kept = All-cons (RequestIs P) (record x { standing = standing }) xs (All-head (RequestIs P) x xs kept) (All-tail (RequestIs P) x xs kept)
+kept-standing P (suc i) standing (x ∷ xs) kept =
+    subst (All (RequestIs P)) (sym (standing_next (slice_get xs i) x xs i standing))
+    (All-cons (RequestIs P) x (with_standing xs i standing) (All-head (RequestIs P) x xs kept) (kept-standing P i standing xs (All-tail (RequestIs P) x xs kept)))
 
-pub owned-offers : (made : List (Offer ℕ)) (jobs : List Job) → All IsOwned jobs → All IsOwned (market.with_offers made jobs)
-owned-offers [] jobs owned = owned
-owned-offers (o ∷ os) jobs owned = owned-offers os (with_standing jobs o.job (Standing.Matched o.resources)) (owned-standing o.job (Standing.Matched o.resources) jobs owned)
+pub kept-offers : (P : Request → Type 0) (made : List (Offer ℕ)) (jobs : List Job) → All (RequestIs P) jobs → All (RequestIs P) (market.with_offers made jobs)
+kept-offers P [] jobs kept = kept
+kept-offers P (o ∷ os) jobs kept = kept-offers P os (with_standing jobs o.job (Standing.Matched o.resources)) (kept-standing P o.job (Standing.Matched o.resources) jobs kept)
 
 -- ---- where memory was wanting, the first offers are made
 
@@ -108,5 +111,5 @@ part-stored slots offers jobs later part offered stored =
     ap (are_stored slots) part.made
     ∙ stored-offers slots part.front jobs (front-all (IsOffered slots) part.front part.rest (subst (AreOffered slots) part.all offered)) stored
 
-pub part-owned : (offers : List (Offer ℕ)) (jobs later : List Job) → market.IsPart offers jobs later → All IsOwned jobs → All IsOwned later
-part-owned offers jobs later part owned = subst (All IsOwned) (sym part.made) (owned-offers part.front jobs owned)
+pub part-kept : (P : Request → Type 0) (offers : List (Offer ℕ)) (jobs later : List Job) → market.IsPart offers jobs later → All (RequestIs P) jobs → All (RequestIs P) later
+part-kept P offers jobs later part kept = subst (All (RequestIs P)) (sym part.made) (kept-offers P part.front jobs kept)

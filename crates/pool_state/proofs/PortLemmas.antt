@@ -1,7 +1,7 @@
 -- The ports of a job, as its ad lists them.
-use Rattle.std.proofs.Common.{◌≡◌, All, List, [], ◌∷◌, ◌++◌, Option, None, Some, Result, Ok, Err, OnErr, OnOk, refl, sym, ◌∙◌, ap, subst}
+use Rattle.std.proofs.Common.{◌≡◌, All, List, [], ◌∷◌, Option, None, Some, refl, sym, ◌∙◌, ap}
 use Rattle.std.specs.Option.{option_map_or}
-use Rattle.std.proofs.lemmas.List.Elements.{All-push, All-weaker}
+use Rattle.std.proofs.lemmas.List.Elements.{All-weaker}
 use Rattle.ad_tree.specs.Ad.{ad_frames}
 use Rattle.ad_tree.specs.Frames.{Frame}
 use Rattle.ad_tree.specs.declared.request.Port.{Port}
@@ -23,8 +23,3 @@ own-ports frames ports own = by ports (ports_of frames) refl own
 pub all-own : (jobs : List Job) → All IsOwned jobs → All (λ job. AreOwn (ad_frames job.request.ad) job.request.ports) jobs
 all-own jobs owned =
     All-weaker IsOwned (λ (job : Job). AreOwn (ad_frames job.request.ad) job.request.ports) (λ job own. own-ports (ad_frames job.request.ad) job.request.ports own) jobs owned
-
--- one more job has its own ports, where it is taken
-pub submitted-owned : {T E : Type 0} (r : Result T E) (jobs later : List Job) (job : Job) → OnOk r (later ≡ jobs ++ job ∷ []) → OnErr r (later ≡ jobs) → All IsOwned jobs → IsOwned job → All IsOwned later
-submitted-owned (Ok x) jobs later job ok err owned own = subst (All IsOwned) (sym ok) (All-push IsOwned jobs job owned own)
-submitted-owned (Err e) jobs later job ok err owned own = subst (All IsOwned) (sym err) owned

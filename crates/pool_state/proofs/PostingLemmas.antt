@@ -1,5 +1,5 @@
 -- Posts one after the other.
-use Rattle.std.proofs.Common.{◌≡◌, ◌≢◌, ◌⊎◌, ◌≤◌, ◌<◌, ℕ, suc, zero, ◌+◌, Bool, true, false, cond, List, [], ◌∷◌, ◌++◌, filter, fold, get_or, length, map, take, Option, None, Some, option_map, bytes_eq, refl, sym, ◌∙◌, ap, subst, inl, inr, arith, add-one, append_assoc, true≢false, slice_get}
+use Rattle.std.proofs.Common.{◌≡◌, ◌≢◌, ◌≤◌, ◌<◌, ℕ, suc, zero, ◌+◌, Bool, true, false, cond, List, [], ◌∷◌, ◌++◌, length, map, take, Option, None, Some, option_map, bytes_eq, refl, sym, ◌∙◌, ap, subst, inl, inr, arith, add-one, append_assoc, true≢false, slice_get}
 use Rattle.std.specs.List.{AllZip, flat_map}
 use Rattle.std.proofs.lemmas.Bool.{cases_Bool, false_from_ne_true}
 use Rattle.std.proofs.lemmas.Grind.{flat_map-append}
@@ -9,8 +9,7 @@ use Rattle.std.proofs.lemmas.List.Sums.{fold-append}
 use Rattle.std.proofs.lemmas.Slice.Eq.{bytes_eq-Decides}
 use Rattle.pool_io.specs.Flow.{Rose}
 use Rattle.pool_io.specs.Memory.{next_count}
-use Rattle.notice_desk.specs.Desk.{Held, HeldPosts, Posts, Row, RowPosts, failures_after, retired, unmarked}
-use Rattle.notice_desk.specs.Mail.{Taking}
+use Rattle.notice_desk.specs.Desk.{Held, HeldPosts, Posts, Row, failures_after, retired, unmarked}
 use Rattle.notice_desk.specs.declared.notices.PostEnd.{PostEnd}
 use Rattle.notice_desk.specs.declared.notices.PostEnd.TheVariants.{NoBox, Delivered, Failed}
 use Rattle.pool_state.specs.Posting.{HeldAfter, Kept, Post, RowAfter, calls_after, lines_to, post_to, with_feeds}

@@ -4,13 +4,13 @@ use Rattle.std.specs.List.{list_all, list_any, position_or_len}
 use Rattle.std.specs.Option.{option_map_or}
 use Rattle.std.proofs.lemmas.Bool.Decides.{nat_tests}
 use Rattle.std.proofs.lemmas.List.Elements.{All-map}
+use Rattle.ad_tree.specs.declared.request.Request.{Request}
 use Rattle.ad_store.specs.Stock.{Stock}
 use Rattle.ad_store.proofs.HeldLemmas.{both, neither}
 use Rattle.claim_table.specs.declared.job.Job.{Job}
 use Rattle.claim_table.specs.declared.job.Standing.{Standing}
 use Rattle.claim_table.specs.Jobs.{AreExclusive, claim_of, claimed_by as claimer, idle_at, lists, lost, offer_of, offered_to as offeree, slots_of}
 use Rattle.pool_state.specs.Pool.{name_in, named_standing, queued}
-use Rattle.pool_state.specs.Ports.{HasOwnPorts}
 use Rattle.pool_state.specs.Queue.{names_of}
 use Rattle.pool_state.specs.State.{JobStanding}
 use Rattle.pool_state.specs.Stored.{are_stored, is_stored}
@@ -181,16 +181,21 @@ freed-stored slots fewer slot stay (job ∷ jobs) stored =
     one true is held = refl
     one false is held = others_stored slots fewer slot stay (slots_of job.standing) is held
 
-pub freed-owned : (slot : ℕ) (jobs : List Job) → All (λ job. HasOwnPorts job.request) jobs → All (λ job. HasOwnPorts job.request) (map (freed slot) jobs)
-freed-owned slot jobs owned = All-map (λ job. HasOwnPorts job.request) (freed slot) jobs (λ k d within. same (slice_index k d) (owned k d within))
+-- the request of the job is so
+abbrev pub RequestIs : (Request → Type 0) → Job → Type 0
+RequestIs P job = P job.request
+
+-- jobs keep their requests
+pub freed-kept : (P : Request → Type 0) (slot : ℕ) (jobs : List Job) → All (RequestIs P) jobs → All (RequestIs P) (map (freed slot) jobs)
+freed-kept P slot jobs kept = All-map (RequestIs P) (freed slot) jobs (λ k d within. same (slice_index k d) (kept k d within))
   where
     slice_index : ℕ → Job → Job
     slice_index k d = get_or jobs k d
 
-    same : (job : Job) → HasOwnPorts job.request → HasOwnPorts (freed slot job).request
+    same : (job : Job) → P job.request → P (freed slot job).request
     same job holds = by (lists (slots_of job.standing) slot)
       where
-        by : (b : Bool) → HasOwnPorts (cond b (idle_job job) job).request
+        by : (b : Bool) → P (cond b (idle_job job) job).request
         by true = holds
         by false = holds
 

@@ -4,6 +4,8 @@ ghost use Rattle.ad_store.specs.Answers.{is_added};
 ghost use Rattle.ad_store.specs.Stock.{first_expired, has, lack, placed, without};
 ghost use Rattle.ad_store.specs.Store.{stock_of};
 ghost use Rattle.ad_tree.specs.Ad.{ad_frames};
+ghost use Rattle.ad_tree.specs.Small.{IsSmall};
+ghost use Rattle.claim_table.specs.Small.{AreSmallJobs};
 ghost use Rattle.claim_table.specs.Table.{jobs_of};
 ghost use Rattle.negotiator.specs.Priorities.{Setting};
 ghost use Rattle.negotiator.specs.Settings.{settings_of};
@@ -26,14 +28,15 @@ use pool_text::{OutOfMemory, Slots};
 use std::alloc::Global;
 use std::sync::ledger::Ledger;
 
-/// The ads, and the jobs with what is offered to them and claimed by them. What a job has is held, and its ports are those that
-/// its ad lists.
+/// The ads, and the jobs with what is offered to them and claimed by them. What a job has is held, its ports are those that its
+/// ad lists, and its ad has no more than 1,024 attributes.
 #[derive(Drop)]
 pub(crate) struct Books {
     pub(crate) ads: IndexedStore,
     pub(crate) claims: ClaimTable,
     ghost listed: { IsTrue (are_stored (stock_of ads.store).slots (jobs_of claims)) },
     ghost owned: { All (λ job. HasOwnPorts job.request) (jobs_of claims) },
+    ghost small: { AreSmallJobs (jobs_of claims) },
 }
 
 impl Books {
@@ -81,6 +84,7 @@ impl Books {
         ad: Ad,
         touch: &mut Steps<T>,
     ) -> Result<Put, PutFault>
+        requires small { IsSmall (ad_frames ad) }
         ensures ads { OnOk result (ads_of self.new.ads
             ≡ placed (record { name = name.now; born = born; lifetime = lifetime; size = text_len; ad = ad_frames ad }) (ads_of self.old.ads)) }
         ensures jobs { OnOk result (queue_of self.new ≡ queue_of self.old) }
@@ -180,6 +184,7 @@ impl Books {
     ) -> Result<(), OutOfMemory>
         requires room { job_refusal name.now text_len (queue_of self.old) ≡ None }
         requires own { HasOwnPorts request }
+        requires small { IsSmall (ad_frames request.ad) }
         ensures jobs { OnOk result (queue_of self.new ≡ queue_of self.old
             ++ (record { name = name.now; user = user.now; size = text_len; ad = ad_frames request.ad; standing = idle }) ∷ []) }
         ensures ads { self.new.ads ≡ self.old.ads }
@@ -215,6 +220,7 @@ impl Books {
             → steps.negotiate (state_with moment (settings_of priorities.now) self.old) ≡ (state_with moment (settings_of priorities.now) self.new, Reply.Cycle rows)) }
         ensures held { IfOk result (All (IsSpinHeld (stock_of self.old.ads.store).slots)) }
         ensures cost { tops.new ≤ tops.old + 5 * steps.undecided_for_jobs (state_with moment (settings_of priorities.now) self.old) }
+        ensures ratio { entry.new + 9216 * tops.old ≤ entry.old + 9216 * tops.new }
         ensures looks { touch.new ≤ touch.old + 9 * steps.narrowest_for_jobs (state_with moment (settings_of priorities.now) self.old) }
     {
         self.ads.store.names_are_apart();
@@ -248,6 +254,7 @@ impl Books {
         ensures claim { (priorities : List Setting)
             → IsClaimAnswer (stock_of self.old.ads.store) (state_with moment priorities self.old) name.now (state_with moment priorities self.new) result }
         ensures cost { (priorities : List Setting) → tops.new ≤ tops.old + 4 * undecided_for_claim (state_with moment priorities self.old) name.now }
+        ensures ratio { entry.new + 9216 * tops.old ≤ entry.old + 9216 * tops.new }
         ensures looks { (priorities : List Setting) → touch.new ≤ touch.old + 9 * offered_for_claim (state_with moment priorities self.old) name.now }
     {
         self.ads.store.names_are_apart();

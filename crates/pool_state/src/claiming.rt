@@ -38,6 +38,7 @@ pub(crate) fn claim<F: Ledger, E: Ledger, T: Ledger>(
         → steps.claim (state_with moment priorities books.old) job.now ≡ (state_with moment priorities books.new, reply)) }
     ensures printable { IfOk result (λ reply. IsTrue (is_printable reply)) }
     ensures cost { (priorities : List Setting) → tops.new ≤ tops.old + 4 * steps.undecided_for_claim (state_with moment priorities books.old) job.now }
+    ensures ratio { entry.new + 9216 * tops.old ≤ entry.old + 9216 * tops.new }
     ensures looks { (priorities : List Setting) → touch.new ≤ touch.old + 9 * steps.offered_for_claim (state_with moment priorities books.old) job.now }
 {
     let named = job.copy()?;

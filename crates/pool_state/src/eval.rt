@@ -1,9 +1,11 @@
 // The values of expressions, alone or beside an ad.
-ghost use Rattle.std.specs.Prelude.{◌≡◌, ◌+◌, ◌≤◌, [], IfOk, IsTrue};
+ghost use Rattle.std.specs.Prelude.{◌≡◌, ◌+◌, ◌*◌, ◌≤◌, [], IfOk, IsTrue};
 ghost use Rattle.ad_parser.proofs.Outcomes.{expr_outcome};
 ghost use Rattle.ad_store.specs.Store.{stock_of};
 ghost use Rattle.ad_tree.specs.Ad.{ad_frames};
+ghost use Rattle.ad_tree.specs.Small.{IsSmall};
 ghost use Rattle.ad_tree.specs.Tree.{tree};
+ghost use Rattle.bilateral_match.specs.Small.{AreSmallAds};
 ghost use Rattle.pool_script.specs.Form.{is_expr};
 ghost use Rattle.pool_replies.specs.Replies.{is_printable};
 ghost use Rattle.pool_state.specs.Step as steps;
@@ -34,6 +36,7 @@ pub(crate) fn eval<F: Ledger, E: Ledger>(
     ensures reply { IfOk result (λ reply. steps.eval moment (expr_outcome expr.now) ≡ reply) }
     ensures printable { IfOk result (λ reply. IsTrue (is_printable reply)) }
     ensures cost { tops.new ≤ tops.old + 1 }
+    ensures ratio { entry.new + 9216 * tops.old ≤ entry.old + 9216 * tops.new }
 {
     let phrase = match parse_expr(alloc, expr) {
         Ok(phrase) => phrase,
@@ -61,6 +64,7 @@ pub(crate) fn eval_in<F: Ledger, E: Ledger, T: Ledger>(
     ensures reply { IfOk result (λ reply. steps.eval_in moment (stock_of store.now).ads name.now (expr_outcome expr.now) ≡ reply) }
     ensures printable { IfOk result (λ reply. IsTrue (is_printable reply)) }
     ensures cost { tops.new ≤ tops.old + 1 }
+    ensures ratio { AreSmallAds (stock_of store.now).ads → entry.new + 9216 * tops.old ≤ entry.old + 9216 * tops.new }
     ensures looks { touch.new ≤ touch.old + 1 }
 {
     let phrase = match parse_expr(alloc, expr) {
@@ -88,6 +92,7 @@ fn eval_beside<F: Ledger, E: Ledger, T: Ledger>(
         (steps.ad_named name.now (stock_of store.now).ads) ≡ reply) }
     ensures printable { IfOk result (λ reply. IsTrue (is_printable reply)) }
     ensures cost { tops.new ≤ tops.old + 1 }
+    ensures ratio { IsSmall (ad_frames phrase.now.ad) → AreSmallAds (stock_of store.now).ads → entry.new + 9216 * tops.old ≤ entry.old + 9216 * tops.new }
     ensures looks { touch.new ≤ touch.old + 1 }
 {
     let Some(slot) = store.slot_of(name) else {
@@ -112,6 +117,7 @@ fn value_alone<'a, F: Ledger, E: Ledger>(
     ensures text { IfOk result (λ text.
         text ≡ steps.value_line moment (ad_frames phrase.now.ad) (tree phrase.now.expr) None) }
     ensures cost { tops.new ≤ tops.old + 1 }
+    ensures ratio { IsSmall (ad_frames phrase.now.ad) → entry.new + 9216 * tops.old ≤ entry.old + 9216 * tops.new }
 {
     let world = World::new(moment, &phrase.ad, ports);
     let root = AdPlace { ad: 0, frame: 0 };
@@ -133,6 +139,7 @@ fn value_beside<'a, F: Ledger, E: Ledger>(
     ensures text { IfOk result (λ text.
         text ≡ steps.value_line moment (ad_frames phrase.now.ad) (tree phrase.now.expr) (Some (ad_frames ad.now))) }
     ensures cost { tops.new ≤ tops.old + 1 }
+    ensures ratio { IsSmall (ad_frames phrase.now.ad) → IsSmall (ad_frames ad.now) → entry.new + 9216 * tops.old ≤ entry.old + 9216 * tops.new }
 {
     let world = World::new(moment, &phrase.ad, ports).with(ad);
     let root = AdPlace { ad: 0, frame: 0 };

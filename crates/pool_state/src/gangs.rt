@@ -3,6 +3,7 @@ ghost use Rattle.std.specs.Prelude.{◌≡◌, ◌+◌, ◌*◌, ◌≤◌, IfOk
 ghost use Rattle.ad_parser.proofs.Outcomes.{ad_outcome};
 ghost use Rattle.ad_tree.specs.Ad.{ad_frames};
 ghost use Rattle.ad_tree.specs.Requests.{ArePorts};
+ghost use Rattle.ad_tree.specs.Small.{IsSmall};
 ghost use Rattle.gang_ports.specs.Gangs.{looks_most};
 ghost use Rattle.gang_ports.specs.Ports.{ports_of};
 ghost use Rattle.pool_script.specs.Form.{is_block_text};
@@ -42,6 +43,7 @@ pub(crate) fn gang<F: Ledger, E: Ledger, T: Ledger>(
     ensures reply { IfOk result (λ reply. steps.gang moment (ads_of books.now.ads) (queue_of books.now) (ad_outcome block.now) ≡ reply) }
     ensures printable { IfOk result (λ reply. IsTrue (is_printable reply)) }
     ensures cost { tops.new ≤ tops.old + 3 * steps.undecided_for_gang moment (ads_of books.now.ads) (queue_of books.now) (ad_outcome block.now) }
+    ensures ratio { entry.new + 9216 * tops.old ≤ entry.old + 9216 * tops.new }
     ensures looks { touch.new ≤ touch.old + steps.narrowest_for_gang (ads_of books.now.ads) (ad_outcome block.now) }
 {
     let ad = match parse_ad(alloc, block) {
@@ -84,6 +86,7 @@ fn gang_names<F: Ledger, E: Ledger, T: Ledger>(
         ≡ steps.gang_names moment (ads_of books.now.ads) (queue_of books.now) (ad_frames request.now.ad) request.now.ports) }
     ensures cost { tops.new ≤ tops.old
         + 3 * steps.open_docks_of (pool_in moment (ads_of books.now.ads) (queue_of books.now)) (ad_frames request.now.ad) request.now.ports }
+    ensures ratio { IsSmall (ad_frames request.now.ad) → entry.new + 9216 * tops.old ≤ entry.old + 9216 * tops.new }
     ensures looks { touch.new ≤ touch.old + looks_most (ads_of books.now.ads) (ad_frames request.now.ad) request.now.ports }
 {
     let ads = &books.ads;

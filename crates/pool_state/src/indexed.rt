@@ -5,8 +5,10 @@ ghost use Rattle.ad_store.specs.Answers.{is_added, slots_put};
 ghost use Rattle.ad_store.specs.Stock.{has, lack, placed, slots_without, without};
 ghost use Rattle.ad_store.specs.Store.{stock_of};
 ghost use Rattle.ad_tree.specs.Ad.{ad_frames};
+ghost use Rattle.ad_tree.specs.Small.{IsSmall};
 ghost use Rattle.literal_index.specs.Shown.{IsIndex};
 ghost use Rattle.bilateral_match.specs.Rows.{rows_of};
+ghost use Rattle.bilateral_match.specs.Small.{AreSmallAds};
 ghost use Rattle.pool_state.specs.Stocks.{stock_without};
 
 use ad_store::{NoName, Put, PutFault, Store};
@@ -17,12 +19,13 @@ use pool_text::OutOfMemory;
 use std::alloc::Global;
 use std::sync::ledger::Ledger;
 
-/// The ads that are held, and the index of them, each under its slot.
+/// The ads that are held, and the index of them, each under its slot. No ad has more than 1,024 attributes.
 #[derive(Drop)]
 pub(crate) struct IndexedStore {
     pub(crate) store: Store,
     pub(crate) index: Index,
     ghost indexed: { IsIndex index (rows_of (stock_of store)) } by { Prim.hlevel props },
+    ghost small: { AreSmallAds (stock_of store).ads },
 }
 
 impl IndexedStore {
@@ -49,6 +52,7 @@ impl IndexedStore {
         ad: Ad,
         touch: &mut Steps<T>,
     ) -> Result<Put, PutFault>
+        requires small { IsSmall (ad_frames ad) }
         ensures ads { OnOk result (ads_of self.new
             ≡ placed (record { name = name.now; born = born; lifetime = lifetime; size = text_len; ad = ad_frames ad }) (ads_of self.old)) }
         ensures slots { IfOk result (λ put. (stock_of self.new.store).slots ≡ slots_put put (stock_of self.old.store).slots) }
@@ -109,6 +113,7 @@ fn remember<T: Ledger>(
     ensures same { OnOk result (stock_of store.new ≡ stock_of store.old) }
     ensures gone { OnErr result (IsIndex index.old (rows_of (stock_without name.now (stock_of store.old)))
         → IsIndex index.new (rows_of (stock_of store.new))) }
+    ensures small { AreSmallAds (stock_of store.old).ads → AreSmallAds (stock_of store.new).ads }
     ensures looks { touch.new ≤ touch.old + 1 }
 {
     store.slots_are_apart();

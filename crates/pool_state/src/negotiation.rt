@@ -34,6 +34,7 @@ pub(crate) fn negotiate<F: Ledger, E: Ledger, T: Ledger>(
         ≡ (state_with moment (settings_of priorities.now) books.new, reply)) }
     ensures printable { IfOk result (λ reply. IsTrue (is_printable reply)) }
     ensures cost { tops.new ≤ tops.old + 5 * steps.undecided_for_jobs (state_with moment (settings_of priorities.now) books.old) }
+    ensures ratio { entry.new + 9216 * tops.old ≤ entry.old + 9216 * tops.new }
     ensures looks { touch.new ≤ touch.old + 9 * steps.narrowest_for_jobs (state_with moment (settings_of priorities.now) books.old) }
 {
     let spins = books.negotiate(alloc, priorities, moment, tops, entry, touch)?;

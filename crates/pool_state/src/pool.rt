@@ -1,5 +1,5 @@
 // The pool and its steps.
-ghost use Rattle.std.specs.Prelude.{◌≡◌, ◌+◌, ◌≤◌, true, false, IfOk, IsErr, IsTrue, OnErr, OnOk};
+ghost use Rattle.std.specs.Prelude.{◌≡◌, ◌+◌, ◌*◌, ◌≤◌, true, false, IfOk, IsErr, IsTrue, OnErr, OnOk};
 ghost use Rattle.std.specs.List.{AllZip};
 ghost use Rattle.notice_desk.specs.Desk.{without};
 ghost use Rattle.pool_script.specs.Form.{is_within_form};
@@ -115,6 +115,7 @@ impl Pool {
             (kept_by command.now (D.shows desk.old)) (D.shows desk.new)) }
         ensures unposted { OnErr result (D.shows desk.new ≡ D.shows desk.old) }
         ensures cost { tops.new ≤ tops.old + steps.allowance (state_of self.old) command.now }
+        ensures ratio { entry.new + 9216 * tops.old ≤ entry.old + 9216 * tops.new }
         ensures looks { touch.new ≤ touch.old + steps.looks (state_of self.old) command.now }
     {
         match command {
@@ -139,6 +140,7 @@ impl Pool {
             (D.shows desk.old) (D.shows desk.new)) }
         ensures unposted { OnErr result (D.shows desk.new ≡ D.shows desk.old) }
         ensures cost { tops.new ≤ tops.old + steps.allowance (state_of self.old) command.now }
+        ensures ratio { entry.new + 9216 * tops.old ≤ entry.old + 9216 * tops.new }
         ensures looks { touch.new ≤ touch.old + steps.looks (state_of self.old) command.now }
     {
         if desk.len() == 0 {
@@ -175,6 +177,7 @@ impl Pool {
         ensures step { IfOk result (λ reply. steps.step (state_of self.old) command.now ≡ (state_of self.new, reply)) }
         ensures printable { IfOk result (λ reply. IsTrue (is_printable reply)) }
         ensures cost { tops.new ≤ tops.old + steps.allowance (state_of self.old) command.now }
+        ensures ratio { entry.new + 9216 * tops.old ≤ entry.old + 9216 * tops.new }
         ensures looks { touch.new ≤ touch.old + steps.looks (state_of self.old) command.now }
     {
         match command {
@@ -211,6 +214,7 @@ impl Pool {
         ensures step { IfOk result (λ reply. steps.step (state_of self.old) command.now ≡ (state_of self.new, reply)) }
         ensures printable { IfOk result (λ reply. IsTrue (is_printable reply)) }
         ensures cost { tops.new ≤ tops.old + steps.allowance (state_of self.old) command.now }
+        ensures ratio { entry.new + 9216 * tops.old ≤ entry.old + 9216 * tops.new }
         ensures looks { touch.new ≤ touch.old + steps.looks (state_of self.old) command.now }
     {
         match command {
@@ -256,6 +260,7 @@ impl Pool {
         ensures step { IfOk result (λ reply. steps.step (state_of self.now) command.now ≡ (state_of self.now, reply)) }
         ensures printable { IfOk result (λ reply. IsTrue (is_printable reply)) }
         ensures cost { tops.new ≤ tops.old + steps.allowance (state_of self.now) command.now }
+        ensures ratio { entry.new + 9216 * tops.old ≤ entry.old + 9216 * tops.new }
         ensures looks { touch.new ≤ touch.old + steps.looks (state_of self.now) command.now }
     {
         let alloc = self.alloc;

@@ -3,6 +3,7 @@ ghost use Rattle.std.specs.Prelude.{◌≡◌, ◌+◌, ◌*◌, ◌≤◌, ◌<
 ghost use Rattle.ad_parser.proofs.Outcomes.{ad_outcome};
 ghost use Rattle.ad_store.specs.Store.{stock_of};
 ghost use Rattle.ad_tree.specs.Ad.{ad_frames};
+ghost use Rattle.ad_tree.specs.Small.{IsSmall};
 ghost use Rattle.bilateral_match.specs.Answers.{answers, hit_of};
 ghost use Rattle.bilateral_match.specs.Counts.{least_left, undecided_count};
 ghost use Rattle.bilateral_match.specs.declared.hit.Match.{Match};
@@ -42,6 +43,7 @@ pub(crate) fn query<F: Ledger, E: Ledger, T: Ledger>(
     ensures reply { IfOk result (λ reply. steps.query moment (ads_of ads.now) (ad_outcome block.now) ≡ reply) }
     ensures printable { IfOk result (λ reply. IsTrue (is_printable reply)) }
     ensures cost { tops.new ≤ tops.old + 5 * steps.undecided_docks (ads_of ads.now) (ad_outcome block.now) }
+    ensures ratio { entry.new + 9216 * tops.old ≤ entry.old + 9216 * tops.new }
     ensures looks { touch.new ≤ touch.old + steps.narrowest (ads_of ads.now) (ad_outcome block.now) }
 {
     let ad = match parse_ad(alloc, block) {
@@ -71,6 +73,7 @@ fn hit_rows<F: Ledger, E: Ledger, T: Ledger>(
     ensures rows { IfOk result (λ rows. rows
         ≡ map (steps.hit_row (ads_of ads.now)) (answers moment (ad_frames request.now.ad) (ads_of ads.now))) }
     ensures cost { tops.new ≤ tops.old + 3 * undecided_count (ad_frames request.now.ad) (ads_of ads.now) }
+    ensures ratio { IsSmall (ad_frames request.now.ad) → entry.new + 9216 * tops.old ≤ entry.old + 9216 * tops.new }
     ensures looks { touch.new ≤ touch.old + least_left (ads_of ads.now) (tests_of (ad_frames request.now.ad) 0 []) }
 {
     bilateral_match::answers_are_all_matches_in_order(moment, &request.ad);

@@ -3,6 +3,7 @@ use Rattle.ad_tree.specs.Ad.{ad_frames}
 use Rattle.ad_tree.specs.Tree.{tree}
 use Rattle.ad_store.specs.Stock.{is_named}
 use Rattle.ad_store.specs.Store.{stock_of}
+use Rattle.bilateral_match.proofs.SmallLemmas.{found-small}
 use Rattle.pool_state.specs.Step.{ad_named}
 use Rattle.pool_state.proofs.AdLemmas.{own_frames, slot_beside-found, slot_beside-none, stock-length}
 use Rattle.pool_state.proofs.StepLemmas.{beside-found, beside-unknown}
@@ -19,3 +20,15 @@ returns-clause-reply g c =
     let beside = slot_beside-found (is_named c.args.name.now) old.ads old.slots c.in-Some.slot (sym c.in-Some.ensures.slot) in
     let frames = ad_frames c.look-ad.result.now in
     beside-found c.args.moment (ad_frames c.args.phrase.now.ad) (tree c.args.phrase.now.expr) (ad_named c.args.name.now old.ads) beside.advert frames c.in_ok-text.text beside.found (own_frames old.ads beside.place beside.advert frames beside.at (c.look-ad.ensures.ad beside.place beside.slot_at)) c.in_ok-text.ensures.text
+
+pub returns-in_err-text-clause-ratio : goal.returns-in_err-text-clause-ratio
+returns-in_err-text-clause-ratio g c request small =
+    let old = stock_of c.args.store.now in
+    let beside = slot_beside-found (is_named c.args.name.now) old.ads old.slots c.in-Some.slot (sym c.in-Some.ensures.slot) in
+    c.value_beside.ensures.ratio request (found-small old.ads beside.place (ad_frames c.look-ad.result.now) small (c.look-ad.ensures.ad beside.place beside.slot_at))
+
+pub returns-clause-ratio : goal.returns-clause-ratio
+returns-clause-ratio g c request small =
+    let old = stock_of c.args.store.now in
+    let beside = slot_beside-found (is_named c.args.name.now) old.ads old.slots c.in-Some.slot (sym c.in-Some.ensures.slot) in
+    c.value_beside.ensures.ratio request (found-small old.ads beside.place (ad_frames c.look-ad.result.now) small (c.look-ad.ensures.ad beside.place beside.slot_at))

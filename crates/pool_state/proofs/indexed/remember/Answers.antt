@@ -9,6 +9,7 @@ use Rattle.bilateral_match.proofs.RowLemmas.{alone-under, rows-round}
 use Rattle.pool_state.specs.Stocks.{stock_without}
 use Rattle.pool_state.proofs.AdLemmas.{has_at, named, slot_beside-found, stock-length}
 use Rattle.pool_state.proofs.IndexLemmas.{here_frames, on_err, on_ok, rows-unnamed, withdrawn_stock}
+use Rattle.pool_state.proofs.SmallLemmas.{small-withdrawn}
 use Rattle.pool_state.proofs.indexed.remember.Goals as goal
 
 pub returns-in_default-clause-all : goal.returns-in_default-clause-all
@@ -29,6 +30,9 @@ returns-then-is_err-clause-gone g c = λ index.
     let held = has_at name stock.ads beside.place beside.advert beside.at (sym (named name beside.advert beside.passes)) in
     let gone = withdrawn_stock c.withdraw.result name stock (stock_of c.withdraw.new.self) held c.withdraw.ensures.ads c.withdraw.ensures.slots c.withdraw.ensures.none in
     subst (λ (s : Stock). IsIndex c.add.new.self (rows_of s)) (sym gone) same
+
+pub returns-then-is_err-clause-small : goal.returns-then-is_err-clause-small
+returns-then-is_err-clause-small g c = small-withdrawn c.withdraw.result c.args.name.now (stock_of c.args.store.now) (stock_of c.withdraw.new.self) c.withdraw.ensures.ads c.withdraw.ensures.err
 
 pub returns-clause-all : goal.returns-clause-all
 returns-clause-all g c = λ index.

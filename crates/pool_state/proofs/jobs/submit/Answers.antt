@@ -1,6 +1,7 @@
 use Rattle.std.proofs.Common.{◌≡◌, ℕ, true, List, IfSome, Option, length, is_none, refl, sym, ◌∙◌, ap, subst}
 use Rattle.ad_tree.specs.Ad.{ad_frames}
 use Rattle.ad_tree.specs.Frames.{Frame}
+use Rattle.ad_tree.specs.Small.{IsSmall}
 use Rattle.ad_tree.specs.declared.request.Request.{Request}
 use Rattle.ad_parser.specs.declared.fault.ParseFault.{ParseFault}
 use Rattle.ad_parser.proofs.Outcomes.{ad_outcome, ad_outcome-has}
@@ -45,6 +46,11 @@ submit-requires-clause-room c =
 
 pub submit-requires-clause-own : goal.submit-requires-clause-own
 submit-requires-clause-own c = (subst (λ (r : Option Request). HasRequest (ad_frames c.in-Ok.ad) r) c.in-Some-2.is c.in_ok-request.ensures.own).1
+
+pub submit-requires-clause-small : goal.submit-requires-clause-small
+submit-requires-clause-small c =
+    let request = subst (λ (r : Option Request). HasRequest (ad_frames c.in-Ok.ad) r) c.in-Some-2.is c.in_ok-request.ensures.own in
+    subst IsSmall (sym request.0) c.in-Ok.ensures.small
 
 pub returns-clause-step : goal.returns-clause-step
 returns-clause-step c = λ moment priorities.

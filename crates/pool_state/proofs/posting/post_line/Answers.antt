@@ -1,8 +1,7 @@
-use Rattle.std.proofs.Common.{◌≡◌, ◌∷◌, [], List, sym, subst}
+use Rattle.std.proofs.Common.{◌∷◌, [], List, sym, subst}
 use Rattle.std.specs.List.{AllZip}
 use Rattle.notice_desk.specs.Desk.{Posts, Row}
 use Rattle.notice_desk.specs.declared.notices.PostEnd.{PostEnd}
-use Rattle.notice_desk.specs.declared.notices.PostEnd.TheVariants.{Failed}
 use Rattle.pool_state.specs.Posting.{RowAfter, post_to}
 use Rattle.pool_state.proofs.PostingLemmas.{rows_failed, rows_taken}
 use Rattle.pool_state.proofs.posting.post_line.Goals as goal

@@ -2,10 +2,12 @@ use Rattle.std.proofs.Common.{ℕ, ◌*◌, ◌≤◌, ◌+◌, Contains, sym, s
 use Rattle.ad_store.specs.Store.{stock_of}
 use Rattle.claim_table.specs.Table.{jobs_of}
 use Rattle.claim_table.proofs.StoredLemmas.{claim-keeps}
+use Rattle.pool_state.specs.Ports.{HasOwnPorts}
 use Rattle.pool_state.proofs.AdLemmas.{stock-length}
-use Rattle.pool_state.proofs.ClaimLemmas.{all-held, claim-owned, claim-seen, held-all}
+use Rattle.pool_state.proofs.ClaimLemmas.{all-held, claim-kept, claim-seen, held-all}
 use Rattle.pool_state.proofs.FailingLemmas.{offered-seen, undecided-seen}
 use Rattle.pool_state.proofs.NameLemmas.{AreBeside}
+use Rattle.pool_state.proofs.SmallLemmas.{IsSmallRequest}
 use Rattle.pool_state.proofs.books.Books.claim.Goals as goal
 
 pub claim-requires : goal.claim-requires
@@ -17,8 +19,9 @@ invariant_of-self g c =
     let stock = stock_of books.ads.store in
     let jobs = jobs_of books.claims in
     let listed = held-all stock.slots (jobs_of c.claim.new.self) (claim-keeps (Contains stock.slots) c.args.moment stock c.args.name.now jobs (all-held stock.slots jobs books.listed) c.claim.result (jobs_of c.claim.new.self) c.claim.ensures.claim) in
-    let owned = claim-owned c.args.moment stock c.args.name.now jobs books.owned c.claim.result (jobs_of c.claim.new.self) c.claim.ensures.claim in
-    record { listed = listed; owned = owned }
+    let owned = claim-kept HasOwnPorts c.args.moment stock c.args.name.now jobs books.owned c.claim.result (jobs_of c.claim.new.self) c.claim.ensures.claim in
+    let small = claim-kept IsSmallRequest c.args.moment stock c.args.name.now jobs books.small c.claim.result (jobs_of c.claim.new.self) c.claim.ensures.claim in
+    record { listed = listed; owned = owned; small = small }
 
 pub returns-clause-claim : goal.returns-clause-claim
 returns-clause-claim g c = λ priorities.

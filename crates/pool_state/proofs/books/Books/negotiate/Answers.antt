@@ -4,13 +4,15 @@ use Rattle.claim_table.specs.Table.{jobs_of}
 use Rattle.negotiator.specs.Cycle.{cycle_of, offers_of}
 use Rattle.negotiator.specs.Markets.{IsPart, market_of, spin_named}
 use Rattle.negotiator.specs.Settings.{settings_of}
+use Rattle.pool_state.specs.Ports.{HasOwnPorts}
 use Rattle.pool_state.specs.Rows.{IsSpinHeld}
 use Rattle.pool_state.proofs.DockLemmas.{holders-stored}
 use Rattle.pool_state.proofs.HitLemmas.{if_ok}
 use Rattle.pool_state.proofs.MarketLemmas.{narrowest-seen, negotiated, undecided-seen}
-use Rattle.pool_state.proofs.MatchedLemmas.{part-of, part-owned, part-stored}
+use Rattle.pool_state.proofs.MatchedLemmas.{part-kept, part-of, part-stored}
 use Rattle.pool_state.proofs.NameLemmas.{AreBeside}
 use Rattle.pool_state.proofs.PortLemmas.{all-own}
+use Rattle.pool_state.proofs.SmallLemmas.{IsSmallRequest}
 use Rattle.pool_state.proofs.SpinRowLemmas.{spins-held}
 use Rattle.pool_state.proofs.books.Books.negotiate.Goals as goal
 
@@ -35,7 +37,8 @@ invariant_of-self g c =
     let part : IsPart offers jobs later = part-of c.cycle.result offers jobs later c.cycle.ensures.table c.cycle.ensures.part in
     record {
       listed = part-stored stock.slots offers jobs later part c.cycle.ensures.stored books.listed;
-      owned = part-owned offers jobs later part books.owned;
+      owned = part-kept HasOwnPorts offers jobs later part books.owned;
+      small = part-kept IsSmallRequest offers jobs later part books.small;
     }
 
 pub returns-clause-cycle : goal.returns-clause-cycle

@@ -15,6 +15,7 @@ invariant_of-self g c =
     record {
       listed = stored-put c.in-Ok.put advert old new (stock-length books.ads.store) c.in-Ok.ensures.ads c.in-Ok.ensures.slots c.in-Ok.ensures.added (jobs_of books.claims) books.listed;
       owned = books.owned;
+      small = books.small;
     }
 
 pub returns-in-Ok-clause-jobs : goal.returns-in-Ok-clause-jobs

@@ -1,13 +1,14 @@
-use Rattle.std.proofs.Common.{All, List, Ok, map, refl, sym, ◌∙◌, ap, subst}
+use Rattle.std.proofs.Common.{All, Ok, map, refl, sym, ◌∙◌, ap, subst}
 use Rattle.ad_store.specs.Store.{stock_of}
-use Rattle.claim_table.specs.declared.job.Job.{Job}
 use Rattle.claim_table.specs.Answers.{no_job}
 use Rattle.claim_table.specs.Jobs.{numbered, slots_of}
 use Rattle.claim_table.specs.Table.{jobs_of}
 use Rattle.pool_state.specs.Pool.{queued}
 use Rattle.pool_state.specs.Ports.{HasOwnPorts}
 use Rattle.pool_state.specs.Stored.{are_stored}
-use Rattle.pool_state.proofs.JobLemmas.{owned-without, queue-without, removed, stored-without}
+use Rattle.pool_state.proofs.JobLemmas.{kept-without, queue-without, removed, stored-without}
+use Rattle.pool_state.proofs.QueueLemmas.{RequestIs}
+use Rattle.pool_state.proofs.SmallLemmas.{IsSmallRequest}
 use Rattle.pool_state.proofs.books.Books.remove.Goals as goal
 
 pub invariant_of-self : goal.invariant_of-self
@@ -17,7 +18,8 @@ invariant_of-self c =
     let slots = (stock_of old.ads.store).slots in
     record {
       listed = ap (are_stored slots) c.remove.ensures.jobs ∙ stored-without slots name (jobs_of old.claims) c.names_are_apart.ensures old.listed;
-      owned = subst (λ (jobs : List Job). All (λ job. HasOwnPorts job.request) jobs) (sym c.remove.ensures.jobs) (owned-without (numbered name (jobs_of old.claims)) (jobs_of old.claims) old.owned);
+      owned = subst (All (RequestIs HasOwnPorts)) (sym c.remove.ensures.jobs) (kept-without HasOwnPorts (numbered name (jobs_of old.claims)) (jobs_of old.claims) old.owned);
+      small = subst (All (RequestIs IsSmallRequest)) (sym c.remove.ensures.jobs) (kept-without IsSmallRequest (numbered name (jobs_of old.claims)) (jobs_of old.claims) old.small);
     }
 
 pub returns-clause-held : goal.returns-clause-held

@@ -1,8 +1,7 @@
-use Rattle.std.proofs.Common.{◌≡◌, All, List, is_some, map, sym, ◌∙◌, ap, subst}
+use Rattle.std.proofs.Common.{◌≡◌, All, is_some, map, sym, ◌∙◌, ap, subst}
 use Rattle.ad_store.specs.Stock.{Stock, has, is_named, slots_without, without}
 use Rattle.ad_store.specs.Store.{stock_of}
 use Rattle.ad_store.proofs.HeldLemmas.{without-absent}
-use Rattle.claim_table.specs.declared.job.Job.{Job}
 use Rattle.claim_table.specs.Table.{jobs_of}
 use Rattle.pool_state.specs.Pool.{queued}
 use Rattle.pool_state.specs.Ports.{HasOwnPorts}
@@ -10,7 +9,8 @@ use Rattle.pool_state.specs.Stored.{are_stored}
 use Rattle.pool_state.proofs.AdLemmas.{has_at, named, slot_beside-found, slot_beside-none, stock-length, withdrawn}
 use Rattle.pool_state.proofs.JobLemmas.{found-any, queue-freed, stays}
 use Rattle.pool_state.proofs.NameLemmas.{AreBeside}
-use Rattle.pool_state.proofs.QueueLemmas.{freed-owned, freed-stored, lost-each}
+use Rattle.pool_state.proofs.QueueLemmas.{RequestIs, freed-kept, freed-stored, lost-each}
+use Rattle.pool_state.proofs.SmallLemmas.{IsSmallRequest}
 use Rattle.pool_state.proofs.books.Books.withdraw.Goals as goal
 
 pub returns-in_default-clause-held : goal.returns-in_default-clause-held
@@ -42,7 +42,8 @@ invariant_of-self-2 g c =
     let lost = c.in_ok-_freed.ensures.ok ∙ lost-each slot jobs c.resources_are_apart.ensures.offers c.resources_are_apart.ensures.claims in
     record {
       listed = ap (are_stored new.slots) lost ∙ freed-stored old.slots new.slots slot (stays name old new beside slot found.place found.advert found.at found.slot_at called (sym c.in-Some.ensures.slot) ads slots) jobs books.listed;
-      owned = subst (λ (l : List Job). All (λ job. HasOwnPorts job.request) l) (sym lost) (freed-owned slot jobs books.owned);
+      owned = subst (All (RequestIs HasOwnPorts)) (sym lost) (freed-kept HasOwnPorts slot jobs books.owned);
+      small = subst (All (RequestIs IsSmallRequest)) (sym lost) (freed-kept IsSmallRequest slot jobs books.small);
     }
 
 pub returns-clause-held : goal.returns-clause-held

@@ -7,6 +7,7 @@ use Rattle.bilateral_match.specs.Rows.{rows_of}
 use Rattle.pool_state.specs.Stocks.{stock_without}
 use Rattle.pool_state.proofs.AdLemmas.{stock-length}
 use Rattle.pool_state.proofs.IndexLemmas.{others_kept, remembered}
+use Rattle.pool_state.proofs.SmallLemmas.{small-put}
 use Rattle.pool_state.proofs.indexed.IndexedStore.put.Goals as goal
 
 pub invariant_of-self : goal.invariant_of-self
@@ -19,4 +20,7 @@ invariant_of-self g c =
     let same = others_kept c.put-put.result advert old put (stock-length c.args.self.now.store) p.ads p.slots p.added p.err in
     let others = subst (λ (s : Stock). IsIndex c.forget.new.index (rows_of s)) (sym same) (c.forget.ensures.others c.args.self.now.indexed) in
     let r = c.remember.ensures in
-    record { indexed = remembered c.remember.result c.remember.new.index name put (stock_of c.remember.new.store) (IsIndex c.forget.new.index (rows_of (stock_without name put))) r.all r.same r.gone others }
+    record {
+      indexed = remembered c.remember.result c.remember.new.index name put (stock_of c.remember.new.store) (IsIndex c.forget.new.index (rows_of (stock_without name put))) r.all r.same r.gone others;
+      small = r.small (small-put c.put-put.result advert old put p.ads p.err c.requires.small c.args.self.now.small);
+    }

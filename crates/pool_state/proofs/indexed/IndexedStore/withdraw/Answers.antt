@@ -2,10 +2,14 @@ use Rattle.std.proofs.Common.{sym, subst}
 use Rattle.ad_store.specs.Store.{stock_of}
 use Rattle.literal_index.specs.Shown.{IsIndex}
 use Rattle.pool_state.proofs.IndexLemmas.{withdrawn_rows}
+use Rattle.pool_state.proofs.SmallLemmas.{small-withdrawn}
 use Rattle.pool_state.proofs.indexed.IndexedStore.withdraw.Goals as goal
 
 pub invariant_of-self : goal.invariant_of-self
 invariant_of-self g c =
     let w = c.withdraw.ensures in
     let rows = withdrawn_rows c.withdraw.result c.args.name.now (stock_of c.args.self.now.store) (stock_of c.withdraw.new.self) w.ads w.slots w.none w.err in
-    record { indexed = subst (IsIndex c.forget.new.index) (sym rows) (c.forget.ensures.others c.args.self.now.indexed) }
+    record {
+      indexed = subst (IsIndex c.forget.new.index) (sym rows) (c.forget.ensures.others c.args.self.now.indexed);
+      small = small-withdrawn c.withdraw.result c.args.name.now (stock_of c.args.self.now.store) (stock_of c.withdraw.new.self) w.ads w.err c.args.self.now.small;
+    }

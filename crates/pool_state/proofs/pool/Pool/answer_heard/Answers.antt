@@ -1,9 +1,6 @@
-use Rattle.std.proofs.Common.{◌≡◌, List, IfOk, OnOk, sym, subst}
-use Rattle.notice_desk.specs.Desk.{Row}
-use Rattle.std.specs.List.{AllZip}
 use Rattle.pool_state.specs.Notices.{notices}
 use Rattle.pool_state.specs.Pool.{state_of}
-use Rattle.pool_state.specs.Posting.{RowAfter, posts_of_all}
+use Rattle.pool_state.specs.Posting.{posts_of_all}
 use Rattle.pool_state.proofs.HeardLemmas.{answered-heard, not-unlisten, posted-heard, rows-unlisten, step-unlisten}
 use Rattle.pool_state.proofs.pool.Pool.answer_heard.Goals as goal
 
@@ -28,5 +25,6 @@ returns-in_default g c =
       posted = posted-heard command old new (posts_of_all (notices s command)) c.answer_and_tell.result other c.answer_and_tell.ensures.posted;
       unposted = c.answer_and_tell.ensures.unposted;
       cost = c.answer_and_tell.ensures.cost;
+      ratio = c.answer_and_tell.ensures.ratio;
       looks = c.answer_and_tell.ensures.looks;
     }

@@ -1,5 +1,5 @@
 // The run of a script over a source and a sink.
-ghost use Rattle.std.specs.Prelude.{◌≡◌, ◌≢◌, ◌↔◌, ◌≤◌, ◌<◌, [], length, IsTrue, IfOk, IfSome};
+ghost use Rattle.std.specs.Prelude.{◌≡◌, ◌≢◌, ◌↔◌, ◌+◌, ◌*◌, ◌≤◌, ◌<◌, [], length, IsTrue, IfOk, IfSome};
 ghost use Rattle.pool_io.specs.Flow.{Reads, Rose};
 ghost use Rattle.pool_script.specs.Commands.{whole_commands};
 ghost use Rattle.pool_engine.specs.CommandLine.{AskedEnds, IsUnread, asked_by, asked_text, input_of};
@@ -76,6 +76,9 @@ impl RunEnd {
 /// ads of the store that are looked into. A workload: the script that `generated` writes, as a pool runs it, but it offers no
 /// reply, and at the end the summary of all as one piece; the source is left alone. A wire: the schedule that the source gives,
 /// as `run_wire` runs it; nothing is counted or posted. Where the words are wrong nothing is read, written or posted.
+///
+/// Over a run `entry` rises by at most 9,216 times the rise of `tops`, since a world has at most nine ads of 1,024 attributes
+/// each.
 pub fn run_pool<S: Source, K: Sink, D: Notices, F: Ledger, E: Ledger, T: Ledger>(
     alloc: Global,
     words: &[Text],
@@ -88,6 +91,7 @@ pub fn run_pool<S: Source, K: Sink, D: Notices, F: Ledger, E: Ledger, T: Ledger>
 ) -> RunEnd
     ensures ends { AskedEnds (asked_by words.now) (S.shows source.old) (S.shows source.new)
         (effects (K.shows sink.old) tops.old touch.old (D.shows desk.old)) (effects (K.shows sink.new) tops.new touch.new (D.shows desk.new)) result }
+    ensures ratio { entry.new + 9216 * tops.old ≤ entry.old + 9216 * tops.new }
 
     // Where the words are wrong nothing was read or written, and a workload reads nothing.
     ensures words { (result ≡ RunEnd.BadWords) ↔ (asked_by words.now ≡ Asked.Bad) }
@@ -130,6 +134,7 @@ fn run_script<S: Source, K: Sink, D: Notices, F: Ledger, E: Ledger, T: Ledger>(
 ) -> RunEnd
     ensures ends { Ends (S.shows source.old) (S.shows source.new)
         (effects (K.shows sink.old) tops.old touch.old (D.shows desk.old)) (effects (K.shows sink.new) tops.new touch.new (D.shows desk.new)) result }
+    ensures ratio { entry.new + 9216 * tops.old ≤ entry.old + 9216 * tops.new }
     ensures words { result ≢ RunEnd.BadWords }
     ensures complete { LeavesAtMost input_limit (S.shows source.old).left
         → ¬ Rose (S.shows source.old).faults (S.shows source.new).faults
@@ -158,6 +163,7 @@ fn run_input<S: Source, K: Sink, D: Notices, F: Ledger, E: Ledger, T: Ledger>(
 ) -> Result<u64, RunEnd>
     ensures ends { Ends (S.shows source.old) (S.shows source.new)
         (effects (K.shows sink.old) tops.old touch.old (D.shows desk.old)) (effects (K.shows sink.new) tops.new touch.new (D.shows desk.new)) (end_of result) }
+    ensures ratio { entry.new + 9216 * tops.old ≤ entry.old + 9216 * tops.new }
     ensures words { result ≢ Err RunEnd.BadWords }
 {
     let mut buffer = [0; READ_SIZE];

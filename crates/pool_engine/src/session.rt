@@ -1,5 +1,5 @@
 // A script that comes in pieces, and the replies to its commands.
-ghost use Rattle.std.specs.Prelude.{◌≡◌, ◌+◌, ◌^◌, ◌<◌, ◌≤◌, ◌++◌, ◌∷◌, ℕ, List, [], false, length, IfErr, IfOk, IsTrue, OnOk};
+ghost use Rattle.std.specs.Prelude.{◌≡◌, ◌+◌, ◌*◌, ◌^◌, ◌<◌, ◌≤◌, ◌++◌, ◌∷◌, ℕ, List, [], false, length, IfErr, IfOk, IsTrue, OnOk};
 ghost use Rattle.pool_script.specs.Commands.{ended_commands, whole_commands};
 ghost use Rattle.pool_script.specs.Form.{is_within_form};
 ghost use Rattle.pool_script.specs.Standing.{Stands};
@@ -64,6 +64,7 @@ impl Session {
         ensures stopped { IfErr result (Stopped (heard (state_of self.old.pool) (D.shows desk.old))
             (effects (K.shows sink.old) tops.old touch.old (D.shows desk.old)) (effects (K.shows sink.new) tops.new touch.new (D.shows desk.new))
             (ended_commands (self.old.script.rest ++ piece.now))) }
+        ensures ratio { entry.new + 9216 * tops.old ≤ entry.old + 9216 * tops.new }
         ensures waiting { OnOk result (self.new.script.waiting ≡ []) }
         ensures over { OnOk result (self.new.script.over ≡ false) }
         ensures stands { OnOk result ((bytes : List ℕ) (n : ℕ) → Stands self.old.script bytes n
@@ -91,6 +92,7 @@ impl Session {
         ensures stopped { IfErr result (Stopped (heard (state_of self.pool) (D.shows desk.old))
             (effects (K.shows sink.old) tops.old touch.old (D.shows desk.old)) (effects (K.shows sink.new) tops.new touch.new (D.shows desk.new))
             (whole_commands self.script.rest)) }
+        ensures ratio { entry.new + 9216 * tops.old ≤ entry.old + 9216 * tops.new }
     {
         self.script.end()?;
         self.run_waiting(sink, desk, tops, entry, touch)?;
@@ -113,6 +115,7 @@ impl Session {
         ensures stopped { IfErr result (Stopped (heard (state_of self.old.pool) (D.shows desk.old))
             (effects (K.shows sink.old) tops.old touch.old (D.shows desk.old)) (effects (K.shows sink.new) tops.new touch.new (D.shows desk.new))
             self.old.script.waiting) }
+        ensures ratio { entry.new + 9216 * tops.old ≤ entry.old + 9216 * tops.new }
         ensures waiting { OnOk result (self.new.script.waiting ≡ []) }
         ensures over { self.new.script.over ≡ self.old.script.over }
         ensures stands { (bytes : List ℕ) (n : ℕ) → Stands self.old.script bytes n
@@ -150,6 +153,7 @@ fn run_command<K: Sink, D: Notices, F: Ledger, E: Ledger, T: Ledger>(
         (effects (K.shows sink.old) tops.old touch.old (D.shows desk.old)) (effects (K.shows sink.new) tops.new touch.new (D.shows desk.new)) (command ∷ []) 0 n) }
     ensures stopped { IfErr result (Stopped (heard (state_of pool.old) (D.shows desk.old))
         (effects (K.shows sink.old) tops.old touch.old (D.shows desk.old)) (effects (K.shows sink.new) tops.new touch.new (D.shows desk.new)) (command ∷ [])) }
+    ensures ratio { entry.new + 9216 * tops.old ≤ entry.old + 9216 * tops.new }
     ensures one { IfOk result (λ n. n ≤ 1) }
 {
     let answered = pool.step(&command, desk, tops, entry, touch);

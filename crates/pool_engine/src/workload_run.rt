@@ -1,5 +1,5 @@
 // The run of a workload: its commands run as those of a script do, and a summary is offered in the place of replies.
-ghost use Rattle.std.specs.Prelude.{◌≡◌, ◌≢◌, ◌≤◌, ◌∷◌, [], false, length, IfOk, IsTrue, OnErr};
+ghost use Rattle.std.specs.Prelude.{◌≡◌, ◌≢◌, ◌+◌, ◌*◌, ◌≤◌, ◌∷◌, [], false, length, IfOk, IsTrue, OnErr};
 ghost use Rattle.pool_io.specs.Flow.{Rose};
 ghost use Rattle.pool_script.specs.Form.{is_within_form};
 ghost use Rattle.pool_replies.specs.Replies.{hit_count, is_printable, offer_count, refusal_count, reply_text};
@@ -35,6 +35,7 @@ pub(crate) fn run_workload<K: Sink, D: Notices, F: Ledger, E: Ledger, T: Ledger>
 ) -> RunEnd
     ensures ends { WorkloadEnds machines (effects (K.shows sink.old) tops.old touch.old (D.shows desk.old))
         (effects (K.shows sink.new) tops.new touch.new (D.shows desk.new)) result }
+    ensures ratio { entry.new + 9216 * tops.old ≤ entry.old + 9216 * tops.new }
     ensures words { result ≢ RunEnd.BadWords }
     ensures complete { ¬ Rose (K.shows sink.old).faults (K.shows sink.new).faults → IsDoneOrOutOfMemory result }
     ensures sure_source { result ≢ RunEnd.ReadFault }
@@ -71,6 +72,7 @@ fn summed<D: Notices, F: Ledger, E: Ledger, T: Ledger>(
     ensures stopped { OnErr result (Stopped (opened (D.shows desk.old))
         (effects silent tops.old touch.old (D.shows desk.old)) (effects silent tops.new touch.new (D.shows desk.new))
         (workload_commands machines) RunEnd.OutOfMemory) }
+    ensures ratio { entry.new + 9216 * tops.old ≤ entry.old + 9216 * tops.new }
 {
     let mut script = script_of(alloc, machines)?;
     let mut pool = Pool::new(alloc);
@@ -111,6 +113,7 @@ fn answered<D: Notices, F: Ledger, E: Ledger, T: Ledger>(
         (effects silent tops.old touch.old (D.shows desk.old)) (effects silent tops.new touch.new (D.shows desk.new)) (command ∷ []) 0 summary.refused) }
     ensures stopped { OnErr result (Stopped (heard (state_of pool.old) (D.shows desk.old))
         (effects silent tops.old touch.old (D.shows desk.old)) (effects silent tops.new touch.new (D.shows desk.new)) (command ∷ []) RunEnd.OutOfMemory) }
+    ensures ratio { entry.new + 9216 * tops.old ≤ entry.old + 9216 * tops.new }
 {
     let answered = pool.step(&command, desk, tops, entry, touch);
     drop(command);

@@ -11,6 +11,7 @@ loop-left-init g c =
     let session = c.new-session.ensures in
     record {
       reading = Reading-start _ _ _ _ _ session.script session.over session.waiting (ap (λ (s : State). heard s (g.D.Notices.shows c.args.desk.now)) session.pool) session.refused;
+      ratio = omega arith;
       room = refl;
     }
 
@@ -32,6 +33,7 @@ returns-in_err-feed-clause-ends g c =
 pub loop-left-preserved : goal.loop-left-preserved
 loop-left-preserved g c = record {
   reading = Reading-piece _ _ _ _ _ _ _ c.feed.new.self.script _ (heard (state_of c.feed.new.self.pool) (g.D.Notices.shows c.feed.new.desk)) _ _ _ _ _ c.loop-left.invariant.reading c.in-Ok.ensures.reads (omega (arith, c.in-Ok.ensures.inside, length-take c.in-Ok.count c.read_piece.new.buffer)) c.in-Ok.ensures.within c.in_ok-feed.ensures.took c.in_ok-feed.ensures.waiting c.in_ok-feed.ensures.over c.in_ok-feed.ensures.stands;
+  ratio = omega (arith, c.loop-left.invariant.ratio, c.feed.ensures.ratio);
   room = omega (arith, c.read_piece.auto.buffer, c.loop-left.invariant.room);
 }
 

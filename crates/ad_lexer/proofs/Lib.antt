@@ -18,3 +18,4 @@ pub mod Texts
 mod Turns
 pub mod Utf8Lemmas
 pub mod WordLemmas
+mod DecodeLemmas

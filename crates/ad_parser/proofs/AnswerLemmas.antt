@@ -6,9 +6,10 @@ use Rattle.ad_tree.specs.Inline.{Inline, height, definitions}
 use Rattle.ad_parser.specs.declared.fault.ParseFault.{ParseFault}
 use Rattle.ad_parser.specs.declared.fault.ParseFault.TheVariants as faults
 use Rattle.ad_parser.specs.Answers.{HasWords, Spells, IsWithin}
-use Rattle.ad_parser.specs.Limits.{nests_too_deep, height_limit, frame_limit, definition_limit}
+use Rattle.ad_grammar.specs.Nesting.{nests_too_deep}
+use Rattle.ad_parser.specs.Limits.{height_limit, frame_limit, definition_limit}
 use Rattle.ad_parser.specs.OneAnswer.{HasFault, HasOneAnswer}
-use Rattle.ad_parser.specs.Words.{Word, words}
+use Rattle.ad_grammar.specs.Words.{Word, words}
 
 above_not : (n limit : ℕ) → n ≤ limit → limit < n → ⊥
 above_not n limit low high = omega arith

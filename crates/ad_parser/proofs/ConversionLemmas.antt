@@ -19,9 +19,9 @@ use Rattle.ad_parser.specs.declared.node.Definition.TheVariants as held
 use Rattle.ad_parser.specs.declared.whole.Whole.{Whole}
 use Rattle.ad_parser.specs.declared.whole.Wholes.{Wholes}
 use Rattle.ad_parser.specs.Nodes.{inline, named, pack, pack_definitions}
-use Rattle.ad_parser.specs.Shapes.{leaf}
+use Rattle.ad_grammar.specs.Shapes.{leaf}
 use Rattle.ad_parser.specs.Wholes.{wholes}
-use Rattle.ad_parser.proofs.ListLemmas.{pack-last, pack_definitions-last}
+use Rattle.ad_grammar.proofs.ListLemmas.{pack-last, pack_definitions-last}
 use Rattle.ad_parser.proofs.NodeLemmas.{inline-Whole}
 use Rattle.ad_parser.proofs.WholeLemmas.{whole-placed, wholes-placed}
 

@@ -8,7 +8,7 @@ use Rattle.ad_parser.specs.declared.node.Node.TheVariants as nodes
 use Rattle.ad_parser.specs.declared.node.Nodes.{Nodes}
 use Rattle.ad_parser.specs.declared.whole.Whole.{Whole}
 use Rattle.ad_parser.specs.Nodes.{inline, inlines, pack, pack_definitions}
-use Rattle.ad_parser.proofs.ListLemmas.{inlines-items, take-next}
+use Rattle.ad_grammar.proofs.ListLemmas.{inlines-items, take-next}
 use Rattle.ad_parser.proofs.NodeLemmas.{inline-Whole}
 use Rattle.ad_parser.proofs.WholeLemmas.{plain-count, plain-definitions, front-counts, front-defines}
 

@@ -7,12 +7,12 @@ use Rattle.ad_tree.specs.Frames.{Frame, empty_frame}
 use Rattle.ad_tree.specs.Inline.{Inline, Defs, inner, no_defs, frames, spelled, spelled_tree, settled, settled_defs}
 use Rattle.ad_tree.specs.Tree.{tree}
 use Rattle.ad_tree.proofs.SpellingLemmas.{spelled-frames, spelled_tree-frames}
-use Rattle.ad_parser.specs.Answers.{HasWords, IsRoot, Spells, IsWithin, frames_of_expr, frames_of_ad, AnswersAd, AnswersExpr}
-use Rattle.ad_parser.specs.Grammar.{IsExpr}
-use Rattle.ad_parser.specs.Made.{IsMade, AreMade}
-use Rattle.ad_parser.specs.Words.{Word}
-use Rattle.ad_parser.proofs.MadeLemmas.{expr-made, ad-made}
-use Rattle.ad_parser.proofs.MadeWordLemmas.{words-made}
+use Rattle.ad_parser.specs.Answers.{HasWords, Spells, IsWithin, frames_of_expr, frames_of_ad, AnswersAd, AnswersExpr}
+use Rattle.ad_grammar.specs.Grammar.{IsExpr, IsRoot}
+use Rattle.ad_grammar.specs.Made.{IsMade, AreMade}
+use Rattle.ad_grammar.specs.Words.{Word}
+use Rattle.ad_grammar.proofs.MadeLemmas.{expr-made, ad-made}
+use Rattle.ad_grammar.proofs.MadeWordLemmas.{words-made}
 use Rattle.ad_parser.proofs.SettledLemmas.{settled-made, settled_expr-within, settled_ad-within}
 
 text-made : (text : List ℕ) (ws : List Word) → HasWords text ws → AreMade ws

@@ -17,8 +17,8 @@ use Rattle.ad_parser.specs.declared.whole.Whole.{Whole}
 use Rattle.ad_parser.specs.Nodes.{inline, opened, inlines, definitions, definition_layer, layer, open_layer, before, pack, defined_before, pack_definitions}
 use Rattle.ad_parser.specs.Limits.{height_limit}
 use Rattle.ad_parser.specs.Parts.{extends, joined_height}
-use Rattle.ad_parser.specs.Rules.{cut_one, cut_two, cut_three}
-use Rattle.ad_parser.specs.Shapes.{over_one, over_two, over_three, followed_by, Infix, conjunction, disjunction, operator, joined}
+use Rattle.ad_grammar.specs.Rules.{cut_one, cut_two, cut_three}
+use Rattle.ad_grammar.specs.Shapes.{over_one, over_two, over_three, followed_by, Infix, conjunction, disjunction, operator, joined}
 use Rattle.ad_parser.specs.Wholes.{whole, wholes}
 
 -- trees before others, one more

@@ -6,13 +6,13 @@ use Rattle.ad_tree.specs.declared.phrase.Phrase.{Phrase}
 use Rattle.ad_tree.specs.Inline.{Inline}
 use Rattle.ad_parser.specs.declared.fault.ParseFault.{ParseFault}
 use Rattle.ad_parser.specs.declared.fault.ParseFault.TheVariants as faults
-use Rattle.ad_parser.specs.Answers.{IsRoot, Spells, IsWithin, AnswersAd, AnswersExpr, IsFault, frames_of_ad, frames_of_expr}
-use Rattle.ad_parser.specs.Grammar.{IsExpr}
+use Rattle.ad_parser.specs.Answers.{Spells, IsWithin, AnswersAd, AnswersExpr, IsFault, frames_of_ad, frames_of_expr}
+use Rattle.ad_grammar.specs.Grammar.{IsExpr, IsRoot}
 use Rattle.ad_parser.specs.OneAnswer.{HasFault, HasOneAnswer}
 use Rattle.ad_parser.specs.Outcomes.{HasOutcome, HasExprOutcome, HasAdOutcome, IsExprAnswer, IsAdAnswer}
-use Rattle.ad_parser.specs.Words.{Word}
+use Rattle.ad_grammar.specs.Words.{Word}
 use Rattle.ad_parser.proofs.AnswerLemmas.{one_answer}
-use Rattle.ad_parser.proofs.UniqueLemmas.{expr-one, expr-decided, root-one, root-decided}
+use Rattle.ad_grammar.proofs.UniqueLemmas.{expr-one, expr-decided, root-one, root-decided}
 
 -- ---- one outcome
 

@@ -5,19 +5,20 @@ use Rattle.ad_lexer.specs.Slices.{AreTokensOf}
 use Rattle.ad_tree.specs.Inline.{Inline, Defs, inner, height, definitions}
 use Rattle.ad_parser.specs.declared.fault.ParseFault.{ParseFault}
 use Rattle.ad_parser.specs.declared.fault.ParseFault.TheVariants as faults
-use Rattle.ad_parser.specs.declared.stop.Stop.{Stop}
-use Rattle.ad_parser.specs.declared.stop.Stop.TheVariants as stops
-use Rattle.ad_parser.specs.Answers.{IsRoot, Spells, IsWithin, IsFault, frames_of_expr, frames_of_ad}
+use Rattle.ad_grammar.specs.declared.stop.Stop.{Stop}
+use Rattle.ad_grammar.specs.declared.stop.Stop.TheVariants as stops
+use Rattle.ad_grammar.specs.Grammar.{IsRoot}
+use Rattle.ad_parser.specs.Answers.{Spells, IsWithin, IsFault, frames_of_expr, frames_of_ad}
 use Rattle.ad_parser.specs.Counts.{counting_limit}
 use Rattle.ad_parser.specs.Faults.{of_stop}
-use Rattle.ad_parser.specs.Grammar.{IsExpr, IsAd}
+use Rattle.ad_grammar.specs.Grammar.{IsExpr, IsAd}
 use Rattle.ad_parser.specs.Limits.{height_limit}
-use Rattle.ad_parser.specs.Meaning.{AreSpelled}
-use Rattle.ad_parser.specs.Rules.{cut, expression, whole, parsed_expr, parsed_ad}
+use Rattle.ad_grammar.specs.Meaning.{AreSpelled}
+use Rattle.ad_grammar.specs.Rules.{cut, expression, whole, parsed_expr, parsed_ad}
 use Rattle.ad_parser.specs.Taking.{IsShallow, IsEarlyFault, IsRead, IsCounted}
-use Rattle.ad_parser.specs.Words.{Word}
+use Rattle.ad_grammar.specs.Words.{Word}
 use Rattle.ad_parser.proofs.CutLemmas.{Cuts, fits, high, cuts}
-use Rattle.ad_parser.proofs.GrammarLaws.{parsed_expr-complete, parsed_expr-sound, parsed_ad-complete, parsed_ad-sound}
+use Rattle.ad_grammar.proofs.GrammarLaws.{parsed_expr-complete, parsed_expr-sound, parsed_ad-complete, parsed_ad-sound}
 
 pub tokens-spelled : (text : List ℕ) (at : ℕ) (list : List Lexeme) → AreTokensOf text at list → AreSpelled list
 tokens-spelled text at [] tokens = tt

@@ -4,7 +4,7 @@ use Rattle.ad_tree.specs.Inline.{Inline, shape, inner, Inlines, end, next, Defs,
 use Rattle.ad_tree.specs.Names.{same_name}
 use Rattle.ad_tree.specs.Tree.{Label, literal, name, unary, binary, all, any, choice, select, subscript, call, list}
 use Rattle.ad_parser.specs.Answers.{IsWithin, frames_of_expr, frames_of_ad}
-use Rattle.ad_parser.specs.Made.{IsNameText, number_of, begins_with_all, begins_with_any, IsNode, IsMade, AllMade, DefsMade}
+use Rattle.ad_grammar.specs.Made.{IsNameText, number_of, begins_with_all, begins_with_any, IsNode, IsMade, AllMade, DefsMade}
 
 -- what a tree keeps
 number_of-settled : (is : Inlines) → number_of (settled_all is) ≡ number_of is

@@ -5,23 +5,20 @@ use Rattle.ad_lexer.specs.Tokens.{Tokens, Fault}
 use Rattle.ad_tree.specs.declared.ad.Ad.{Ad}
 use Rattle.ad_tree.specs.declared.phrase.Phrase.{Phrase}
 use Rattle.ad_tree.specs.Ad.{ad_frames}
-use Rattle.ad_tree.specs.Inline.{Inline, Defs, inner, count, height, definitions, ad_of, phrase_of, phrase_tree}
+use Rattle.ad_tree.specs.Inline.{Inline, count, height, definitions, ad_of, phrase_of, phrase_tree}
 use Rattle.ad_tree.specs.Tree.{tree}
 use Rattle.ad_parser.specs.declared.fault.ParseFault.{ParseFault}
 use Rattle.ad_parser.specs.declared.fault.ParseFault.TheVariants as faults
-use Rattle.ad_parser.specs.Grammar.{IsExpr, IsAd}
-use Rattle.ad_parser.specs.Limits.{nests_too_deep, height_limit, frame_limit, definition_limit}
-use Rattle.ad_parser.specs.Words.{Word, words}
+use Rattle.ad_grammar.specs.Grammar.{IsExpr, IsRoot}
+use Rattle.ad_grammar.specs.Nesting.{nests_too_deep}
+use Rattle.ad_parser.specs.Limits.{height_limit, frame_limit, definition_limit}
+use Rattle.ad_grammar.specs.Words.{Word, words}
 
 -- a text has these words, which don't nest too deep
 pub record HasWords (text : List ℕ) (ws : List Word) : Type 0 where
   pub tokens : List Lexeme
   pub has : Tokens text tokens
   pub are : ws ≡ words tokens
-
--- the words are an ad, taken as an ad literal
-abbrev pub IsRoot : List Word → Inline → Type 0
-IsRoot ws x = (ds : Defs) × (x ≡ inner ds) × IsAd ws ds
 
 -- a text spells a tree by a rule of the grammar
 pub record Spells (rule : List Word → Inline → Type 0) (text : List ℕ) (x : Inline) : Type 0 where

@@ -3,8 +3,8 @@ use Rattle.ad_lexer.specs.declared.fault.LexFault.{LexFault}
 use Rattle.ad_lexer.specs.declared.fault.LexFault.TheVariants as lexical
 use Rattle.ad_parser.specs.declared.fault.ParseFault.{ParseFault}
 use Rattle.ad_parser.specs.declared.fault.ParseFault.TheVariants as faults
-use Rattle.ad_parser.specs.declared.stop.Stop.{Stop}
-use Rattle.ad_parser.specs.declared.stop.Stop.TheVariants as stops
+use Rattle.ad_grammar.specs.declared.stop.Stop.{Stop}
+use Rattle.ad_grammar.specs.declared.stop.Stop.TheVariants as stops
 
 abbrev pub of_lexical : LexFault → ParseFault
 of_lexical (lexical.At kind place) = faults.Lex kind place

@@ -4,7 +4,7 @@ use Rattle.ad_tree.specs.Inline.{Inline}
 use Rattle.ad_parser.specs.declared.fault.ParseFault.{ParseFault}
 use Rattle.ad_parser.specs.declared.fault.ParseFault.TheVariants.{OutOfMemory}
 use Rattle.ad_parser.specs.Answers.{Spells, IsWithin, IsFault}
-use Rattle.ad_parser.specs.Words.{Word}
+use Rattle.ad_grammar.specs.Words.{Word}
 
 -- a fault that the text has, whatever the memory
 abbrev pub HasFault : (List Word → Inline → Type 0) → (Inline → ℕ) → List ℕ → ParseFault → Type 0

@@ -7,10 +7,10 @@ use Rattle.ad_tree.specs.Inline.{Inline, ad_of, phrase_of, phrase_tree}
 use Rattle.ad_tree.specs.Tree.{tree}
 use Rattle.ad_parser.specs.declared.fault.ParseFault.{ParseFault}
 use Rattle.ad_parser.specs.declared.fault.ParseFault.TheVariants.{OutOfMemory}
-use Rattle.ad_parser.specs.Answers.{IsRoot, Spells, IsWithin, frames_of_ad, frames_of_expr}
-use Rattle.ad_parser.specs.Grammar.{IsExpr}
+use Rattle.ad_parser.specs.Answers.{Spells, IsWithin, frames_of_ad, frames_of_expr}
+use Rattle.ad_grammar.specs.Grammar.{IsExpr, IsRoot}
 use Rattle.ad_parser.specs.OneAnswer.{HasFault}
-use Rattle.ad_parser.specs.Words.{Word}
+use Rattle.ad_grammar.specs.Words.{Word}
 
 -- a text has this outcome, by a rule of the grammar and a count of frames
 abbrev pub HasOutcome : (List Word → Inline → Type 0) → (Inline → ℕ) → List ℕ → Result Inline ParseFault → Type 0

@@ -1,16 +1,13 @@
 -- What the steps of a parse answer.
-use Rattle.std.specs.Prelude.{◌≡◌, ℕ, ◌≤◌, ◌<◌, true, false, List, Option, Some, None, option_map, Result, Ok, Err}
+use Rattle.std.specs.Prelude.{◌≡◌, ℕ, ◌+◌, ◌≤◌, ◌<◌, true, false, List, Result, Ok, Err}
 use Rattle.ad_lexer.specs.Tokens.{Fault}
-use Rattle.ad_tree.specs.Inline.{Inline, inner}
+use Rattle.ad_tree.specs.Inline.{Inline, height, count, definitions}
+use Rattle.ad_grammar.specs.Nesting.{nests_too_deep}
+use Rattle.ad_grammar.specs.Words.{Word}
 use Rattle.ad_parser.specs.declared.fault.ParseFault.{ParseFault}
 use Rattle.ad_parser.specs.declared.fault.ParseFault.TheVariants as faults
-use Rattle.ad_parser.specs.declared.node.Definitions.{Definitions}
-use Rattle.ad_parser.specs.declared.stop.Stop.{Stop}
-use Rattle.ad_parser.specs.declared.stop.Stop.TheVariants as stops
 use Rattle.ad_parser.specs.Answers.{HasWords}
-use Rattle.ad_parser.specs.Limits.{nests_too_deep, frame_limit, definition_limit}
-use Rattle.ad_parser.specs.Nodes.{definitions, pack_definitions}
-use Rattle.ad_parser.specs.Words.{Word}
+use Rattle.ad_parser.specs.Limits.{height_limit, frame_limit, definition_limit}
 
 -- the words of a text that don't nest too deep
 abbrev pub IsShallow : List ℕ → List Word → Type 0
@@ -23,18 +20,11 @@ IsEarlyFault text faults.Nesting = (ws : List Word) × HasWords text ws × (nest
 IsEarlyFault text faults.OutOfMemory = Unit {0}
 IsEarlyFault text fault = ⊥
 
--- the words were all read, or they don't fit
-pub record IsRead {A B : Type 0} (seen : A → B) (wanted : Option B) (answer : Result A Stop) : Type 0 where
-  pub ok : (a : A) → answer ≡ Ok a → wanted ≡ Some (seen a)
-  pub none : answer ≡ Err stops.Grammar → wanted ≡ None
-
--- an ad literal, or nothing where it is too high
-abbrev pub literal_of : Option Definitions → Option Inline
-literal_of ds = option_map (λ d. inner (pack_definitions (definitions d))) ds
-
--- so many frames and definitions are within the limits, or not
-abbrev pub IsCounted : ℕ → ℕ → Result (Unit {0}) ParseFault → Type 0
-IsCounted frames made (Ok done) = (frames ≤ frame_limit) × (made ≤ definition_limit)
-IsCounted frames made (Err faults.Frames) = frame_limit < frames
-IsCounted frames made (Err faults.Attributes) = (frames ≤ frame_limit) × (definition_limit < made)
-IsCounted frames made (Err fault) = ⊥
+-- a tree is within the limits, where so many roots are counted beside its frames, or it isn't
+abbrev pub IsChecked : ℕ → Inline → Result (Unit {0}) ParseFault → Type 0
+IsChecked roots x (Ok done) = (height x ≤ height_limit) × (roots + count x ≤ frame_limit) × (definitions x ≤ definition_limit)
+IsChecked roots x (Err faults.Depth) = height_limit < height x
+IsChecked roots x (Err faults.Frames) = (height x ≤ height_limit) × (frame_limit < roots + count x)
+IsChecked roots x (Err faults.Attributes) = (height x ≤ height_limit) × (roots + count x ≤ frame_limit) × (definition_limit < definitions x)
+IsChecked roots x (Err faults.OutOfMemory) = Unit {0}
+IsChecked roots x (Err fault) = ⊥

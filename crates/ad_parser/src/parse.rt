@@ -1,31 +1,25 @@
-// Parsing a text: its tokens, their words, the tree that these spell, and the ad of the tree.
-ghost use Rattle.std.specs.Prelude.{◌≡◌, ◌<◌, ◌+◌, ◌^◌, length, min, Some, Result, IfOk, IfErr};
+// Parsing a text: its tokens, their words, the program that builds their tree, and the ad of the tree.
+ghost use Rattle.std.specs.Prelude.{◌<◌, ◌≤◌, ◌^◌, length, Result, IfOk, IfErr};
 ghost use Rattle.ad_tree.specs.Ad.{ad_frames};
-ghost use Rattle.ad_tree.specs.Inline.{Inline, no_defs};
+ghost use Rattle.ad_tree.specs.Inline.{Inline};
 ghost use Rattle.ad_tree.specs.Small.{IsSmall};
+ghost use Rattle.ad_grammar.specs.Machine.{stack, top};
+ghost use Rattle.ad_grammar.specs.Steps.{left};
 ghost use Rattle.ad_parser.specs.declared.fault.ParseFault.{ParseFault};
 ghost use Rattle.ad_parser.specs.Answers.{AnswersAd, AnswersExpr};
-ghost use Rattle.ad_parser.specs.Limits.{height_limit};
 ghost use Rattle.ad_parser.specs.Outcomes.{HasAdOutcome, HasExprOutcome, IsAdAnswer, IsExprAnswer};
-ghost use Rattle.ad_parser.specs.Parts.{part, definition_parts, cut_defined_before};
-ghost use Rattle.ad_parser.specs.Rules.{cut_ad, parsed_ad, parsed_expr};
-ghost use Rattle.ad_parser.specs.Steps.{left};
-ghost use Rattle.ad_parser.specs.Taking.{IsShallow, IsEarlyFault, IsRead, IsCounted, literal_of};
+ghost use Rattle.ad_parser.specs.Taking.{IsShallow, IsEarlyFault, IsChecked};
 
 use crate::ParseFault;
-use crate::conversion::{convert_ad, convert_phrase};
-use crate::count::{Counts, tally, tally_definitions};
-use crate::grammar::{definitions, expression};
-use crate::mark::Mark;
-use crate::nesting::nests_too_deep;
-use crate::node::Definitions;
-use crate::part::{DefinitionParts, HEIGHT_LIMIT, Part};
-use crate::reader::Reader;
-use crate::stop::Stop;
-use crate::word::read_marks;
+use crate::builder::{build_ad, build_phrase};
+use crate::measure::measure;
+use ad_grammar::{Program, Reader, read_ad, read_expression};
 use ad_lexer::lex;
 use ad_tree::{Ad, Phrase};
 use std::alloc::Global;
+
+/// How high a tree may be.
+const HEIGHT_LIMIT: u32 = 64;
 
 /// How many frames a text may spell, the root included.
 const FRAME_LIMIT: u32 = 64;
@@ -64,11 +58,9 @@ fn ad_in(alloc: Global, text: &[u8]) -> Result<Ad, ParseFault>
     ensures { AnswersAd text.now result }
 {
     let reader = shallow_reader(alloc, text)?;
-    let Some(list) = read_ad(alloc, reader)? else {
-        return Err(ParseFault::Depth);
-    };
-    check_counts(tally_definitions(&list))?;
-    Ok(convert_ad(alloc, list)?)
+    let program = read_ad(alloc, reader)?;
+    check(alloc, &program, 0)?;
+    Ok(build_ad(alloc, program)?)
 }
 
 fn phrase_in(alloc: Global, text: &[u8]) -> Result<Phrase, ParseFault>
@@ -76,12 +68,9 @@ fn phrase_in(alloc: Global, text: &[u8]) -> Result<Phrase, ParseFault>
     ensures { AnswersExpr text.now result }
 {
     let reader = shallow_reader(alloc, text)?;
-    let Part { node, .. } = read_expression(alloc, reader)?;
-    let Some(node) = node else {
-        return Err(ParseFault::Depth);
-    };
-    check_counts(tally(&node))?;
-    Ok(convert_phrase(alloc, node)?)
+    let program = read_expression(alloc, reader)?;
+    check(alloc, &program, 1)?;
+    Ok(build_phrase(alloc, program)?)
 }
 
 /// The place in front of the words of a text, where no more constructs are open at once than may be.
@@ -91,62 +80,27 @@ fn shallow_reader<'a>(alloc: Global, text: &'a [u8]) -> Result<Reader<'a>, Parse
     ensures err { IfErr result (λ fault. IsEarlyFault text.now fault) }
 {
     let tokens = lex(alloc, text)?;
-    let marks = read_marks(alloc, &tokens)?;
-    if nests_too_deep(&marks) {
+    let reader = Reader::new(alloc, tokens)?;
+    if reader.nests_too_deep() {
         return Err(ParseFault::Nesting);
     }
-    Ok(Reader::new(tokens, marks))
+    Ok(reader)
 }
 
-/// The tree of words that are an expression.
-fn read_expression(alloc: Global, reader: Reader<'_>) -> Result<Part, Stop>
-    ensures { IsRead part (parsed_expr height_limit (left reader.entry)) result }
+/// Tests how high the tree of a program is, and how many frames and definitions it spells. An expression stands in a
+/// root of its own, which is one frame more.
+fn check(alloc: Global, program: &Program, roots: u32) -> Result<(), ParseFault>
+    requires { roots ≤ 1 }
+    ensures { IsChecked roots (top (stack program.now)) result }
 {
-    let mut reader = reader;
-    let fuel = reader.count() + 1;
-    let part = expression(alloc, &mut reader, fuel)?;
-    if reader.count() > 0 {
-        return Err(Stop::Grammar);
+    let tree = measure(alloc, program.instructions())?;
+    if tree.height > HEIGHT_LIMIT {
+        return Err(ParseFault::Depth);
     }
-    Ok(part)
-}
-
-/// The definitions of words that are an ad, nothing where its tree is too high.
-fn read_ad(alloc: Global, reader: Reader<'_>) -> Result<Option<Definitions>, Stop>
-    ensures { IsRead literal_of (parsed_ad height_limit (left reader.entry)) result }
-{
-    let mut reader = reader;
-    reader.expect(Mark::OpenBracket)?;
-    let fuel = reader.count() + 1;
-    let list = definitions(alloc, &mut reader, fuel)?;
-    if reader.count() > 0 {
-        return Err(Stop::Grammar);
-    }
-    Ok(low_definitions(list))
-}
-
-fn low_definitions(list: DefinitionParts) -> Option<Definitions>
-    ensures { literal_of result ≡ cut_ad height_limit (cut_defined_before (definition_parts list) (Some no_defs)) }
-{
-    let DefinitionParts {
-        definitions,
-        highest,
-    } = list;
-    if highest < HEIGHT_LIMIT {
-        definitions
-    } else {
-        None
-    }
-}
-
-/// Tests how many frames there are, with the root, and how many definitions.
-fn check_counts(counts: Counts) -> Result<(), ParseFault>
-    ensures { IsCounted (counts.frames + 1) counts.definitions result }
-{
-    if counts.frames + 1 > FRAME_LIMIT {
+    if tree.frames + roots > FRAME_LIMIT {
         return Err(ParseFault::Frames);
     }
-    if counts.definitions > DEFINITION_LIMIT {
+    if tree.definitions > DEFINITION_LIMIT {
         return Err(ParseFault::Attributes);
     }
     Ok(())

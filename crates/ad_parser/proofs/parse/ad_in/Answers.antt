@@ -1,8 +1,9 @@
 use Rattle.std.proofs.Common.{◌≡◌, ◌+◌, None, Some, Err, ap, ◌∙◌, refl}
 use Rattle.ad_tree.specs.Inline.{inner, count_defs}
-use Rattle.ad_parser.specs.Answers.{IsRoot, AnswersAd, frames_of_ad}
+use Rattle.ad_grammar.specs.Grammar.{IsRoot}
+use Rattle.ad_parser.specs.Answers.{AnswersAd, frames_of_ad}
 use Rattle.ad_parser.specs.Nodes.{definitions, pack_definitions}
-use Rattle.ad_parser.specs.Steps.{left}
+use Rattle.ad_grammar.specs.Steps.{left}
 use Rattle.ad_parser.specs.Taking.{literal_of}
 use Rattle.ad_parser.proofs.ParseLemmas.{hands_on, stops_at, ad-none-fault, ad-high, ad-low, counted-fault, counted-within}
 use Rattle.ad_parser.proofs.parse.ad_in.Goals as goal

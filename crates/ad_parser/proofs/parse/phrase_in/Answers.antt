@@ -1,9 +1,9 @@
 use Rattle.std.proofs.Common.{◌≡◌, ◌+◌, option_map, None, Some, Err, ap, ◌∙◌, refl}
 use Rattle.ad_tree.specs.Inline.{count}
 use Rattle.ad_parser.specs.Answers.{AnswersExpr, frames_of_expr}
-use Rattle.ad_parser.specs.Grammar.{IsExpr}
+use Rattle.ad_grammar.specs.Grammar.{IsExpr}
 use Rattle.ad_parser.specs.Nodes.{inline}
-use Rattle.ad_parser.specs.Steps.{left}
+use Rattle.ad_grammar.specs.Steps.{left}
 use Rattle.ad_parser.proofs.ParseLemmas.{hands_on, stops_at, expr-none, expr-high, expr-low, counted-fault, counted-within}
 use Rattle.ad_parser.proofs.parse.phrase_in.Goals as goal
 

@@ -1,9 +1,9 @@
 use Rattle.std.proofs.Common.{◌+◌, ap, refl, arith}
-use Rattle.ad_parser.specs.declared.stop.Stop.TheVariants as stops
+use Rattle.ad_grammar.specs.declared.stop.Stop.TheVariants as stops
 use Rattle.ad_parser.specs.Limits.{height_limit}
 use Rattle.ad_parser.specs.Parts.{part}
-use Rattle.ad_parser.specs.Rules.{parsed_expr}
-use Rattle.ad_parser.specs.Steps.{left}
+use Rattle.ad_grammar.specs.Rules.{parsed_expr}
+use Rattle.ad_grammar.specs.Steps.{left}
 use Rattle.ad_parser.proofs.ParseLemmas.{is_read-ok, is_read-none, expression-all, expression-more}
 use Rattle.ad_parser.proofs.parse.read_expression.Goals as goal
 

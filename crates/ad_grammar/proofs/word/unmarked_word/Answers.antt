@@ -1,0 +1,13 @@
+use Rattle.std.proofs.Math.Logic.{∥∥₁_map}
+use Rattle.ad_grammar.proofs.MerelyLemmas.{less-when}
+use Rattle.ad_grammar.proofs.WordLemmas.{string-quotation, name-quotation, integer-fits}
+use Rattle.ad_grammar.proofs.word.unmarked_word.Goals as goal
+
+pub content-requires : goal.content-requires
+content-requires c = ∥∥₁_map c.requires (λ spells. name-quotation c.args.token.now.kind c.args.token.now.text.now c.in-Quoted.is spells)
+
+pub content-requires-in-Str : goal.content-requires-in-Str
+content-requires-in-Str c = ∥∥₁_map c.requires (λ spells. string-quotation c.args.token.now.kind c.args.token.now.text.now c.in-Str.is spells)
+
+pub integer-requires : goal.integer-requires
+integer-requires c = less-when _ _ c.requires (λ spells. integer-fits c.args.token.now.kind c.args.token.now.text.now c.in-Int.is spells)

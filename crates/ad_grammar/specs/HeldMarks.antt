@@ -1,0 +1,43 @@
+-- Words as the code holds them: which marks they are is known beforehand, and only the other words are made.
+use Rattle.std.specs.Prelude.{Bool, true, false, List, [], ◌∷◌, Option, None, Some}
+use Rattle.std.specs.Option.{option_and_then}
+use Rattle.pool_text.specs.declared.language.Lit.TheVariants.{Undefined}
+use Rattle.ad_lexer.specs.Lexeme.{Lexeme}
+use Rattle.ad_grammar.specs.declared.mark.Mark.{Mark}
+use Rattle.ad_grammar.specs.declared.mark.Mark.TheVariants.{CloseParen, CloseBracket, CloseBrace, Comma, Semicolon}
+use Rattle.ad_grammar.specs.Words.{Word, constant, mark, word}
+
+-- the first word, and the mark that a word is
+abbrev pub front : List Word → Option Word
+front [] = None
+front (w ∷ ws) = Some w
+
+abbrev pub mark_in : Word → Option Mark
+mark_in (mark m) = Some m
+mark_in w = None
+
+abbrev pub front_mark : List Word → Option Mark
+front_mark ws = option_and_then mark_in (front ws)
+
+-- a mark behind an expression, with which no expression goes on
+abbrev pub ends : Option Mark → Bool
+ends (Some Semicolon) = true
+ends (Some Comma) = true
+ends (Some CloseBracket) = true
+ends (Some CloseBrace) = true
+ends (Some CloseParen) = true
+ends m = false
+
+abbrev pub ends_at : List Word → Bool
+ends_at ws = ends (front_mark ws)
+
+-- the word of a token that is known to be no mark
+abbrev pub unmarked : Word → Word
+unmarked (mark m) = constant Undefined
+unmarked w = w
+
+-- the words of tokens of which it is known which marks they are
+abbrev pub known_words : List (Option Mark) → List Lexeme → List Word
+known_words (Some m ∷ ms) (token ∷ tokens) = mark m ∷ known_words ms tokens
+known_words (None ∷ ms) (token ∷ tokens) = unmarked (word token) ∷ known_words ms tokens
+known_words ms tokens = []

@@ -1,0 +1,75 @@
+-- The spelled trees that the rules of the grammar build, and the tables of its operators.
+use Rattle.std.specs.Prelude.{ℕ, Option, None, Some}
+use Rattle.pool_text.specs.declared.language.BinOp.{BinOp}
+use Rattle.pool_text.specs.declared.language.BinOp.TheVariants.{BitOr, BitXor, BitAnd, Equal, Unequal, Same, NotSame, Less, AtMost, Greater, AtLeast, ShiftLeft, ShiftRight, ShiftZero, Add, Sub, Mul, Div, Rem}
+use Rattle.pool_text.specs.declared.language.UnOp.{UnOp}
+use Rattle.pool_text.specs.declared.language.UnOp.TheVariants as before
+use Rattle.ad_tree.specs.Inline.{Inline, Inlines, shape, end, next}
+use Rattle.ad_tree.specs.Tree.{Label, binary, all, any}
+use Rattle.ad_grammar.specs.declared.mark.Mark.{Mark}
+use Rattle.ad_grammar.specs.declared.mark.Mark.TheVariants.{And, Or, Not, Complement, Binary}
+use Rattle.ad_grammar.specs.declared.program.Infix.{Infix}
+use Rattle.ad_grammar.specs.declared.program.Infix.TheVariants as infixes
+
+-- a leaf, and nodes with one, two and three trees below
+abbrev pub leaf : Label → Inline
+leaf label = shape label end
+
+abbrev pub over_one : Label → Inline → Inline
+over_one label x = shape label (next x end)
+
+abbrev pub over_two : Label → Inline → Inline → Inline
+over_two label x y = shape label (next x (next y end))
+
+abbrev pub over_three : Label → Inline → Inline → Inline → Inline
+over_three label x y z = shape label (next x (next y (next z end)))
+
+-- trees with one more behind them
+abbrev pub followed_by : Inlines → Inline → Inlines
+followed_by end y = next y end
+followed_by (next x xs) y = next x (followed_by xs y)
+
+-- the tree of two operands: a chain of `&&` is one node, to which an operand on the right is added, and so with `||`
+abbrev pub joined : Infix → Inline → Inline → Inline
+joined infixes.And (shape all xs) y = shape all (followed_by xs y)
+joined infixes.And x y = over_two all x y
+joined infixes.Or (shape any xs) y = shape any (followed_by xs y)
+joined infixes.Or x y = over_two any x y
+joined (infixes.Binary op) x y = over_two (binary op) x y
+
+-- how loosely an operator binds, from 1 for `*` to 8 for `|`
+abbrev pub looseness : BinOp → ℕ
+looseness Mul = 1
+looseness Div = 1
+looseness Rem = 1
+looseness Add = 2
+looseness Sub = 2
+looseness ShiftLeft = 3
+looseness ShiftRight = 3
+looseness ShiftZero = 3
+looseness Less = 4
+looseness AtMost = 4
+looseness Greater = 4
+looseness AtLeast = 4
+looseness Equal = 5
+looseness Unequal = 5
+looseness Same = 5
+looseness NotSame = 5
+looseness BitAnd = 6
+looseness BitXor = 7
+looseness BitOr = 8
+
+-- the operator that a mark is between two operands, and how loosely it binds: 9 for `&&`, 10 for `||`
+abbrev pub infix_of : Mark → Option (ℕ × Infix)
+infix_of (Binary op) = Some (looseness op, infixes.Binary op)
+infix_of And = Some (9, infixes.And)
+infix_of Or = Some (10, infixes.Or)
+infix_of m = None
+
+-- the operator that a mark is before one operand
+abbrev pub prefix_of : Mark → Option UnOp
+prefix_of (Binary Add) = Some before.Plus
+prefix_of (Binary Sub) = Some before.Minus
+prefix_of Not = Some before.Not
+prefix_of Complement = Some before.Complement
+prefix_of m = None

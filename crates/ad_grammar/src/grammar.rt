@@ -1,0 +1,426 @@
+// The rules of the grammar, each a function that reads what stands at the front of the words that are left, and adds to a
+// program what builds its tree (ClassAd Language Reference Manual 2.4, grammar). `fuel` bounds how many expressions stand
+// within one another; the number of words and one more is enough. Chains are read by loops, so that only brackets take
+// stack.
+ghost use Rattle.std.specs.Prelude.{◌≡◌, ◌-◌, ◌≤◌, ◌∷◌, suc, length, IfOk, OnOk};
+ghost use Rattle.ad_grammar.specs.Levels.{climb};
+ghost use Rattle.ad_grammar.specs.Machine.{stack, top, below};
+ghost use Rattle.ad_grammar.specs.Rules as rules;
+ghost use Rattle.ad_grammar.specs.Rules.{Rule};
+ghost use Rattle.ad_grammar.specs.Steps.{left, Puts, reference, wrapped, applied, extended, completed};
+ghost use Rattle.ad_grammar.specs.Words.{mark as mark_word, scope_of};
+
+use crate::mark::Mark;
+use crate::program::{Instruction, Program};
+use crate::reader::Reader;
+use crate::stop::Stop;
+use crate::word::Word;
+use ad_tree::Scope;
+use pool_text::{OutOfMemory, Text, UnOp};
+use std::alloc::Global;
+
+/// How loosely `||` binds, the loosest of the operators between two operands.
+const LOOSEST: usize = 10;
+
+/// An expression. A literal alone, as most definitions have, is told by the mark behind it, and read at once.
+#[cycle(grammar)]
+pub fn expression(
+    alloc: Global,
+    reader: &mut Reader<'_>,
+    program: &mut Program,
+    fuel: usize,
+) -> Result<(), Stop>
+    ensures { Puts (rules.expression fuel (left reader.old)) result (left reader.new) (stack program.old) (stack program.new) }
+{
+    if fuel == 0 {
+        return Err(Stop::Grammar);
+    }
+    if let Some(literal) = reader.lone_literal(alloc)? {
+        return Ok(program.push(Instruction::Literal(literal))?);
+    }
+    conditionals(alloc, reader, program, fuel - 1)
+}
+
+/// A conditional, or what binds tighter.
+#[cycle(grammar)]
+fn conditionals(
+    alloc: Global,
+    reader: &mut Reader<'_>,
+    program: &mut Program,
+    fuel: usize,
+) -> Result<(), Stop>
+    ensures { Puts (rules.conditionals (rules.expression fuel) (suc (length (left reader.old))) (left reader.old))
+        result (left reader.new) (stack program.old) (stack program.new) }
+{
+    let mut pending: usize = 0;
+    let mut turns = reader.count() + 1;
+    while turns > 0 {
+        turns -= 1;
+        level(alloc, reader, program, fuel, LOOSEST)?;
+        if !reader.takes(Mark::Question) {
+            return Ok(program.choose(pending)?);
+        }
+        expression(alloc, reader, program, fuel)?;
+        reader.expect(Mark::Colon)?;
+        pending += 1;
+    }
+    Err(Stop::Grammar)
+}
+
+/// Operands and operators that bind at most this loosely.
+#[cycle(grammar)]
+fn level(
+    alloc: Global,
+    reader: &mut Reader<'_>,
+    program: &mut Program,
+    fuel: usize,
+    looseness: usize,
+) -> Result<(), Stop>
+    ensures { Puts (rules.level_at (rules.expression fuel) looseness (left reader.old))
+        result (left reader.new) (stack program.old) (stack program.new) }
+{
+    prefixes(alloc, reader, program, fuel)?;
+    climb(alloc, reader, program, fuel, looseness)
+}
+
+/// Operators that bind at most this loosely behind an operand, level by level from the tightest. Levels whose operators
+/// don't stand next are passed over at once.
+#[cycle(grammar)]
+fn climb(
+    alloc: Global,
+    reader: &mut Reader<'_>,
+    program: &mut Program,
+    fuel: usize,
+    looseness: usize,
+) -> Result<(), Stop>
+    ensures { Puts (climb (rules.expression fuel) 0 looseness (top (stack program.old)) (left reader.old))
+        result (left reader.new) (below (stack program.old)) (stack program.new) }
+{
+    let mut reached = 0;
+    while let Some(next) = reader.looseness(reached, looseness) {
+        operations(alloc, reader, program, fuel, next)?;
+        reached = next;
+    }
+    Ok(())
+}
+
+/// Operators of one looseness behind an operand, each with its right operand.
+#[cycle(grammar)]
+fn operations(
+    alloc: Global,
+    reader: &mut Reader<'_>,
+    program: &mut Program,
+    fuel: usize,
+    looseness: usize,
+) -> Result<(), Stop>
+    requires { 1 ≤ looseness }
+    ensures { Puts (rules.operations (rules.level_at (rules.expression fuel) (looseness - 1)) looseness
+        (length (left reader.old)) (top (stack program.old)) (left reader.old))
+        result (left reader.new) (below (stack program.old)) (stack program.new) }
+{
+    let mut turns = reader.count();
+    while turns > 0 {
+        turns -= 1;
+        let Some(operator) = reader.infix(looseness) else {
+            return Ok(());
+        };
+        level(alloc, reader, program, fuel, looseness - 1)?;
+        program.push(Instruction::Infix(operator))?;
+    }
+    Ok(())
+}
+
+/// Operators before an operand.
+#[cycle(grammar)]
+fn prefixes(
+    alloc: Global,
+    reader: &mut Reader<'_>,
+    program: &mut Program,
+    fuel: usize,
+) -> Result<(), Stop>
+    ensures { Puts (rules.prefixes (rules.expression fuel) (left reader.old))
+        result (left reader.new) (stack program.old) (stack program.new) }
+{
+    let operators = read_operators(alloc, reader)?;
+    postfix(alloc, reader, program, fuel)?;
+    Ok(apply(program, operators)?)
+}
+
+/// A primary with selections and subscripts behind it.
+#[cycle(grammar)]
+fn postfix(
+    alloc: Global,
+    reader: &mut Reader<'_>,
+    program: &mut Program,
+    fuel: usize,
+) -> Result<(), Stop>
+    ensures { Puts (rules.postfix (rules.expression fuel) (left reader.old))
+        result (left reader.new) (stack program.old) (stack program.new) }
+{
+    primary(alloc, reader, program, fuel)?;
+    suffixes(alloc, reader, program, fuel)
+}
+
+/// Selections and subscripts behind an operand.
+#[cycle(grammar)]
+fn suffixes(
+    alloc: Global,
+    reader: &mut Reader<'_>,
+    program: &mut Program,
+    fuel: usize,
+) -> Result<(), Stop>
+    ensures { Puts (rules.suffixes (rules.expression fuel) (length (left reader.old)) (top (stack program.old)) (left reader.old))
+        result (left reader.new) (below (stack program.old)) (stack program.new) }
+{
+    let mut turns = reader.count();
+    while turns > 0 {
+        turns -= 1;
+        if reader.takes(Mark::Dot) {
+            let name = reader.name(alloc)?;
+            program.push(Instruction::Select(name))?;
+        } else if reader.takes(Mark::OpenBracket) {
+            expression(alloc, reader, program, fuel)?;
+            reader.expect(Mark::CloseBracket)?;
+            program.push(Instruction::Subscript)?;
+        } else {
+            return Ok(());
+        }
+    }
+    Ok(())
+}
+
+/// What needs no operator.
+#[cycle(grammar)]
+fn primary(
+    alloc: Global,
+    reader: &mut Reader<'_>,
+    program: &mut Program,
+    fuel: usize,
+) -> Result<(), Stop>
+    ensures { Puts (rules.primary (rules.expression fuel) (left reader.old))
+        result (left reader.new) (stack program.old) (stack program.new) }
+{
+    match reader.take(alloc)? {
+        Some(Word::Constant(literal)) => Ok(program.push(Instruction::Literal(literal))?),
+        Some(Word::Plain(text)) => plain(alloc, reader, program, fuel, text),
+        Some(Word::Quoted(text)) => Ok(program.push(Instruction::Name(Scope::Bare, text))?),
+        Some(Word::Mark(mark)) => marked(alloc, reader, program, fuel, mark),
+        None => Err(Stop::Grammar),
+    }
+}
+
+/// A primary that begins with a mark, behind it.
+#[cycle(grammar)]
+fn marked(
+    alloc: Global,
+    reader: &mut Reader<'_>,
+    program: &mut Program,
+    fuel: usize,
+    mark: Mark,
+) -> Result<(), Stop>
+    ensures { Puts (rules.primary (rules.expression fuel) (mark_word mark ∷ left reader.old))
+        result (left reader.new) (stack program.old) (stack program.new) }
+{
+    match mark {
+        Mark::Dot => {
+            let name = reader.name(alloc)?;
+            Ok(program.push(Instruction::Name(Scope::My, name))?)
+        }
+        Mark::OpenBrace => {
+            program.push(Instruction::List)?;
+            elements(alloc, reader, program, fuel)
+        }
+        Mark::OpenBracket => {
+            program.push(Instruction::Ad)?;
+            definitions(alloc, reader, program, fuel)?;
+            Ok(program.push(Instruction::Close)?)
+        }
+        Mark::OpenParen => {
+            expression(alloc, reader, program, fuel)?;
+            reader.expect(Mark::CloseParen)
+        }
+        _ => Err(Stop::Grammar),
+    }
+}
+
+/// A plain name, a call, or a name in a scope.
+#[cycle(grammar)]
+fn plain(
+    alloc: Global,
+    reader: &mut Reader<'_>,
+    program: &mut Program,
+    fuel: usize,
+    text: &[u8],
+) -> Result<(), Stop>
+    ensures { Puts (rules.plain_at (rules.expression fuel) text.now (left reader.old))
+        result (left reader.new) (stack program.old) (stack program.new) }
+{
+    if reader.takes(Mark::OpenParen) {
+        program.push(Instruction::Call(Text::from_bytes(alloc, text)?))?;
+        return arguments(alloc, reader, program, fuel);
+    }
+    named(alloc, reader, program, text)
+}
+
+/// The arguments of a call behind its opening mark.
+#[cycle(grammar)]
+fn arguments(
+    alloc: Global,
+    reader: &mut Reader<'_>,
+    program: &mut Program,
+    fuel: usize,
+) -> Result<(), Stop>
+    ensures { Puts (extended (top (stack program.old)) (rules.arguments (rules.expression fuel) (left reader.old)))
+        result (left reader.new) (below (stack program.old)) (stack program.new) }
+{
+    if reader.takes(Mark::CloseParen) {
+        return Ok(());
+    }
+    several(alloc, reader, program, fuel)?;
+    reader.expect(Mark::CloseParen)
+}
+
+/// The elements of a list behind its opening mark.
+#[cycle(grammar)]
+fn elements(
+    alloc: Global,
+    reader: &mut Reader<'_>,
+    program: &mut Program,
+    fuel: usize,
+) -> Result<(), Stop>
+    ensures { Puts (extended (top (stack program.old)) (rules.elements (rules.expression fuel) (left reader.old)))
+        result (left reader.new) (below (stack program.old)) (stack program.new) }
+{
+    if reader.takes(Mark::CloseBrace) {
+        return Ok(());
+    }
+    several(alloc, reader, program, fuel)?;
+    reader.expect(Mark::CloseBrace)
+}
+
+/// One expression or more, divided by commas, which are added to the tree that is the last on the stack.
+#[cycle(grammar)]
+fn several(
+    alloc: Global,
+    reader: &mut Reader<'_>,
+    program: &mut Program,
+    fuel: usize,
+) -> Result<(), Stop>
+    ensures { Puts (extended (top (stack program.old))
+        (rules.several (rules.expression fuel) (length (left reader.old)) (left reader.old)))
+        result (left reader.new) (below (stack program.old)) (stack program.new) }
+{
+    let mut turns = reader.count();
+    while turns > 0 {
+        turns -= 1;
+        expression(alloc, reader, program, fuel)?;
+        program.push(Instruction::Element)?;
+        if !reader.takes(Mark::Comma) {
+            return Ok(());
+        }
+    }
+    Err(Stop::Grammar)
+}
+
+/// The definitions of an ad behind its opening mark, which are made in the tree that is the last on the stack.
+#[cycle(grammar)]
+pub fn definitions(
+    alloc: Global,
+    reader: &mut Reader<'_>,
+    program: &mut Program,
+    fuel: usize,
+) -> Result<(), Stop>
+    ensures { Puts (completed (top (stack program.old)) (rules.ad_behind (rules.expression fuel) (left reader.old)))
+        result (left reader.new) (below (stack program.old)) (stack program.new) }
+{
+    if reader.takes(Mark::CloseBracket) {
+        return Ok(());
+    }
+    some_definitions(alloc, reader, program, fuel)
+}
+
+#[cycle(grammar)]
+fn some_definitions(
+    alloc: Global,
+    reader: &mut Reader<'_>,
+    program: &mut Program,
+    fuel: usize,
+) -> Result<(), Stop>
+    ensures { Puts (completed (top (stack program.old))
+        (rules.definitions_at (rules.expression fuel) (length (left reader.old)) (left reader.old)))
+        result (left reader.new) (below (stack program.old)) (stack program.new) }
+{
+    let mut turns = reader.count();
+    while turns > 0 {
+        turns -= 1;
+        let name = reader.name(alloc)?;
+        reader.expect(Mark::Assign)?;
+        expression(alloc, reader, program, fuel)?;
+        program.push(Instruction::Define(name))?;
+        if !reader.goes_on()? {
+            return Ok(());
+        }
+    }
+    Err(Stop::Grammar)
+}
+
+/// The operators before an operand.
+fn read_operators(alloc: Global, reader: &mut Reader<'_>) -> Result<Vec<UnOp>, OutOfMemory>
+    ensures { IfOk result (λ operators. (e : Rule) → rules.prefixes e (left reader.old)
+        ≡ wrapped operators.items (rules.postfix e (left reader.new))) }
+{
+    let mut operators = Vec::new(alloc);
+    let mut turns = reader.count();
+    while turns > 0 {
+        turns -= 1;
+        let Some(operator) = reader.prefix() else {
+            return Ok(operators);
+        };
+        operators.push(operator)?;
+    }
+    Ok(operators)
+}
+
+/// The operators applied to the last tree, the last of them first.
+fn apply(program: &mut Program, operators: Vec<UnOp>) -> Result<(), OutOfMemory>
+    ensures top { OnOk result (top (stack program.new) ≡ applied operators.items (top (stack program.old))) }
+    ensures below { OnOk result (below (stack program.new) ≡ below (stack program.old)) }
+{
+    let mut operators = operators;
+    while let Some(operator) = operators.pop() {
+        program.push(Instruction::Unary(operator))?;
+    }
+    Ok(())
+}
+
+/// A plain name, where no call begins, or a name in a scope.
+fn named(
+    alloc: Global,
+    reader: &mut Reader<'_>,
+    program: &mut Program,
+    text: &[u8],
+) -> Result<(), Stop>
+    ensures { Puts (reference text.now (left reader.old)) result (left reader.new) (stack program.old) (stack program.new) }
+{
+    if let Some(scope) = scope_of(text) {
+        if reader.takes(Mark::Dot) {
+            let name = reader.name(alloc)?;
+            return Ok(program.push(Instruction::Name(scope, name))?);
+        }
+    }
+    let name = Text::from_bytes(alloc, text)?;
+    Ok(program.push(Instruction::Name(Scope::Bare, name))?)
+}
+
+/// The scope that a plain name is in front of a dot, in any case.
+fn scope_of(name: &[u8]) -> Option<Scope>
+    ensures { result ≡ scope_of name.now }
+{
+    if name.eq_ignore_ascii_case(b"my") || name.eq_ignore_ascii_case(b"self") {
+        Some(Scope::My)
+    } else if name.eq_ignore_ascii_case(b"target") || name.eq_ignore_ascii_case(b"other") {
+        Some(Scope::Target)
+    } else {
+        None
+    }
+}

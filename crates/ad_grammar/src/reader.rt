@@ -1,0 +1,232 @@
+// The parser's place in the words of a text.
+ghost use Rattle.std.specs.Prelude.{◌≡◌, ◌≤◌, length};
+ghost use Rattle.ad_grammar.specs.Meaning.{AreSpelled};
+
+use crate::mark::Mark;
+use crate::nesting::nest_too_deep;
+use crate::operators::{ends, infix_of, prefix_of};
+use crate::program::Infix;
+use crate::stop::Stop;
+use crate::word::{Word, read_marks, unmarked_word};
+use ad_lexer::Tokens;
+use pool_text::{Lit, OutOfMemory, Text, UnOp};
+use std::alloc::Global;
+
+/// The words of a text, from a place on. A token is made a word when it is taken; which tokens are marks is known before,
+/// since the rules look at the next one many times.
+#[derive(Debug, Drop)]
+pub struct Reader<'a> {
+    tokens: Tokens<'a>,
+    marks: Vec<Option<Mark>>,
+    at: usize,
+    ghost spelled: { ∥ AreSpelled tokens ∥₁ },
+    ghost paired: { length marks.items ≡ length tokens },
+    ghost within: { at ≤ length tokens },
+}
+
+impl<'a> Reader<'a> {
+    ghost use Rattle.std.specs.Prelude.{◌<◌, ◌∷◌, ◌^◌, ℕ, List, drop, map, option_map, Some, None, Ok, Err, IfOk, OnOk};
+    ghost use Rattle.std.specs.Bool.{Decides};
+    ghost use Rattle.ad_grammar.specs.Levels.{looseness_at};
+    ghost use Rattle.ad_grammar.specs.Meaning.{meaning};
+    ghost use Rattle.ad_grammar.specs.Nesting.{nests_too_deep};
+    ghost use Rattle.ad_grammar.specs.Rules.{name_at, infix_at};
+    ghost use Rattle.ad_grammar.specs.Steps.{left, prefix_at, IsLone, Takes, Gives, Finds, Continues};
+    ghost use Rattle.ad_grammar.specs.HeldMarks.{front, front_mark, mark_in, ends_at};
+    ghost use Rattle.ad_grammar.specs.Words.{Word as MeantWord, mark as mark_word, words};
+    ghost use Rattle.pool_text.specs.declared.language.Lit.{Lit as MeantLit};
+    ghost use Rattle.ad_grammar.specs.declared.stop.Stop.{Stop};
+
+    /// The place in front of the words of these tokens.
+    pub fn new(alloc: Global, tokens: Tokens<'a>) -> Result<Reader<'a>, OutOfMemory>
+        requires { AreSpelled tokens }
+        ensures { IfOk result (λ reader. left reader ≡ words tokens.entry) }
+    {
+        let marks = read_marks(alloc, &tokens)?;
+        Ok(Reader {
+            tokens,
+            marks,
+            at: 0,
+        })
+    }
+
+    /// Whether after some word more than 130 brackets and question marks are open. 
+    pub fn nests_too_deep(&self) -> bool
+        ensures { result ≡ nests_too_deep (left self.now) }
+    {
+        nest_too_deep(&self.marks[self.at..])
+    }
+
+    /// How many words are left.
+    pub(crate) fn count(&self) -> usize
+        ensures value { result ≡ length (left self.now) }
+        ensures few { result < 2 ^ 63 }
+    {
+        self.marks.len() - self.at
+    }
+
+    /// Takes the next word.
+    #[inline(always)]
+    pub(crate) fn take(&mut self, alloc: Global) -> Result<Option<Word<'a>>, OutOfMemory>
+        ensures word { IfOk result (λ w. option_map meaning w ≡ front (left self.old)) }
+        ensures left { OnOk result (left self.new ≡ drop 1 (left self.old)) }
+    {
+        let word = self.next(alloc)?;
+        self.skip();
+        Ok(word)
+    }
+
+    #[inline(always)]
+    fn next(&self, alloc: Global) -> Result<Option<Word<'a>>, OutOfMemory>
+        ensures { IfOk result (λ w. option_map meaning w ≡ front (left self.now)) }
+    {
+        if self.at >= self.marks.len() {
+            return Ok(None);
+        }
+        match self.marks[self.at] {
+            Some(mark) => Ok(Some(Word::Mark(mark))),
+            None => Ok(Some(unmarked_word(alloc, &self.tokens.at(self.at))?)),
+        }
+    }
+
+    /// Takes a literal that stands next with a mark behind it that no expression goes on with.
+    #[inline(always)]
+    pub(crate) fn lone_literal(&mut self, alloc: Global) -> Result<Option<Lit>, OutOfMemory>
+        ensures some { (lit : MeantLit) → result ≡ Ok (Some lit) → IsLone lit (left self.old) (left self.new) }
+        ensures none { result ≡ Ok None → left self.new ≡ left self.old }
+    {
+        if !self.ends_behind_next() {
+            return Ok(None);
+        }
+        match self.next(alloc)? {
+            Some(Word::Constant(literal)) => {
+                self.skip();
+                Ok(Some(literal))
+            }
+            _ => Ok(None),
+        }
+    }
+
+    #[inline(always)]
+    fn ends_behind_next(&self) -> bool
+        ensures { result ≡ ends_at (drop 1 (left self.now)) }
+    {
+        let place = self.at + 1;
+        if place < self.marks.len() {
+            ends(self.marks[place])
+        } else {
+            false
+        }
+    }
+
+    /// The next word, where it is a mark.
+    pub(crate) fn mark(&self) -> Option<Mark>
+        ensures { result ≡ front_mark (left self.now) }
+    {
+        if self.at < self.marks.len() {
+            self.marks[self.at]
+        } else {
+            None
+        }
+    }
+
+    fn sees(&self, mark: Mark) -> bool
+        ensures { Decides result (front_mark (left self.now) ≡ Some mark) }
+    {
+        match self.mark() {
+            Some(front) => front == mark,
+            None => false,
+        }
+    }
+
+    /// Takes the mark, where it stands next.
+    pub(crate) fn takes(&mut self, mark: Mark) -> bool
+        ensures { Takes mark (left self.old) (left self.new) result }
+    {
+        if !self.sees(mark) {
+            return false;
+        }
+        self.skip();
+        true
+    }
+
+    fn skip(&mut self)
+        ensures { left self.new ≡ drop 1 (left self.old) }
+    {
+        if self.at < self.marks.len() {
+            self.at += 1;
+        }
+    }
+
+    /// Takes the mark, which is to stand next.
+    pub(crate) fn expect(&mut self, mark: Mark) -> Result<(), Stop>
+        ensures ok { (done : Unit {0}) → result ≡ Ok done → left self.old ≡ mark_word mark ∷ left self.new }
+        ensures none { (stop : Stop) → result ≡ Err stop → (rest : List MeantWord) → left self.old ≡ mark_word mark ∷ rest → ⊥ }
+    {
+        if self.takes(mark) {
+            Ok(())
+        } else {
+            Err(Stop::Grammar)
+        }
+    }
+
+    /// Takes a name.
+    #[inline(always)]
+    pub(crate) fn name(&mut self, alloc: Global) -> Result<Text, Stop>
+        ensures { Gives (λ (t : List ℕ). t) (name_at (left self.old)) result (left self.new) }
+    {
+        match self.take(alloc)? {
+            Some(Word::Plain(text)) => Ok(Text::from_bytes(alloc, text)?),
+            Some(Word::Quoted(text)) => Ok(text),
+            _ => Err(Stop::Grammar),
+        }
+    }
+
+    /// How loosely the operator between operands binds that stands next, where it binds more loosely than `tighter` and at
+    /// most as loosely as `loosest`.
+    pub(crate) fn looseness(&self, tighter: usize, loosest: usize) -> Option<usize>
+        ensures some { (n : ℕ) → result ≡ Some n → (looseness_at (left self.now) ≡ Some n) × (tighter < n) × (n ≤ loosest) }
+        ensures none { result ≡ None → (n : ℕ) → looseness_at (left self.now) ≡ Some n → tighter < n → n ≤ loosest → ⊥ }
+    {
+        let (found, _) = infix_of(self.mark()?)?;
+        if tighter < found && found <= loosest {
+            Some(found)
+        } else {
+            None
+        }
+    }
+
+    /// Takes an operator that binds so loosely between two operands.
+    pub(crate) fn infix(&mut self, looseness: usize) -> Option<Infix>
+        ensures { Finds (λ (op : Infix). op) (infix_at looseness (left self.old)) result (left self.old) (left self.new) }
+    {
+        let mark = self.mark()?;
+        let (found, operator) = infix_of(mark)?;
+        if found != looseness {
+            return None;
+        }
+        self.skip();
+        Some(operator)
+    }
+
+    /// Takes an operator before an operand.
+    pub(crate) fn prefix(&mut self) -> Option<UnOp>
+        ensures { Finds (λ (op : UnOp). op) (prefix_at (left self.old)) result (left self.old) (left self.new) }
+    {
+        let mark = self.mark()?;
+        let op = prefix_of(mark)?;
+        self.skip();
+        Some(op)
+    }
+
+    /// Whether another definition stands behind one, with the marks between or behind them taken.
+    pub(crate) fn goes_on(&mut self) -> Result<bool, Stop>
+        ensures { Continues (left self.old) (left self.new) result }
+    {
+        if self.takes(Mark::CloseBracket) {
+            return Ok(false);
+        }
+        self.expect(Mark::Semicolon)?;
+        Ok(!self.takes(Mark::CloseBracket))
+    }
+}

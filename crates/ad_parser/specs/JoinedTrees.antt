@@ -1,0 +1,22 @@
+-- Plain trees of two operands.
+use Rattle.ad_tree.specs.Tree.{Tree, Trees, node, frame, none, more, two, binary, all, any}
+use Rattle.ad_grammar.specs.declared.program.Infix.{Infix}
+use Rattle.ad_grammar.specs.declared.program.Infix.TheVariants as infixes
+
+-- trees with one more behind them
+abbrev pub last_tree : Trees → Tree → Trees
+last_tree none u = more u none
+last_tree (more t ts) u = more t (last_tree ts u)
+
+-- an operator between two operands: a chain of its own takes the second as one operand more
+abbrev pub joined_tree : Infix → Tree → Tree → Tree
+joined_tree infixes.And (node all ts) u = node all (last_tree ts u)
+joined_tree infixes.And t u = node all (two t u)
+joined_tree infixes.Or (node any ts) u = node any (last_tree ts u)
+joined_tree infixes.Or t u = node any (two t u)
+joined_tree (infixes.Binary op) t u = node (binary op) (two t u)
+
+-- a list or a call with one tree more
+abbrev pub with_element_tree : Tree → Tree → Tree
+with_element_tree (node label ts) u = node label (last_tree ts u)
+with_element_tree (frame f) u = frame f

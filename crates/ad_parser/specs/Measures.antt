@@ -1,0 +1,28 @@
+-- What the limits ask of a tree, as numbers.
+use Rattle.std.specs.Prelude.{◌≡◌, ℕ, min, List, [], ◌∷◌}
+use Rattle.ad_tree.specs.Inline.{Inline, shape, inner, height, count, definitions}
+use Rattle.ad_tree.specs.Tree.{all, any}
+use Rattle.ad_parser.specs.declared.measure.Kind.{Kind}
+use Rattle.ad_parser.specs.declared.measure.Kind.TheVariants.{All, Any, Node, Ad}
+use Rattle.ad_parser.specs.declared.measure.Measure.{Measure}
+use Rattle.ad_parser.specs.Counts.{counting_limit}
+
+-- the kinds of trees that take more behind what they have: chains of `&&` and of `||`, other nodes, and ad literals
+abbrev pub kind_of : Inline → Kind
+kind_of (shape all xs) = All
+kind_of (shape any xs) = Any
+kind_of (shape label xs) = Node
+kind_of (inner ds) = Ad
+
+-- the numbers of a tree, each exact up to the counting limit
+pub record IsMeasure (m : Measure) (x : Inline) : Type 0 where
+  pub height : m.height ≡ min counting_limit (height x)
+  pub frames : m.frames ≡ min counting_limit (count x)
+  pub definitions : m.definitions ≡ min counting_limit (definitions x)
+  pub kind : m.kind ≡ kind_of x
+
+-- those of the trees of a stack
+abbrev pub AreMeasures : List Measure → List Inline → Type 0
+AreMeasures [] [] = Unit {0}
+AreMeasures (m ∷ ms) (x ∷ xs) = IsMeasure m x × AreMeasures ms xs
+AreMeasures ms xs = ⊥

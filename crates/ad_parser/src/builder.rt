@@ -1,0 +1,304 @@
+// The builder of ads and of expressions: it carries out a program. Ad literals become frames of a draft, whose definitions
+// are made there one after another. The program is used up, so that its names and strings move into the ad.
+//
+// No program that was read asks for an operand that isn't there; for one that does, the answer is want of memory, which
+// promises nothing.
+ghost use Rattle.std.specs.Prelude.{◌≡◌, ◌<◌, [], ◌∷◌, length, true, false, List, IfOk, OnOk};
+ghost use Rattle.ad_tree.specs.Ad.{ad_frames};
+ghost use Rattle.ad_tree.specs.Draft.{draft_frames};
+ghost use Rattle.ad_tree.specs.Inline.{Inline, inner, no_defs, ad_of, phrase_of, phrase_tree};
+ghost use Rattle.ad_tree.specs.Tree.{tree, trees, node, all, any, pack};
+ghost use Rattle.ad_grammar.specs.Machine.{stack, top};
+ghost use Rattle.ad_grammar.specs.declared.program.Instruction.TheVariants as instructions;
+ghost use Rattle.ad_grammar.specs.declared.program.Infix.TheVariants as infixes;
+ghost use Rattle.ad_parser.specs.Builds.{HasPut, Holds, Carries};
+ghost use Rattle.ad_parser.specs.JoinedTrees.{joined_tree, with_element_tree};
+ghost use Rattle.ad_parser.specs.Laid.{value};
+
+use crate::stack::Stack;
+use ad_grammar::{Infix, Instruction, Program};
+use ad_tree::{Ad, Draft, Expr, Exprs, Phrase};
+use pool_text::{OutOfMemory, Text};
+use std::alloc::Global;
+
+/// A tree, or an ad literal whose definitions are being made: its frame, and the frame in which it stands.
+#[derive(Debug, Drop)]
+pub enum Operand {
+    Value(Expr),
+    Open(u32, u32),
+}
+
+/// An ad while its program is carried out: `parent` is the frame in which the next tree stands.
+#[derive(Drop)]
+pub struct Builder {
+    alloc: Global,
+    draft: Draft,
+    operands: Stack<Operand>,
+    parent: u32,
+    ghost inside: { parent < length (draft_frames draft) },
+}
+
+/// The ad that a program builds as an ad literal that is still open.
+pub fn build_ad(alloc: Global, program: Program) -> Result<Ad, OutOfMemory>
+    ensures { IfOk result (λ ad. ad_frames ad ≡ ad_of (top (stack program))) }
+{
+    let mut instructions = program.into_instructions().into_iter();
+    let Some(Instruction::Ad) = instructions.next() else {
+        return Err(OutOfMemory);
+    };
+    let mut builder = Builder::of_ad(alloc)?;
+    for instruction in instructions {
+        builder.carry_out(instruction)?;
+    }
+    builder.finish_ad()
+}
+
+/// The expression that a program builds, with the ad of its ad literals.
+pub fn build_phrase(alloc: Global, program: Program) -> Result<Phrase, OutOfMemory>
+    ensures { IfOk result (λ phrase. (ad_frames phrase.ad ≡ phrase_of (top (stack program)))
+        × (tree phrase.expr ≡ phrase_tree (top (stack program)))) }
+{
+    let mut builder = Builder::of_expression(alloc);
+    for instruction in program.into_instructions() {
+        builder.carry_out(instruction)?;
+    }
+    builder.finish_phrase()
+}
+
+impl Builder {
+    /// Nothing but an empty root.
+    fn of_expression(alloc: Global) -> Builder
+        ensures { Holds false result [] }
+    {
+        Builder {
+            alloc,
+            draft: Draft::new(alloc),
+            operands: Stack::new(alloc),
+            parent: 0,
+        }
+    }
+
+    /// The root as an ad literal that is open.
+    fn of_ad(alloc: Global) -> Result<Builder, OutOfMemory>
+        ensures { IfOk result (λ builder. Holds true builder (inner no_defs ∷ [])) }
+    {
+        let mut operands = Stack::new(alloc);
+        operands.push(Operand::Open(0, 0))?;
+        Ok(Builder {
+            alloc,
+            draft: Draft::new(alloc),
+            operands,
+            parent: 0,
+        })
+    }
+
+    fn carry_out(&mut self, instruction: Instruction) -> Result<(), OutOfMemory>
+        ensures { Carries instruction self.old self.new result }
+    {
+        match instruction {
+            Instruction::Literal(literal) => self.put(Expr::Literal(literal)),
+            Instruction::Name(scope, name) => self.put(Expr::Name(scope, name)),
+            Instruction::Unary(operator) => {
+                let operand = self.boxed()?;
+                self.put(Expr::Unary(operator, operand))
+            }
+            Instruction::Infix(operator) => self.infix(operator),
+            Instruction::Choice => self.choice(),
+            Instruction::Select(name) => self.select(name),
+            Instruction::Subscript => {
+                let place = self.boxed()?;
+                let base = self.boxed()?;
+                self.put(Expr::Subscript(base, place))
+            }
+            Instruction::List => self.put(Expr::List(Exprs::new(self.alloc))),
+            Instruction::Call(name) => self.put(Expr::Call(name, Exprs::new(self.alloc))),
+            Instruction::Element => self.element(),
+            Instruction::Ad => self.open(),
+            Instruction::Define(name) => self.define(name),
+            Instruction::Close => self.close(),
+        }
+    }
+
+    /// A tree more.
+    fn put(&mut self, expr: Expr) -> Result<(), OutOfMemory>
+        ensures { OnOk result (HasPut (value (tree expr)) self.old self.new) }
+    {
+        self.operands.push(Operand::Value(expr))
+    }
+
+    /// The last tree, which is taken.
+    fn value(&mut self) -> Result<Expr, OutOfMemory>
+        ensures { IfOk result (λ expr. HasPut (value (tree expr)) self.new self.old) }
+    {
+        match self.operands.pop() {
+            Some(Operand::Value(expr)) => Ok(expr),
+            _ => Err(OutOfMemory),
+        }
+    }
+
+    /// The same in a box.
+    fn boxed(&mut self) -> Result<Box<Expr>, OutOfMemory>
+        ensures { IfOk result (λ expr. HasPut (value (tree expr.value)) self.new self.old) }
+    {
+        let expr = self.value()?;
+        Ok(Box::new(self.alloc, expr)?)
+    }
+
+    fn infix(&mut self, operator: Infix) -> Result<(), OutOfMemory>
+        ensures { Carries (instructions.Infix operator) self.old self.new result }
+    {
+        let second = self.value()?;
+        let first = self.value()?;
+        let expr = joined(self.alloc, operator, first, second)?;
+        self.put(expr)
+    }
+
+    fn choice(&mut self) -> Result<(), OutOfMemory>
+        ensures { Carries instructions.Choice self.old self.new result }
+    {
+        let third = self.boxed()?;
+        let second = self.boxed()?;
+        let first = self.boxed()?;
+        self.put(Expr::Cond(first, second, third))
+    }
+
+    fn select(&mut self, name: Text) -> Result<(), OutOfMemory>
+        ensures { Carries (instructions.Select name) self.old self.new result }
+    {
+        let base = self.boxed()?;
+        self.put(Expr::Select(base, name))
+    }
+
+    /// Adds the last tree to the list or the call below it.
+    fn element(&mut self) -> Result<(), OutOfMemory>
+        ensures { Carries instructions.Element self.old self.new result }
+    {
+        let element = self.value()?;
+        let whole = self.value()?;
+        self.put(with_element(whole, element)?)
+    }
+
+    /// Opens a frame for an ad literal.
+    fn open(&mut self) -> Result<(), OutOfMemory>
+        ensures { Carries instructions.Ad self.old self.new result }
+    {
+        let frame = self.draft.frame(self.parent)?;
+        self.operands.push(Operand::Open(frame, self.parent))?;
+        self.parent = frame;
+        Ok(())
+    }
+
+    /// Defines a name as the last tree in the ad literal below it.
+    fn define(&mut self, name: Text) -> Result<(), OutOfMemory>
+        ensures { Carries (instructions.Define name) self.old self.new result }
+    {
+        let value = self.value()?;
+        match self.operands.last() {
+            Some(Operand::Open(_, _)) => self.draft.define(self.parent, name, value),
+            _ => Err(OutOfMemory),
+        }
+    }
+
+    /// Ends the definitions of the ad literal that is the last operand.
+    fn close(&mut self) -> Result<(), OutOfMemory>
+        ensures { Carries instructions.Close self.old self.new result }
+    {
+        match self.operands.pop() {
+            Some(Operand::Open(frame, outer)) if outer < self.parent => {
+                self.parent = outer;
+                self.put(Expr::Frame(frame))
+            }
+            _ => Err(OutOfMemory),
+        }
+    }
+
+    /// The ad of the root, where it is the only operand.
+    fn finish_ad(mut self) -> Result<Ad, OutOfMemory>
+        ensures { (st : List Inline) → Holds true self st → IfOk result (λ ad. ad_frames ad ≡ ad_of (top st)) }
+    {
+        let last = self.operands.pop();
+        if last.is_none() || !self.operands.is_empty() {
+            return Err(OutOfMemory);
+        }
+        self.draft.finish()
+    }
+
+    /// The only operand as an expression that stands alone.
+    fn finish_phrase(mut self) -> Result<Phrase, OutOfMemory>
+        ensures { (st : List Inline) → Holds false self st → IfOk result (λ phrase.
+            (ad_frames phrase.ad ≡ phrase_of (top st)) × (tree phrase.expr ≡ phrase_tree (top st))) }
+    {
+        let expr = self.value()?;
+        if !self.operands.is_empty() {
+            return Err(OutOfMemory);
+        }
+        self.draft.finish_phrase(expr)
+    }
+}
+
+/// Two operands joined. A chain of the operator's own takes the second as one operand more.
+fn joined(
+    alloc: Global,
+    operator: Infix,
+    first: Expr,
+    second: Expr,
+) -> Result<Expr, OutOfMemory>
+    ensures { IfOk result (λ expr. tree expr ≡ joined_tree operator (tree first) (tree second)) }
+{
+    match operator {
+        Infix::And => Ok(Expr::And(conjuncts(alloc, first, second)?)),
+        Infix::Or => Ok(Expr::Or(disjuncts(alloc, first, second)?)),
+        Infix::Binary(operator) => {
+            let first = Box::new(alloc, first)?;
+            let second = Box::new(alloc, second)?;
+            Ok(Expr::Binary(operator, first, second))
+        }
+    }
+}
+
+fn conjuncts(alloc: Global, first: Expr, second: Expr) -> Result<Exprs, OutOfMemory>
+    ensures { IfOk result (λ list. node all (pack (trees list)) ≡ joined_tree infixes.And (tree first) (tree second)) }
+{
+    let mut list = match first {
+        Expr::And(list) => list,
+        other => one(alloc, other)?,
+    };
+    list.push(second)?;
+    Ok(list)
+}
+
+fn disjuncts(alloc: Global, first: Expr, second: Expr) -> Result<Exprs, OutOfMemory>
+    ensures { IfOk result (λ list. node any (pack (trees list)) ≡ joined_tree infixes.Or (tree first) (tree second)) }
+{
+    let mut list = match first {
+        Expr::Or(list) => list,
+        other => one(alloc, other)?,
+    };
+    list.push(second)?;
+    Ok(list)
+}
+
+fn one(alloc: Global, expr: Expr) -> Result<Exprs, OutOfMemory>
+    ensures { IfOk result (λ list. trees list ≡ tree expr ∷ []) }
+{
+    let mut list = Exprs::new(alloc);
+    list.push(expr)?;
+    Ok(list)
+}
+
+/// A list or a call with one tree more.
+fn with_element(whole: Expr, element: Expr) -> Result<Expr, OutOfMemory>
+    ensures { IfOk result (λ expr. tree expr ≡ with_element_tree (tree whole) (tree element)) }
+{
+    match whole {
+        Expr::List(mut list) => {
+            list.push(element)?;
+            Ok(Expr::List(list))
+        }
+        Expr::Call(name, mut list) => {
+            list.push(element)?;
+            Ok(Expr::Call(name, list))
+        }
+        _ => Err(OutOfMemory),
+    }
+}

@@ -1,0 +1,59 @@
+// Stacks.
+use pool_text::OutOfMemory;
+use std::alloc::Global;
+use std::marker::Model;
+
+/// A stack, which contracts see as the list of its items, the last one first.
+#[derive(Debug, Drop)]
+pub struct Stack<T> {
+    items: Vec<T>,
+}
+
+impl<T> Model for Stack<T> {
+    ghost use Rattle.std.specs.Prelude.{List, reverse};
+
+    ghost Value = { List T };
+
+    ghost view = { λ s. reverse s.items.items };
+}
+
+impl<T: Drop> Stack<T> {
+    ghost use Rattle.std.specs.Prelude.{◌≡◌, ◌∷◌, [], IfSome, None, Some, OnOk, slice_get};
+    ghost use Rattle.std.specs.Bool.{Decides};
+
+    pub fn new(alloc: Global) -> Stack<T>
+        ensures { result ≡ [] }
+    {
+        Stack {
+            items: Vec::new(alloc),
+        }
+    }
+
+    pub fn push(&mut self, item: T) -> Result<(), OutOfMemory>
+        ensures { OnOk result (self.new ≡ item ∷ self.old) }
+    {
+        self.items.push(item)?;
+        Ok(())
+    }
+
+    /// Takes the last item.
+    pub fn pop(&mut self) -> Option<T>
+        ensures some { IfSome result (λ item. self.old ≡ item ∷ self.new) }
+        ensures none { result ≡ None → (self.old ≡ []) × (self.new ≡ []) }
+    {
+        self.items.pop()
+    }
+
+    /// The last item, which stays.
+    pub fn last(&self) -> Option<&T>
+        ensures { IfSome result (λ item. slice_get self.now 0 ≡ Some item.now) }
+    {
+        self.items.last()
+    }
+
+    pub fn is_empty(&self) -> bool
+        ensures { Decides result (self.now ≡ []) }
+    {
+        self.items.is_empty()
+    }
+}

@@ -9,15 +9,16 @@ use Rattle.ad_tree.specs.Inline.{Inline, Defs, inner, height, frames, number, sp
 use Rattle.ad_tree.specs.Tree.{tree}
 use Rattle.ad_tree.proofs.SpellingLemmas.{settled-settled}
 use Rattle.ad_parser.specs.declared.fault.ParseFault.{ParseFault}
-use Rattle.ad_parser.specs.Answers.{HasWords, IsRoot, Spells, IsWithin, frames_of_expr, frames_of_ad, AnswersAd, AnswersExpr}
-use Rattle.ad_parser.specs.Grammar.{IsExpr}
-use Rattle.ad_parser.specs.Limits.{height_limit, nests_too_deep}
-use Rattle.ad_parser.specs.Made.{IsMade}
+use Rattle.ad_parser.specs.Answers.{HasWords, Spells, IsWithin, frames_of_expr, frames_of_ad, AnswersAd, AnswersExpr}
+use Rattle.ad_grammar.specs.Grammar.{IsExpr, IsRoot}
+use Rattle.ad_grammar.specs.Nesting.{nests_too_deep}
+use Rattle.ad_parser.specs.Limits.{height_limit}
+use Rattle.ad_grammar.specs.Made.{IsMade}
 use Rattle.ad_parser.specs.Outcomes.{IsAdAnswer, IsExprAnswer}
 use Rattle.ad_parser.proofs.AnswerLemmas.{spells_same}
 use Rattle.ad_parser.proofs.KeptLemmas.{ad-kept, ad_answer-made, ad_answer-within, phrase-kept, phrase_answer-made, phrase_answer-within}
 use Rattle.ad_parser.proofs.Outcomes.{ad_answer-fits, expr_answer-fits}
-use Rattle.ad_parser.proofs.UniqueLemmas.{expr-one, expr-decided, root-one, root-decided}
+use Rattle.ad_grammar.proofs.UniqueLemmas.{expr-one, expr-decided, root-one, root-decided}
 use Rattle.ad_printer.specs.Printed.{loose, pieces, printed}
 use Rattle.ad_printer.specs.ReadBack.{IsAdAgain, IsPhraseAgain}
 use Rattle.ad_printer.specs.Values.{printed_frame}

@@ -9,13 +9,15 @@ use Rattle.ad_lexer.specs.Tokens.{Item, token}
 use Rattle.ad_lexer.specs.declared.token.TokenKind.TheVariants as kinds
 use Rattle.ad_tree.specs.Inline.{Inline, shape, inner, Inlines, end, next}
 use Rattle.ad_tree.specs.Tree.{Label, unary, binary, all, any}
-use Rattle.ad_parser.specs.Grammar as grammar
-use Rattle.ad_parser.specs.Grammar.{IsExpr, IsLevel, IsUnary, IsPostfix, IsPrimary, IsNoScope}
-use Rattle.ad_parser.specs.Made.{begins_with_all, begins_with_any}
-use Rattle.ad_parser.specs.Shapes.{over_one, over_two, followed_by, Infix, conjunction, disjunction, operator, joined, looseness, infix_of, prefix_of}
-use Rattle.ad_parser.specs.Words.{Word, plain, quoted, constant, mark, word_of_kind}
-use Rattle.ad_parser.specs.declared.mark.Mark.{Mark}
-use Rattle.ad_parser.specs.declared.mark.Mark.TheVariants as marks
+use Rattle.ad_grammar.specs.Grammar as grammar
+use Rattle.ad_grammar.specs.Grammar.{IsExpr, IsLevel, IsUnary, IsPostfix, IsPrimary, IsNoScope}
+use Rattle.ad_grammar.specs.declared.program.Infix.{Infix}
+use Rattle.ad_grammar.specs.declared.program.Infix.TheVariants as infixes
+use Rattle.ad_grammar.specs.Made.{begins_with_all, begins_with_any}
+use Rattle.ad_grammar.specs.Shapes.{over_one, over_two, followed_by, joined, looseness, infix_of, prefix_of}
+use Rattle.ad_grammar.specs.Words.{Word, plain, quoted, constant, mark, word_of_kind}
+use Rattle.ad_grammar.specs.declared.mark.Mark.{Mark}
+use Rattle.ad_grammar.specs.declared.mark.Mark.TheVariants as marks
 use Rattle.ad_printer.specs.Pieces.{symbol, spaced, prefix_bytes, infix_bytes, behind, divided}
 use Rattle.ad_printer.specs.Printed.{loose, grouped, pieces, operands}
 use Rattle.ad_printer.proofs.WordLemmas.{words_of, words_of-append, infix_word}
@@ -162,7 +164,7 @@ binary_reads op a b x y r s =
     let left : IsLevel (suc k) (words_of a) x = r.at_level (suc k) (omega arith) (omega arith) in
     let right : IsLevel k (words_of b) y = s.at_level k (omega arith) (omega arith) in
     let both : IsLevel (suc k) ws (over_two (binary op) x y) =
-    grammar.operation k ws (words_of a) (words_of b) (marks.Binary op) (operator op) x y refl (ap (λ (n : ℕ). Some (n, operator op)) e) left right
+    grammar.operation k ws (words_of a) (words_of b) (marks.Binary op) (infixes.Binary op) x y refl (ap (λ (n : ℕ). Some (n, infixes.Binary op)) e) left right
     in
     reads-by (2 + looseness op) _ ws (over_two (binary op) x y) (spaced-words (infix_bytes op) (marks.Binary op) a b (infix_word op))
     (subst (λ (n : ℕ). ReadsAs (2 + n) ws (over_two (binary op) x y)) (sym e) (from_level (suc k) ws (over_two (binary op) x y) (omega arith) (omega arith) both))
@@ -226,18 +228,18 @@ module _ (label : Label) (bytes : List ℕ) (m : Mark) (op : Infix) (k : ℕ) (l
       (subst (λ (n : ℕ). ReadsAs n (ws ++ words_of rest) (shape label (next x (next y ys)))) e (from_level (suc k) (ws ++ words_of rest) (shape label (next x (next y ys))) (omega arith) (omega arith) every))
 
 -- what is no chain begins one
-all-two : (x y : Inline) (rest : Inlines) → begins_with_all (next x rest) ≡ false → joined conjunction x y ≡ over_two all x y
+all-two : (x y : Inline) (rest : Inlines) → begins_with_all (next x rest) ≡ false → joined infixes.And x y ≡ over_two all x y
 all-two (shape all is) y rest isnt = absurd (true≢false isnt)
 all-two (shape label is) y rest isnt = refl
 all-two (inner ds) y rest isnt = refl
 
-any-two : (x y : Inline) (rest : Inlines) → begins_with_any (next x rest) ≡ false → joined disjunction x y ≡ over_two any x y
+any-two : (x y : Inline) (rest : Inlines) → begins_with_any (next x rest) ≡ false → joined infixes.Or x y ≡ over_two any x y
 any-two (shape any is) y rest isnt = absurd (true≢false isnt)
 any-two (shape label is) y rest isnt = refl
 any-two (inner ds) y rest isnt = refl
 
 pub all_reads : (x y : Inline) (ys : Inlines) → begins_with_all (next x (next y ys)) ≡ false → EachReads (next x (next y ys)) → ReadsAs 11 (words_of (divided (spaced (codes "&&")) (operands 11 10 (next x (next y ys))))) (shape all (next x (next y ys)))
-all_reads x y ys isnt each = chain_reads all (codes "&&") marks.And conjunction 8 (omega arith) refl refl (λ xs z. refl) x y ys (all-two x y (next y ys) isnt) each
+all_reads x y ys isnt each = chain_reads all (codes "&&") marks.And infixes.And 8 (omega arith) refl refl (λ xs z. refl) x y ys (all-two x y (next y ys) isnt) each
 
 pub any_reads : (x y : Inline) (ys : Inlines) → begins_with_any (next x (next y ys)) ≡ false → EachReads (next x (next y ys)) → ReadsAs 12 (words_of (divided (spaced (codes "||")) (operands 12 11 (next x (next y ys))))) (shape any (next x (next y ys)))
-any_reads x y ys isnt each = chain_reads any (codes "||") marks.Or disjunction 9 (omega arith) refl refl (λ xs z. refl) x y ys (any-two x y (next y ys) isnt) each
+any_reads x y ys isnt each = chain_reads any (codes "||") marks.Or infixes.Or 9 (omega arith) refl refl (λ xs z. refl) x y ys (any-two x y (next y ys) isnt) each

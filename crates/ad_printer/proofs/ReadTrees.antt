@@ -8,12 +8,12 @@ use Rattle.ad_tree.specs.Tree.{Label, literal, name, unary, binary, all, any, ch
 use Rattle.ad_tree.specs.declared.tree.Scope.{Scope}
 use Rattle.ad_tree.specs.declared.tree.Scope.TheVariants as scopes
 use Rattle.pool_text.specs.declared.language.Lit.{Lit}
-use Rattle.ad_parser.specs.Grammar as grammar
-use Rattle.ad_parser.specs.Grammar.{IsExpr, IsPostfix, IsPrimary, IsList, IsSeveral, IsAd, IsDefs}
-use Rattle.ad_parser.specs.Made.{IsNameText, IsWritten, IsNode, IsMade, AllMade, DefsMade}
-use Rattle.ad_parser.specs.Shapes.{leaf, over_one, over_two, over_three, looseness}
-use Rattle.ad_parser.specs.Words.{Word, plain, constant, mark, word_of_kind}
-use Rattle.ad_parser.specs.declared.mark.Mark.TheVariants as marks
+use Rattle.ad_grammar.specs.Grammar as grammar
+use Rattle.ad_grammar.specs.Grammar.{IsExpr, IsPostfix, IsPrimary, IsList, IsSeveral, IsAd, IsDefs}
+use Rattle.ad_grammar.specs.Made.{IsNameText, IsWritten, IsNode, IsMade, AllMade, DefsMade}
+use Rattle.ad_grammar.specs.Shapes.{leaf, over_one, over_two, over_three, looseness}
+use Rattle.ad_grammar.specs.Words.{Word, plain, constant, mark, word_of_kind}
+use Rattle.ad_grammar.specs.declared.mark.Mark.TheVariants as marks
 use Rattle.ad_printer.specs.Pieces.{space, symbol, spaced, then_space, name_piece, scoped, literal_piece, infix_bytes, behind, divided, enclosed}
 use Rattle.ad_printer.specs.Printed.{label_looseness, loose, first_bound, other_bound, grouped, around, pieces, operands, definition_pieces}
 use Rattle.ad_printer.proofs.WordLemmas.{word_in, words_of, words_of-append, name_word, literal_word}

@@ -26,7 +26,7 @@ use Rattle.ad_lexer.proofs.TextLemmas.{put_ascii, quoted_spelling}
 use Rattle.ad_tree.specs.Tree.{literal}
 use Rattle.ad_tree.specs.declared.tree.Scope.{Scope}
 use Rattle.ad_tree.specs.declared.tree.Scope.TheVariants as scopes
-use Rattle.ad_parser.specs.Made.{IsNameText, IsWritten}
+use Rattle.ad_grammar.specs.Made.{IsNameText, IsWritten}
 use Rattle.ad_printer.specs.Pieces.{text_of, space, symbol, spaced, then_space, is_plain_name, name_piece, scoped, literal_piece, infix_bytes, behind}
 use Rattle.ad_printer.specs.Printed.{label_looseness}
 use Rattle.ad_printer.specs.Quotes.{in_quotes}

@@ -15,11 +15,11 @@ use Rattle.ad_lexer.specs.Words.{is_word, is_reserved}
 use Rattle.ad_lexer.specs.declared.token.TokenKind.TheVariants as kinds
 use Rattle.ad_lexer.proofs.ContentLemmas.{quoted_content}
 use Rattle.ad_lexer.proofs.DecimalLemmas.{decimal_integer}
-use Rattle.ad_parser.specs.Grammar.{IsName, plain_name, quoted_name, IsNoScope}
-use Rattle.ad_parser.specs.Made.{IsNameText, IsWritten}
-use Rattle.ad_parser.specs.Shapes.{looseness}
-use Rattle.ad_parser.specs.Words.{Word, plain, quoted, constant, mark, word_of_kind, words, scope_of}
-use Rattle.ad_parser.specs.declared.mark.Mark.TheVariants.{Binary}
+use Rattle.ad_grammar.specs.Grammar.{IsName, plain_name, quoted_name, IsNoScope}
+use Rattle.ad_grammar.specs.Made.{IsNameText, IsWritten}
+use Rattle.ad_grammar.specs.Shapes.{looseness}
+use Rattle.ad_grammar.specs.Words.{Word, plain, quoted, constant, mark, word_of_kind, words, scope_of}
+use Rattle.ad_grammar.specs.declared.mark.Mark.TheVariants.{Binary}
 use Rattle.ad_printer.specs.Pieces.{is_plain_name, name_piece, literal_piece, infix_bytes}
 use Rattle.ad_printer.specs.Quotes.{in_quotes}
 use Rattle.ad_printer.proofs.QuoteLemmas.{quotes_stand}

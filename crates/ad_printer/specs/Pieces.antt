@@ -13,7 +13,7 @@ use Rattle.ad_tree.specs.declared.tree.Scope.TheVariants as scopes
 use Rattle.ad_lexer.specs.Tokens.{Item, blank, token, bytes_of}
 use Rattle.ad_lexer.specs.Words.{is_word, is_reserved}
 use Rattle.ad_lexer.specs.declared.token.TokenKind.TheVariants as kinds
-use Rattle.ad_parser.specs.Words.{scope_of}
+use Rattle.ad_grammar.specs.Words.{scope_of}
 use Rattle.ad_printer.specs.Quotes.{in_quotes}
 
 -- the text of pieces

@@ -5,10 +5,10 @@ ghost use Rattle.ad_tree.specs.Inline.{Inline, Defs, inner, height, spelled, spe
 ghost use Rattle.ad_tree.specs.Tree.{tree};
 ghost use Rattle.ad_tree.specs.declared.ad.Ad.{Ad};
 ghost use Rattle.ad_tree.specs.declared.phrase.Phrase.{Phrase};
-ghost use Rattle.ad_parser.specs.Answers.{IsRoot, Spells, AnswersAd, AnswersExpr};
-ghost use Rattle.ad_parser.specs.Grammar.{IsExpr};
+ghost use Rattle.ad_grammar.specs.Grammar.{IsExpr, IsRoot};
+ghost use Rattle.ad_parser.specs.Answers.{Spells, AnswersAd, AnswersExpr};
 ghost use Rattle.ad_parser.specs.Limits.{height_limit};
-ghost use Rattle.ad_parser.specs.Made.{IsMade};
+ghost use Rattle.ad_grammar.specs.Made.{IsMade};
 ghost use Rattle.ad_parser.specs.declared.fault.ParseFault.{ParseFault};
 ghost use Rattle.ad_printer.specs.Printed.{printed};
 ghost use Rattle.ad_printer.specs.ReadBack.{IsAdAgain, IsPhraseAgain};

@@ -4,7 +4,7 @@ ghost use Rattle.std.specs.List.{list_all, prefix_len};
 ghost use Rattle.ad_lexer.specs.Quoted.{octal, plain, spelling};
 ghost use Rattle.ad_lexer.specs.Tokens.{bytes_of};
 ghost use Rattle.ad_lexer.specs.Words as words;
-ghost use Rattle.ad_parser.specs.Words.{scope_of};
+ghost use Rattle.ad_grammar.specs.Words.{scope_of};
 ghost use Rattle.ad_printer.specs.Pieces.{is_plain_name, literal_piece, name_piece, scoped};
 ghost use Rattle.ad_printer.specs.Quotes.{in_quotes, letter_for, octal_digits};
 ghost use Rattle.ad_printer.specs.Writing.{Adds, stands_plain};

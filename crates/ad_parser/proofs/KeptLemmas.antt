@@ -11,15 +11,12 @@ use Rattle.ad_parser.specs.Answers.{HasWords, Spells, IsWithin, frames_of_expr, 
 use Rattle.ad_grammar.specs.Grammar.{IsExpr, IsRoot}
 use Rattle.ad_grammar.specs.Made.{IsMade, AreMade}
 use Rattle.ad_grammar.specs.Words.{Word}
-use Rattle.ad_grammar.proofs.MadeLemmas.{expr-made, ad-made}
+use Rattle.ad_grammar.proofs.MadeLemmas.{expr-made, root-made}
 use Rattle.ad_grammar.proofs.MadeWordLemmas.{words-made}
 use Rattle.ad_parser.proofs.SettledLemmas.{settled-made, settled_expr-within, settled_ad-within}
 
 text-made : (text : List ℕ) (ws : List Word) → HasWords text ws → AreMade ws
 text-made text ws has = subst AreMade (sym has.are) (words-made text has.tokens has.has)
-
-pub root-made : (ws : List Word) (x : Inline) → IsRoot ws x → AreMade ws → IsMade x
-root-made ws x root made = subst IsMade (sym root.1) (ad-made ws root.0 root.2 made)
 
 pub spelled_expr-made : (text : List ℕ) (x : Inline) → Spells IsExpr text x → IsMade x
 spelled_expr-made text x s = expr-made s.ws x s.reads (text-made text s.ws s.has)

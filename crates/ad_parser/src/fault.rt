@@ -3,7 +3,7 @@ ghost use Rattle.std.specs.Prelude.{◌≡◌};
 ghost use Rattle.ad_parser.specs.Faults.{of_lexical, of_stop};
 ghost use Rattle.ad_parser.specs.declared.fault.ParseFault.TheVariants as faults;
 
-use crate::stop::Stop;
+use ad_grammar::Stop;
 use ad_lexer::{LexFault, LexKind};
 use pool_text::OutOfMemory;
 use thiserror::Error;

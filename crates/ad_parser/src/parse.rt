@@ -12,7 +12,7 @@ ghost use Rattle.ad_parser.specs.Taking.{IsShallow, IsEarlyFault, IsChecked};
 
 use crate::ParseFault;
 use crate::builder::{build_ad, build_phrase};
-use crate::measure::measure;
+use crate::measure::measure_tree;
 use ad_grammar::{Program, Reader, read_ad, read_expression};
 use ad_lexer::lex;
 use ad_tree::{Ad, Phrase};
@@ -93,11 +93,11 @@ fn check(alloc: Global, program: &Program, roots: u32) -> Result<(), ParseFault>
     requires { roots ≤ 1 }
     ensures { IsChecked roots (top (stack program.now)) result }
 {
-    let tree = measure(alloc, program.instructions())?;
+    let tree = measure_tree(alloc, program.instructions())?;
     if tree.height > HEIGHT_LIMIT {
         return Err(ParseFault::Depth);
     }
-    if tree.frames + roots > FRAME_LIMIT {
+    if tree.frames > FRAME_LIMIT - roots {
         return Err(ParseFault::Frames);
     }
     if tree.definitions > DEFINITION_LIMIT {

@@ -1,48 +1,35 @@
-use Rattle.std.proofs.Common.{◌≡◌, ◌+◌, None, Some, Err, ap, ◌∙◌, refl}
-use Rattle.ad_tree.specs.Inline.{inner, count_defs}
+use Rattle.std.proofs.Common.{◌≡◌, ap, refl, Err}
+use Rattle.ad_tree.specs.Inline.{Inline}
 use Rattle.ad_grammar.specs.Grammar.{IsRoot}
-use Rattle.ad_parser.specs.Answers.{AnswersAd, frames_of_ad}
-use Rattle.ad_parser.specs.Nodes.{definitions, pack_definitions}
+use Rattle.ad_grammar.specs.Machine.{stack, top}
 use Rattle.ad_grammar.specs.Steps.{left}
-use Rattle.ad_parser.specs.Taking.{literal_of}
-use Rattle.ad_parser.proofs.ParseLemmas.{hands_on, stops_at, ad-none-fault, ad-high, ad-low, counted-fault, counted-within}
+use Rattle.ad_grammar.proofs.GrammarLaws.{parsed_ad-none, parsed_ad-sound}
+use Rattle.ad_parser.specs.Answers.{Spells, AnswersAd, frames_of_ad}
+use Rattle.ad_parser.proofs.ParseLemmas.{hands_on, stops_at, spells, no_tree, checked-fault, checked-within, ad-counted}
 use Rattle.ad_parser.proofs.parse.ad_in.Goals as goal
 
-pub returns-in_err-list : goal.returns-in_err-list
-returns-in_err-list c =
+pub returns-in_err-program : goal.returns-in_err-program
+returns-in_err-program c =
     let text = c.args.text.now in
-    let shallow = c.in_ok-reader.ensures.ok in
-    stops_at IsRoot frames_of_ad text (AnswersAd text) (λ fault is. is) c.in_err-list.field-0.0 c.from_residual-in_err-list.result c.from_residual-in_err-list.ensures.0 c.from_residual-in_err-list.ensures.1
-    (λ grammar. ad-none-fault text (left c.in_ok-reader.reader) shallow (c.in_err-list.ensures.none (ap Err grammar)))
+    let ws = left c.in_ok-reader.reader in
+    stops_at IsRoot frames_of_ad text (AnswersAd text) (λ fault is. is) c.in_err-program.field-0.0 c.from_residual-in_err-program.result
+    c.from_residual-in_err-program.ensures.0 c.from_residual-in_err-program.ensures.1
+    (λ grammar. no_tree IsRoot frames_of_ad text ws c.in_ok-reader.ensures.ok (parsed_ad-none ws (c.in_err-program.ensures.none (ap Err grammar))))
 
-pub returns-in_default : goal.returns-in_default
-returns-in_default c =
+pub returns-in_err-check : goal.returns-in_err-check
+returns-in_err-check c =
     let text = c.args.text.now in
-    let shallow = c.in_ok-reader.ensures.ok in
-    let found = c.in_ok-list.field-0 in
-    let none : found ≡ None = c.in_default.is in
-    ad-high text (left c.in_ok-reader.reader) shallow (c.in_ok-list.ensures.ok found refl ∙ ap (λ o. Some (literal_of o)) none)
-
-pub returns-in_err-check_counts : goal.returns-in_err-check_counts
-returns-in_err-check_counts c =
-    let text = c.args.text.now in
-    let shallow = c.in_ok-reader.ensures.ok in
-    let found = c.in_ok-list.field-0 in
-    let ds = pack_definitions (definitions c.in-Some.list) in
-    let some : found ≡ Some c.in-Some.list = c.in-Some.is in
-    let low = ad-low text (left c.in_ok-reader.reader) shallow (inner ds) (c.in_ok-list.ensures.ok found refl ∙ ap (λ o. Some (literal_of o)) some) in
-    hands_on IsRoot frames_of_ad text (AnswersAd text) (λ fault is. is) c.in_err-check_counts.field-0.0 c.from_residual-in_err-check_counts.result c.from_residual-in_err-check_counts.ensures.0 c.from_residual-in_err-check_counts.ensures.1
-    (counted-fault IsRoot frames_of_ad text (inner ds) low.0 low.1 (count_defs ds) (c.tally_definitions.result.frames + 1) c.tally_definitions.result.definitions refl (ap (λ n. n + 1) c.tally_definitions.ensures.frames) c.tally_definitions.ensures.definitions
-    c.in_err-check_counts.field-0.0 c.in_err-check_counts.ensures)
+    let ws = left c.in_ok-reader.reader in
+    let x : Inline = top (stack c.in_ok-program.program) in
+    let has : Spells IsRoot text x = spells IsRoot frames_of_ad text ws c.in_ok-reader.ensures.ok x (parsed_ad-sound ws x (c.in_ok-program.ensures.ok c.in_ok-program.program refl)) in
+    hands_on IsRoot frames_of_ad text (AnswersAd text) (λ fault is. is) c.in_err-check.field-0.0 c.from_residual-in_err-check.result
+    c.from_residual-in_err-check.ensures.0 c.from_residual-in_err-check.ensures.1
+    (checked-fault IsRoot frames_of_ad text x has 0 (ad-counted x) c.in_err-check.field-0.0 c.in_err-check.ensures)
 
 pub returns : goal.returns
 returns c =
     let text = c.args.text.now in
-    let shallow = c.in_ok-reader.ensures.ok in
-    let found = c.in_ok-list.field-0 in
-    let ds = pack_definitions (definitions c.in-Some.list) in
-    let some : found ≡ Some c.in-Some.list = c.in-Some.is in
-    let low = ad-low text (left c.in_ok-reader.reader) shallow (inner ds) (c.in_ok-list.ensures.ok found refl ∙ ap (λ o. Some (literal_of o)) some) in
-    let within = counted-within IsRoot frames_of_ad text (inner ds) low.0 low.1 (count_defs ds) (c.tally_definitions.result.frames + 1) c.tally_definitions.result.definitions refl (ap (λ n. n + 1) c.tally_definitions.ensures.frames) c.tally_definitions.ensures.definitions
-    c.in_ok-check_counts.field-0 c.in_ok-check_counts.ensures in
-    (inner ds, low.0, within, c.in_ok-convert_ad.ensures)
+    let ws = left c.in_ok-reader.reader in
+    let x : Inline = top (stack c.in_ok-program.program) in
+    let has : Spells IsRoot text x = spells IsRoot frames_of_ad text ws c.in_ok-reader.ensures.ok x (parsed_ad-sound ws x (c.in_ok-program.ensures.ok c.in_ok-program.program refl)) in
+    (x, has, checked-within IsRoot frames_of_ad text x has 0 (ad-counted x) c.in_ok-check.field-0 c.in_ok-check.ensures, c.in_ok-build_ad.ensures)

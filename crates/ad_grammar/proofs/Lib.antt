@@ -1,11 +1,16 @@
+mod ChainLemmas
 mod CompleteLemmas
 mod Follows
 pub mod GrammarLaws
+mod LevelLemmas
+mod MachineLemmas
 pub mod MadeLemmas
 pub mod MadeWordLemmas
 pub mod MerelyLemmas
 mod NestingLemmas
+mod ReadLemmas
 mod Readings
+mod RuleLemmas
 mod SoundLemmas
 mod TableLemmas
 pub mod UniqueLemmas

@@ -67,6 +67,17 @@ unmarked-none (quoted text) = refl
 unmarked-none (constant lit) = refl
 unmarked-none (mark m) = refl
 
+-- the marks of the words behind a place
+pub marks-behind : (ms : List (Option Mark)) (ts : List Lexeme) (i : ℕ) → length ms ≡ length ts → map mark_in (drop i (known_words ms ts)) ≡ drop i ms
+marks-behind [] [] zero h = refl
+marks-behind [] [] (suc i) h = refl
+marks-behind [] (t ∷ ts) i h = absurd (omega arith)
+marks-behind (m ∷ ms) [] i h = absurd (omega arith)
+marks-behind (Some m ∷ ms) (t ∷ ts) zero h = ap (λ ns. Some m ∷ ns) (marks-behind ms ts zero (omega arith))
+marks-behind (None ∷ ms) (t ∷ ts) zero h = ap (λ n. n ∷ map mark_in (known_words ms ts)) (unmarked-none (word t)) ∙ ap (λ ns. None ∷ ns) (marks-behind ms ts zero (omega arith))
+marks-behind (Some m ∷ ms) (t ∷ ts) (suc i) h = marks-behind ms ts i (omega arith)
+marks-behind (None ∷ ms) (t ∷ ts) (suc i) h = marks-behind ms ts i (omega arith)
+
 -- the mark at a place is that of the first word behind it
 pub mark-at : (ms : List (Option Mark)) (ts : List Lexeme) (i : ℕ) (d : Option Mark) → length ms ≡ length ts → i < length ms → get_or ms i d ≡ front_mark (drop i (known_words ms ts))
 mark-at [] ts i d h l = absurd (omega arith)

@@ -50,7 +50,7 @@ impl<'a> Reader<'a> {
         })
     }
 
-    /// Whether after some word more than 130 brackets and question marks are open. 
+    /// Whether after some word more than 130 brackets and question marks are open.
     pub fn nests_too_deep(&self) -> bool
         ensures { result ≡ nests_too_deep (left self.now) }
     {

@@ -1,0 +1,24 @@
+use Rattle.std.proofs.Common.{◌+◌, ap, refl, arith, ◌∙◌}
+use Rattle.ad_grammar.specs.declared.stop.Stop.TheVariants as stops
+use Rattle.ad_grammar.specs.Machine.{stack, top}
+use Rattle.ad_grammar.specs.Rules.{parsed_expr}
+use Rattle.ad_grammar.specs.Steps.{left}
+use Rattle.ad_grammar.proofs.ReadLemmas.{is_read-ok, is_read-none, expression-all, expression-more}
+use Rattle.ad_grammar.proofs.read.read_expression.Goals as goal
+
+pub returns-then-count-gt0 : goal.returns-then-count-gt0
+returns-then-count-gt0 c =
+    let ws = left c.args.reader in
+    let read = c.in_ok-expression.ensures in
+    is_read-none (parsed_expr ws) stops.Grammar
+    (expression-more ws (c.count-fuel.result + 1) (ap (λ n. n + 1) c.count-fuel.ensures.value) (top (stack c.expression.new.program)) (left c.expression.new.reader)
+    (read.ok c.in_ok-expression.field-0 refl) (omega (arith, c.count-2.ensures.value, c.if-count-gt0.true)))
+
+pub returns : goal.returns
+returns c =
+    let ws = left c.args.reader in
+    let read = c.in_ok-expression.ensures in
+    is_read-ok (parsed_expr ws) c.expression.new.program
+    (expression-all ws (c.count-fuel.result + 1) (ap (λ n. n + 1) c.count-fuel.ensures.value) (top (stack c.expression.new.program)) (left c.expression.new.reader)
+    (read.ok c.in_ok-expression.field-0 refl) (omega (arith, c.count-2.ensures.value, c.if-count-gt0.false)))
+    (read.on c.in_ok-expression.field-0 refl ∙ c.in_ok-program.ensures)

@@ -1,13 +1,11 @@
 -- What a string or a quoted name means, letter by letter.
 use Rattle.std.proofs.Common.{◌≡◌, ℕ, zero, suc, ◌-◌, ◌<◌, Bool, true, false, cond, eqb, List, [], ◌∷◌, ◌++◌, length, map, drop, slice_index, is_some, refl, sym, ◌∙◌, ap, arith, length-append, append_assoc}
-use Rattle.std.proofs.lemmas.Bool.{and_parts, or_parts, not-true, eq-eqb}
+use Rattle.std.proofs.lemmas.Bool.{or_parts, not-true, eq-eqb}
 use Rattle.std.proofs.lemmas.Bool.Decides.{nat_tests}
 use Rattle.std.proofs.lemmas.List.{drop_at}
-use Rattle.std.specs.Str.Parse.{digits_value}
 use Rattle.ad_lexer.specs.Content.{octal_value, octal_len, or_octal, meaning_at, letter_len, content_from, content}
-use Rattle.ad_lexer.specs.Quoted.{Letter, plain, escape, octal, spelling, spellings, meaning, is_plain, escaped, is_octal_digit, IsOctal, IsLetter, AreLetters, IsQuoted}
-use Rattle.ad_lexer.proofs.LetterLemmas as letters
-use Rattle.ad_lexer.proofs.LetterLemmas.{is_quote, spelling_some}
+use Rattle.ad_lexer.specs.Quoted.{Letter, plain, escape, octal, spelling, spellings, meaning, is_plain, escaped, IsLetter, AreLetters, IsQuoted}
+use Rattle.ad_lexer.proofs.LetterLemmas.{is_quote, spelling_some, octal_unescaped, digits_told, octal_digits}
 use Rattle.ad_lexer.proofs.QuotedLemmas.{letter_first}
 
 -- skipping bytes is going on behind them
@@ -44,55 +42,21 @@ content_stop quote bytes = rw (eq-eqb quote quote refl) refl
 plain_isnt : (quote byte : ℕ) → is_plain quote byte ≡ true → eqb byte 92 ≡ false
 plain_isnt quote byte is = (or_parts (eqb byte quote) (eqb byte 92) (or_parts _ (eqb byte 10) (or_parts _ (eqb byte 0) (not-true _ is)).0).0).1
 
-digits_meaning : (digits after : List ℕ) → IsOctal digits after → or_octal (escaped (slice_index (digits ++ after) 0)) (octal_value (slice_index (digits ++ after) 0) (slice_index (digits ++ after) 1) (slice_index (digits ++ after) 2)) ≡ digits_value 8 digits
-digits_meaning [] after is = absurd (omega (arith, is.some))
-digits_meaning (a ∷ []) after is =
-    let first = (and_parts (is_octal_digit a) true is.octal).0 in
-    let one = letters.octal_value a first in
-    rw (letters.octal_unescaped a first, is.whole (omega arith)) (omega arith)
-digits_meaning (a ∷ b ∷ []) after is =
-    let both = and_parts (is_octal_digit a) _ is.octal in
-    let second = (and_parts (is_octal_digit b) true both.1).0 in
-    let one = letters.octal_value a both.0 in
-    let two = letters.octal_value b second in
-    rw (letters.octal_unescaped a both.0, second, is.whole (omega arith)) (omega arith)
-digits_meaning (a ∷ b ∷ c ∷ []) after is =
-    let both = and_parts (is_octal_digit a) _ is.octal in
-    let more = and_parts (is_octal_digit b) _ both.1 in
-    let third = (and_parts (is_octal_digit c) true more.1).0 in
-    let one = letters.octal_value a both.0 in
-    let two = letters.octal_value b more.0 in
-    let three = letters.octal_value c third in
-    rw (letters.octal_unescaped a both.0, more.0, third) (omega arith)
-digits_meaning (a ∷ b ∷ c ∷ d ∷ more) after is = absurd (omega (arith, is.most))
-
-digits_length : (digits after : List ℕ) → IsOctal digits after → cond (is_some (escaped (slice_index (digits ++ after) 0))) 2 (octal_len (slice_index (digits ++ after) 1) (slice_index (digits ++ after) 2)) ≡ suc (length digits)
-digits_length [] after is = absurd (omega (arith, is.some))
-digits_length (a ∷ []) after is =
-    let first = (and_parts (is_octal_digit a) true is.octal).0 in
-    rw (letters.octal_unescaped a first, is.whole (omega arith)) refl
-digits_length (a ∷ b ∷ []) after is =
-    let both = and_parts (is_octal_digit a) _ is.octal in
-    let second = (and_parts (is_octal_digit b) true both.1).0 in
-    rw (letters.octal_unescaped a both.0, second, is.whole (omega arith)) refl
-digits_length (a ∷ b ∷ c ∷ []) after is =
-    let both = and_parts (is_octal_digit a) _ is.octal in
-    let more = and_parts (is_octal_digit b) _ both.1 in
-    let third = (and_parts (is_octal_digit c) true more.1).0 in
-    rw (letters.octal_unescaped a both.0, more.0, third) refl
-digits_length (a ∷ b ∷ c ∷ d ∷ more) after is = absurd (omega (arith, is.most))
-
 pub letter_meaning : (quote : ℕ) (letter : Letter) (after : List ℕ) → IsLetter quote letter after → meaning_at (spelling letter ++ after) ≡ meaning letter
 unfolding meaning_at
 letter_meaning quote (plain byte) after is = rw (plain_isnt quote byte is) refl
 letter_meaning quote (escape byte meant) after is = ap (λ o. or_octal o (octal_value byte (slice_index after 0) (slice_index after 1))) is
-letter_meaning quote (octal digits) after is = digits_meaning digits after is
+letter_meaning quote (octal digits) after is =
+    let told = digits_told digits after (octal_digits digits after is) in
+    rw (octal_unescaped _ told.first) told.value
 
 pub letter_length : (quote : ℕ) (letter : Letter) (after : List ℕ) → IsLetter quote letter after → letter_len (spelling letter ++ after) ≡ length (spelling letter)
 unfolding letter_len
 letter_length quote (plain byte) after is = rw (plain_isnt quote byte is) refl
 letter_length quote (escape byte meant) after is = ap (λ o. cond (is_some o) 2 (octal_len (slice_index after 0) (slice_index after 1))) is
-letter_length quote (octal digits) after is = digits_length digits after is
+letter_length quote (octal digits) after is =
+    let told = digits_told digits after (octal_digits digits after is) in
+    rw (octal_unescaped _ told.first) told.len
 
 -- ---- letters mean their content
 

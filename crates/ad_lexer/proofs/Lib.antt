@@ -3,8 +3,10 @@ pub mod Begins
 pub mod BlankLemmas
 pub mod ContentLemmas
 pub mod DecimalLemmas
+mod DecodeLemmas
 pub mod ItemLemmas
 pub mod LetterLemmas
+mod MerelyLemmas
 pub mod NextLemmas
 pub mod NumberLemmas
 pub mod QuotedLemmas

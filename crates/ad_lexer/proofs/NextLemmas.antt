@@ -22,7 +22,6 @@ use Rattle.ad_lexer.proofs.LetterLemmas.{is_quote, quote_differs}
 use Rattle.ad_lexer.proofs.NumberLemmas.{decimal_met, number_met}
 use Rattle.ad_lexer.proofs.QuotedLemmas.{letters_first, nul_met, end_met, escape_met}
 use Rattle.ad_lexer.proofs.SymbolLemmas.{symbol_found}
-use Rattle.ad_lexer.proofs.Turns.{is_integer_decimal}
 use Rattle.ad_lexer.proofs.WordLemmas.{word_spells}
 
 -- a text that begins with a byte is read by what that byte begins
@@ -142,7 +141,7 @@ digit_integer : (byte : ℕ) → is_ascii_digit byte ≡ true → is_integer (by
 digit_integer byte is =
     let digit : is_digit byte 10 ≡ true = grind (arith, nat_tests) in
     let fits : ltb (0 * 10 + digit_value byte) (2 ^ 63) ≡ true = grind (arith, nat_tests) in
-    is_integer_decimal (byte ∷ []) (and_right (eqb byte 48) false refl) (and_right (eqb byte 48) false refl) ∙ rw (digit, fits) refl
+    rw (and_right (eqb byte 48) false refl, digit, fits) refl
 
 nothing_by : (byte : ℕ) (bytes : List ℕ) (n : ℕ) → ((kind : TokenKind) (more : List ℕ) → ¬ Spells kind (byte ∷ more)) → symbol_len byte (slice_index bytes 0) (slice_index bytes 1) ≡ n → symbol_of n ≡ steps.Fault kinds.Character 0
 nothing_by byte bytes zero none is = refl

@@ -1,5 +1,5 @@
 -- Turns of the loops over a string's letters and over a number's digits.
-use Rattle.std.proofs.Common.{◌≡◌, ℕ, zero, suc, ◌+◌, ◌-◌, ◌*◌, ◌^◌, ◌<◌, ◌≤◌, Bool, true, false, ltb, eqb, ◌&&◌, lit<, slice_index, List, [], ◌∷◌, length, drop, refl, sym, ◌∙◌, ap, arith}
+use Rattle.std.proofs.Common.{◌≡◌, ℕ, zero, suc, ◌+◌, ◌-◌, ◌*◌, ◌^◌, ◌<◌, ◌≤◌, Bool, true, false, ltb, ◌&&◌, lit<, List, [], ◌∷◌, length, drop, refl, sym, ◌∙◌, ap, arith}
 use Rattle.std.proofs.lemmas.Bool.Decides.{nat_tests}
 use Rattle.std.proofs.Math.Nat.{mul-le-mul_left}
 use Rattle.std.specs.Char.{is_digit, digit_value}
@@ -8,7 +8,6 @@ use Rattle.std.specs.Str.Parse.{digits_value_after}
 use Rattle.ad_lexer.specs.declared.quoted.Front.{Front}
 use Rattle.ad_lexer.specs.declared.quoted.Front.TheVariants.{Letter}
 use Rattle.ad_lexer.specs.declared.token.TokenKind.{TokenKind}
-use Rattle.ad_lexer.specs.Numbers.{is_hexadecimal, is_integer}
 use Rattle.ad_lexer.specs.Reading.{front, quoted, quoted_by, has_value}
 
 -- skipping bytes is going on behind them
@@ -68,17 +67,5 @@ and_assoc true b c = refl
 and_assoc false b c = refl
 
 -- an integer has digits, and they have a value
-is_integer_in : (n : ℕ) (ds : List ℕ) → 0 < n → (ltb 0 (length ds) && has_value n 0 ds) ≡ ((ltb 0 (length ds) && list_all (λ c. is_digit c n) ds) && ltb (digits_value_after n 0 ds) (2 ^ 63))
+pub is_integer_in : (n : ℕ) (ds : List ℕ) → 0 < n → (ltb 0 (length ds) && has_value n 0 ds) ≡ ((ltb 0 (length ds) && list_all (λ c. is_digit c n) ds) && ltb (digits_value_after n 0 ds) (2 ^ 63))
 is_integer_in n ds some = ap (λ (b : Bool). ltb 0 (length ds) && b) (has_value-is n 0 ds some (lit< tt)) ∙ and_assoc (ltb 0 (length ds)) _ _
-
-pub is_integer_hexadecimal : (bytes : List ℕ) → is_hexadecimal bytes ≡ true → is_integer bytes ≡ (ltb 0 (length (drop 2 bytes)) && has_value 16 0 (drop 2 bytes))
-is_integer_hexadecimal bytes is = rw is (sym (is_integer_in 16 (drop 2 bytes) (omega arith)))
-
-pub is_integer_octal : (bytes : List ℕ) → is_hexadecimal bytes ≡ false → slice_index bytes 0 ≡ 48 → 1 < length bytes → is_integer bytes ≡ has_value 8 0 bytes
-is_integer_octal bytes isnt first more =
-    let octal : (eqb (slice_index bytes 0) 48 && ltb 1 (length bytes)) ≡ true = grind (arith, nat_tests) in
-    let some : ltb 0 (length bytes) ≡ true = grind (arith, nat_tests) in
-    rw (isnt, octal) (sym (is_integer_in 8 bytes (omega arith)) ∙ ap (λ (b : Bool). b && has_value 8 0 bytes) some)
-
-pub is_integer_decimal : (bytes : List ℕ) → is_hexadecimal bytes ≡ false → (eqb (slice_index bytes 0) 48 && ltb 1 (length bytes)) ≡ false → is_integer bytes ≡ (ltb 0 (length bytes) && has_value 10 0 bytes)
-is_integer_decimal bytes isnt other = rw (isnt, other) (sym (is_integer_in 10 bytes (omega arith)))

@@ -1,5 +1,5 @@
 -- Strings and quoted names: letters between two quotes. Byte 34 is `"`, 39 is `'`, 92 is the backslash.
-use Rattle.std.specs.Prelude.{◌≡◌, ℕ, ◌<◌, ◌≤◌, Bool, true, false, not, ◌&&◌, ◌||◌, ◌==◌, nat_le, List, [], ◌∷◌, ◌++◌, length, map, slice_index, Option, Some, None, if◌then◌else◌}
+use Rattle.std.specs.Prelude.{◌≡◌, ℕ, ◌<◌, ◌≤◌, Bool, true, false, not, ◌&&◌, ◌||◌, ◌==◌, nat_le, List, [], ◌∷◌, ◌++◌, length, map, slice_index, Option, Some, None, ◌⊎◌, if◌then◌else◌}
 use Rattle.std.specs.List.{flat_map, list_all}
 use Rattle.std.specs.Str.Parse.{digits_value}
 
@@ -67,3 +67,7 @@ AreLetters quote (letter ∷ letters) after = IsLetter quote letter (spellings l
 abbrev pub IsQuoted : ℕ → List ℕ → List ℕ → Type 0
 IsQuoted quote bytes text =
     (letters : List Letter) × (bytes ≡ quote ∷ (spellings letters ++ quote ∷ [])) × AreLetters quote letters (quote ∷ []) × (text ≡ map meaning letters)
+
+-- the bytes are a string or a quoted name
+abbrev pub IsQuotation : List ℕ → Type 0
+IsQuotation bytes = ((text : List ℕ) × IsQuoted 34 bytes text) ⊎ ((text : List ℕ) × IsQuoted 39 bytes text)

@@ -14,6 +14,7 @@ use Rattle.ad_lexer.specs.declared.quoted.Front.TheVariants as fronts
 use Rattle.ad_lexer.specs.declared.token.TokenKind.{TokenKind}
 use Rattle.ad_lexer.specs.declared.token.TokenKind.TheVariants.{Plain, Reserved, Quoted, Str, Int, Symbol}
 use Rattle.ad_lexer.specs.Blanks.{is_space, is_line_byte}
+use Rattle.ad_lexer.specs.Content.{octal_len, octal_value}
 use Rattle.ad_lexer.specs.Numbers.{is_hexadecimal, is_integer, number_len}
 use Rattle.ad_lexer.specs.Quoted.{escaped, is_octal_digit}
 use Rattle.ad_lexer.specs.Symbols.{is_symbol}
@@ -99,15 +100,11 @@ slash text =
 
 -- ---- strings and quoted names
 
-abbrev pub octal_of : ℕ → ℕ → Front
-octal_of len value = if value == 0 || nat_lt 127 value then fronts.Backslash else fronts.Letter len
-
+-- octal digits of a value in range
 unfoldable pub octal : ℕ → ℕ → ℕ → Front
 octal first second third =
-    if not (is_octal_digit first) then fronts.Backslash
-    else (if not (is_octal_digit second) then octal_of 2 (first - 48)
-    else (if not (is_octal_digit third) then octal_of 3 ((first - 48) * 8 + (second - 48))
-    else octal_of 4 (((first - 48) * 8 + (second - 48)) * 8 + (third - 48))))
+    if is_octal_digit first && nat_lt 0 (octal_value first second third) && nat_lt (octal_value first second third) 128 then fronts.Letter (octal_len second third)
+    else fronts.Backslash
 
 -- what a backslash before the bytes begins
 unfoldable pub escape : List ℕ → Front

@@ -2,6 +2,8 @@
 #![tactic(auto)]
 
 mod bytes;
+mod decode;
+mod escape;
 mod fault;
 mod laws;
 mod lexer;
@@ -11,6 +13,7 @@ mod quoted;
 mod symbol;
 mod token;
 
+pub use decode::{content, integer};
 pub use fault::{LexFault, LexKind};
 pub use laws::{
     decimal_spells, integer_fits, one_answer, one_content, one_kind, quoted_in_utf8,

@@ -1,5 +1,6 @@
 // Integers, and the numbers that are none.
 ghost use Rattle.std.specs.Prelude.{◌≡◌, ◌<◌, ◌≤◌, length, slice_index};
+ghost use Rattle.std.specs.Char.{digit_value};
 ghost use Rattle.ad_lexer.specs.Numbers as numbers;
 ghost use Rattle.ad_lexer.specs.Reading as spec;
 
@@ -59,18 +60,28 @@ fn is_whole(text: &[u8], len: usize) -> bool
 fn is_integer(number: &[u8]) -> bool
     ensures { result ≡ numbers.is_integer number.now }
 {
+    let (base, digits) = digits(number);
+    digits.len() > 0 && has_value(base, digits)
+}
+
+/// The base of an integer, and its digits.
+pub fn digits(number: &[u8]) -> (u64, &[u8])
+    ensures base { result.0 ≡ numbers.base number.now }
+    ensures low { 8 ≤ result.0 }
+    ensures high { result.0 ≤ 16 }
+    ensures digits { result.1.now ≡ numbers.digits number.now }
+{
     if is_hexadecimal(number) {
-        let digits = behind(number, 2);
-        digits.len() > 0 && has_value(16, digits)
+        (16, behind(number, 2))
     } else if byte_at(number, 0) == b'0' && number.len() > 1 {
-        has_value(8, number)
+        (8, number)
     } else {
-        number.len() > 0 && has_value(10, number)
+        (10, number)
     }
 }
 
 /// Whether the bytes are digits of the base, and their value is below 2^63.
-fn has_value(base: u32, digits: &[u8]) -> bool
+fn has_value(base: u64, digits: &[u8]) -> bool
     requires low { 2 ≤ base }
     requires high { base ≤ 16 }
     ensures { result ≡ spec.has_value base 0 digits.now }
@@ -78,9 +89,10 @@ fn has_value(base: u32, digits: &[u8]) -> bool
     let mut value: u64 = 0;
     let mut rest = digits;
     while let [byte, more @ ..] = rest {
-        let Some(digit) = char::from(*byte).to_digit(base) else {
+        let digit = digit_value(*byte);
+        if base <= digit {
             return false;
-        };
+        }
         let next = u128::from(value) * u128::from(base) + u128::from(digit);
         if next >= 1 << 63 {
             return false;
@@ -89,4 +101,15 @@ fn has_value(base: u32, digits: &[u8]) -> bool
         rest = more;
     }
     true
+}
+
+/// The value of a digit or a letter in the bases up to 36, or 36 where the byte is neither.
+pub fn digit_value(byte: u8) -> u64
+    ensures { result ≡ digit_value byte }
+{
+    if byte.is_ascii_digit() {
+        u64::from(byte - b'0')
+    } else {
+        u64::from(char::from(byte).to_digit(36).unwrap_or(36))
+    }
 }

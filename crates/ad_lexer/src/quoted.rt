@@ -1,9 +1,9 @@
 // Strings and quoted names.
 ghost use Rattle.std.specs.Prelude.{◌≡◌, ◌+◌, ◌<◌, ◌≤◌, ◌^◌, length, is_some};
-ghost use Rattle.ad_lexer.specs.Quoted as letters;
 ghost use Rattle.ad_lexer.specs.Reading as spec;
 
 use crate::bytes::{behind, byte_at};
+use crate::escape::{escaped, is_octal_digit, octal_len, octal_value};
 use crate::fault::LexKind;
 use crate::next::Step;
 use crate::token::TokenKind;
@@ -95,20 +95,11 @@ fn escape(text: &[u8]) -> Front
     let [byte, ..] = text else {
         return Front::LineEnd;
     };
-    if is_escape(*byte) {
+    if escaped(*byte).is_some() {
         Front::Letter(2)
     } else {
         octal(*byte, byte_at(text, 1), byte_at(text, 2))
     }
-}
-
-fn is_escape(byte: u8) -> bool
-    ensures { result ≡ is_some (letters.escaped byte) }
-{
-    matches!(
-        byte,
-        b'b' | b't' | b'n' | b'f' | b'r' | b'\\' | b'"' | b'\''
-    )
 }
 
 #[tactic(auto, unfolding(crate::specs::Reading::octal))]
@@ -116,33 +107,10 @@ fn octal(first: u8, second: u8, third: u8) -> Front
     ensures value { result ≡ spec.octal first second third }
     ensures within { spec.HasOctal second third result }
 {
-    if !is_octal_digit(first) {
-        return Front::Backslash;
-    }
-    let one = u32::from(first - b'0');
-    if !is_octal_digit(second) {
-        return octal_of(2, one);
-    }
-    let two = one * 8 + u32::from(second - b'0');
-    if !is_octal_digit(third) {
-        return octal_of(3, two);
-    }
-    octal_of(4, two * 8 + u32::from(third - b'0'))
-}
-
-fn is_octal_digit(byte: u8) -> bool
-    ensures { result ≡ letters.is_octal_digit byte }
-{
-    b'0' <= byte && byte <= b'7'
-}
-
-/// The letter of this length, where its value is from 1 to 127.
-fn octal_of(len: usize, value: u32) -> Front
-    ensures { result ≡ spec.octal_of len value }
-{
-    if value == 0 || value > 127 {
-        Front::Backslash
+    let value = octal_value(first, second, third);
+    if is_octal_digit(first) && 0 < value && value < 128 {
+        Front::Letter(octal_len(second, third))
     } else {
-        Front::Letter(len)
+        Front::Backslash
     }
 }

@@ -1,0 +1,109 @@
+// What strings, quoted names and integers mean.
+ghost use Rattle.std.specs.Prelude.{◌≡◌, ◌-◌, ◌<◌, ◌≤◌, ◌^◌, pos, drop, length, slice_index, take, IfOk, IfSome};
+ghost use Rattle.std.specs.Str.Parse.{digits_value};
+ghost use Rattle.ad_lexer.specs.Content.{content, meaning_at, letter_len};
+ghost use Rattle.ad_lexer.specs.Numbers.{value};
+ghost use Rattle.ad_lexer.specs.Quoted.{IsQuotation};
+
+use crate::bytes::{behind, byte_at};
+use crate::escape::{escaped, octal_len, octal_value};
+use crate::number::{digit_value, digits};
+use pool_text::{OutOfMemory, Text};
+use std::alloc::Global;
+
+/// What the letters between the quotes of a string or a quoted name mean, escapes undone.
+pub fn content(alloc: Global, spelling: &[u8]) -> Result<Text, OutOfMemory>
+    requires { ∥ IsQuotation spelling.now ∥₁ }
+    ensures { IfOk result (λ text. text ≡ content spelling.now) }
+{
+    match verbatim(spelling) {
+        Some(letters) => Text::from_bytes(alloc, letters),
+        None => unescaped(alloc, spelling),
+    }
+}
+
+/// What stands between the quotes, where it has no backslash and so means itself.
+fn verbatim(spelling: &[u8]) -> Option<&[u8]>
+    requires { ∥ IsQuotation spelling.now ∥₁ }
+    ensures { IfSome result (λ letters. letters.now ≡ content spelling.now) }
+{
+    if spelling.contains(&b'\\') {
+        return None;
+    }
+    Some(inside(spelling))
+}
+
+/// What stands between the first byte and the last.
+fn inside(spelling: &[u8]) -> &[u8]
+    requires { 2 ≤ length spelling.now }
+    ensures { result.now ≡ take (length spelling.now - 1 - 1) (drop 1 spelling.now) }
+{
+    &spelling[1..spelling.len() - 1]
+}
+
+fn unescaped(alloc: Global, spelling: &[u8]) -> Result<Text, OutOfMemory>
+    requires { ∥ IsQuotation spelling.now ∥₁ }
+    ensures { IfOk result (λ text. text ≡ content spelling.now) }
+{
+    let quote = byte_at(spelling, 0);
+    let mut rest = behind(spelling, 1);
+    let mut text = Text::new(alloc);
+    while byte_at(rest, 0) != quote {
+        text.append(&[meaning(rest)])?;
+        rest = behind(rest, letter_len(rest));
+    }
+    Ok(text)
+}
+
+/// The byte that the letter at the front means.
+#[tactic(auto, unfolding(crate::specs::Content::meaning_at))]
+fn meaning(rest: &[u8]) -> u8
+    requires { slice_index rest.now 0 ≡ 92 → meaning_at rest.now < 256 }
+    ensures { result ≡ meaning_at rest.now }
+{
+    let first = byte_at(rest, 0);
+    if first != b'\\' {
+        return first;
+    }
+    let second = byte_at(rest, 1);
+    match escaped(second) {
+        Some(meant) => meant,
+        None => octal_value(second, byte_at(rest, 2), byte_at(rest, 3)) as u8,
+    }
+}
+
+/// How many bytes that letter takes.
+#[tactic(auto, unfolding(crate::specs::Content::letter_len))]
+fn letter_len(rest: &[u8]) -> usize
+    ensures { result ≡ letter_len rest.now }
+{
+    if byte_at(rest, 0) != b'\\' {
+        1
+    } else if escaped(byte_at(rest, 1)).is_some() {
+        2
+    } else {
+        octal_len(byte_at(rest, 2), byte_at(rest, 3))
+    }
+}
+
+/// The value that the bytes of an integer spell, in one of the three bases.
+pub fn integer(spelling: &[u8]) -> i64
+    requires { value spelling.now < 2 ^ 63 }
+    ensures { result ≡ pos (value spelling.now) }
+{
+    let (base, digits) = digits(spelling);
+    digits_value(base, digits) as i64
+}
+
+fn digits_value(base: u64, digits: &[u8]) -> u64
+    requires some { 1 ≤ base }
+    requires high { base ≤ 16 }
+    requires fits { digits_value base digits.now < 2 ^ 63 }
+    ensures { result ≡ digits_value base digits.now }
+{
+    let mut value = 0;
+    for byte in digits {
+        value = value * base + digit_value(*byte);
+    }
+    value
+}

@@ -6,11 +6,13 @@ use Rattle.std.proofs.lemmas.List.Folds.{list_any-append}
 use Rattle.std.proofs.lemmas.Bool.{or_parts, not-true}
 use Rattle.std.proofs.lemmas.Bool.Decides.{nat_tests}
 use Rattle.std.proofs.lemmas.List.{drop_at, append-nil}
-use Rattle.ad_lexer.specs.Content.{meaning_at, letter_len, content}
-use Rattle.ad_lexer.specs.Quoted.{Letter, plain, escape, octal, spelling, spellings, meaning, escaped, IsLetter, AreLetters, IsQuoted, IsQuotation}
-use Rattle.ad_lexer.proofs.ContentLemmas.{letter_meaning, letter_length, quoted_content}
-use Rattle.ad_lexer.proofs.LetterLemmas.{is_quote}
-use Rattle.ad_lexer.proofs.QuotedLemmas.{letter_first}
+use Rattle.ad_lexer.specs.Content.{content}
+use Rattle.ad_lexer.specs.Quoted.{Letter, plain, escape, octal, spelling, spellings, meaning, IsLetter, AreLetters, IsQuoted, IsQuotation}
+use Rattle.ad_lexer.specs.Reading.{front}
+use Rattle.ad_lexer.specs.declared.quoted.Front.TheVariants as fronts
+use Rattle.ad_lexer.proofs.ContentLemmas.{quoted_content}
+use Rattle.ad_lexer.proofs.LetterLemmas.{is_quote, letter_met}
+use Rattle.ad_lexer.proofs.QuotedLemmas.{front_close}
 
 -- the text so far and the letters that are left make up the content
 pub record Unread (quote : ℕ) (bytes text rest : List ℕ) : Type 0 where
@@ -34,77 +36,38 @@ first_by quote bytes text is q =
 pub unread-first : (bytes : List ℕ) → IsQuotation bytes → Unread (slice_index bytes 0) bytes [] (drop 1 bytes)
 unread-first bytes q = elim q [ inl string ↦ first_by 34 bytes string.0 refl string.1 | inr named ↦ first_by 39 bytes named.0 refl named.1 ]
 
-ends_by : (quote : ℕ) (bytes text rest : List ℕ) (letters : List Letter) → is_quote quote ≡ true → rest ≡ spellings letters ++ quote ∷ [] → AreLetters quote letters (quote ∷ [])
-    → text ++ map meaning letters ≡ content bytes → slice_index rest 0 ≡ quote → text ≡ content bytes
-ends_by quote bytes text rest [] is spelled are means at = sym (append-nil text) ∙ means
-ends_by quote bytes text rest (letter ∷ letters) is spelled are means at =
+-- a letter is read
+turn_by : (quote : ℕ) (bytes text rest : List ℕ) (letters : List Letter) (len meant : ℕ) → is_quote quote ≡ true → rest ≡ spellings letters ++ quote ∷ [] → AreLetters quote letters (quote ∷ [])
+    → text ++ map meaning letters ≡ content bytes → fronts.Letter len meant ≡ front quote rest → Unread quote bytes (text ++ meant ∷ []) (drop len rest)
+turn_by quote bytes text rest [] len meant is spelled are means reads = absurd (cc (reads ∙ ap (front quote) spelled ∙ front_close quote []))
+turn_by quote bytes text rest (letter ∷ letters) len meant is spelled are means reads =
     let more : List ℕ = spellings letters ++ quote ∷ [] in
     let joined : rest ≡ spelling letter ++ more = spelled ∙ append_assoc (spelling letter) (spellings letters) (quote ∷ []) in
-    let other : eqb (slice_index rest 0) quote ≡ false = ap (λ (r : List ℕ). eqb (slice_index r 0) quote) joined ∙ letter_first quote letter more more is are.0 in
-    absurd (grind (arith, nat_tests))
-
--- at the closing quote the text is the content
-pub unread-end : (quote : ℕ) (bytes text rest : List ℕ) → Unread quote bytes text rest → slice_index rest 0 ≡ quote → text ≡ content bytes
-unread-end quote bytes text rest u at = ends_by quote bytes text rest u.letters u.quotes u.spelled u.are u.means at
-
--- bytes are left
-pub unread-some : (quote : ℕ) (bytes text rest : List ℕ) → Unread quote bytes text rest → 0 < length rest
-unread-some quote bytes text rest u = omega (arith, ap length u.spelled, length-append (spellings u.letters) (quote ∷ []))
-
-turn_by : (quote : ℕ) (bytes text rest : List ℕ) (letters : List Letter) → is_quote quote ≡ true → rest ≡ spellings letters ++ quote ∷ [] → AreLetters quote letters (quote ∷ [])
-    → text ++ map meaning letters ≡ content bytes → (slice_index rest 0 ≡ quote → ⊥) → Unread quote bytes (text ++ meaning_at rest ∷ []) (drop (letter_len rest) rest)
-turn_by quote bytes text rest [] is spelled are means other = absurd (other (ap (λ (r : List ℕ). slice_index r 0) spelled))
-turn_by quote bytes text rest (letter ∷ letters) is spelled are means other =
-    let more : List ℕ = spellings letters ++ quote ∷ [] in
-    let joined : rest ≡ spelling letter ++ more = spelled ∙ append_assoc (spelling letter) (spellings letters) (quote ∷ []) in
-    let meant : meaning_at rest ≡ meaning letter = ap meaning_at joined ∙ letter_meaning quote letter more are.0 in
-    let behind : drop (letter_len rest) rest ≡ more =
-    ap (λ (r : List ℕ). drop (letter_len r) r) joined ∙ ap (λ (n : ℕ). drop n (spelling letter ++ more)) (letter_length quote letter more are.0) ∙ drop_at (spelling letter) more (length (spelling letter)) refl in
+    let same : fronts.Letter len meant ≡ fronts.Letter (length (spelling letter)) (meaning letter) = reads ∙ ap (front quote) joined ∙ letter_met quote letter more is are.0 in
+    let long : length (spelling letter) ≡ len = cc in
+    let meaning_is : meant ≡ meaning letter = cc in
     record {
       quotes = is;
       letters = letters;
-      spelled = behind;
+      spelled = ap (λ (r : List ℕ). drop len r) joined ∙ drop_at (spelling letter) more len long;
       are = are.1;
-      means = ap (λ (b : ℕ). (text ++ b ∷ []) ++ map meaning letters) meant ∙ append_assoc text (meaning letter ∷ []) (map meaning letters) ∙ means;
+      means = ap (λ (b : ℕ). (text ++ b ∷ []) ++ map meaning letters) meaning_is ∙ append_assoc text (meaning letter ∷ []) (map meaning letters) ∙ means;
     }
 
--- a letter is read
-pub unread-turn : (quote : ℕ) (bytes text rest : List ℕ) → Unread quote bytes text rest → (slice_index rest 0 ≡ quote → ⊥) → Unread quote bytes (text ++ meaning_at rest ∷ []) (drop (letter_len rest) rest)
-unread-turn quote bytes text rest u other = turn_by quote bytes text rest u.letters u.quotes u.spelled u.are u.means other
+pub unread-turn : (quote : ℕ) (bytes text rest : List ℕ) (len meant : ℕ) → Unread quote bytes text rest → fronts.Letter len meant ≡ front quote rest → Unread quote bytes (text ++ meant ∷ []) (drop len rest)
+unread-turn quote bytes text rest len meant u reads = turn_by quote bytes text rest u.letters len meant u.quotes u.spelled u.are u.means reads
 
--- it stands whole in what is left
-pub unread-fits : (quote : ℕ) (bytes text rest : List ℕ) → Unread quote bytes text rest → (slice_index rest 0 ≡ quote → ⊥) → letter_len rest ≤ length rest
-unread-fits quote bytes text rest u other = fits_by quote rest u.letters u.spelled u.are other
-  where
-    fits_by : (quote : ℕ) (rest : List ℕ) (letters : List Letter) → rest ≡ spellings letters ++ quote ∷ [] → AreLetters quote letters (quote ∷ []) → (slice_index rest 0 ≡ quote → ⊥) → letter_len rest ≤ length rest
-    fits_by quote rest [] spelled are other = absurd (other (ap (λ (r : List ℕ). slice_index r 0) spelled))
-    fits_by quote rest (letter ∷ letters) spelled are other =
-        let more : List ℕ = spellings letters ++ quote ∷ [] in
-        let joined : rest ≡ spelling letter ++ more = spelled ∙ append_assoc (spelling letter) (spellings letters) (quote ∷ []) in
-        omega (arith, ap letter_len joined, letter_length quote letter more are.0, ap length joined, length-append (spelling letter) more)
-
-escaped_small : (byte meant : ℕ) → escaped byte ≡ Some meant → meant < 256
-escaped_small byte meant e = grind (arith, nat_tests)
-
-letter_small : (quote : ℕ) (letter : Letter) (after : List ℕ) → IsLetter quote letter after → slice_index (spelling letter ++ after) 0 ≡ 92 → meaning letter < 256
-letter_small quote (plain byte) after is at =
-    let other : eqb byte 92 ≡ false = (or_parts (eqb byte quote) (eqb byte 92) (or_parts _ (eqb byte 10) (or_parts _ (eqb byte 0) (not-true _ is)).0).0).1 in
-    absurd (grind (arith, nat_tests))
-letter_small quote (escape byte meant) after is at = escaped_small byte meant is
-letter_small quote (octal digits) after is at = omega (arith, is.below)
-
-small_by : (quote : ℕ) (rest : List ℕ) (letters : List Letter) → rest ≡ spellings letters ++ quote ∷ [] → AreLetters quote letters (quote ∷ []) → (slice_index rest 0 ≡ quote → ⊥)
-    → slice_index rest 0 ≡ 92 → meaning_at rest < 256
-small_by quote rest [] spelled are other at = absurd (other (ap (λ (r : List ℕ). slice_index r 0) spelled))
-small_by quote rest (letter ∷ letters) spelled are other at =
+-- where no letter is left the text is the content
+ends_by : (quote : ℕ) (bytes text rest : List ℕ) (letters : List Letter) → is_quote quote ≡ true → rest ≡ spellings letters ++ quote ∷ [] → AreLetters quote letters (quote ∷ [])
+    → text ++ map meaning letters ≡ content bytes → ((len meant : ℕ) → front quote rest ≡ fronts.Letter len meant → ⊥) → text ≡ content bytes
+ends_by quote bytes text rest [] is spelled are means none = sym (append-nil text) ∙ means
+ends_by quote bytes text rest (letter ∷ letters) is spelled are means none =
     let more : List ℕ = spellings letters ++ quote ∷ [] in
     let joined : rest ≡ spelling letter ++ more = spelled ∙ append_assoc (spelling letter) (spellings letters) (quote ∷ []) in
-    let meant : meaning_at rest ≡ meaning letter = ap meaning_at joined ∙ letter_meaning quote letter more are.0 in
-    omega (arith, meant, letter_small quote letter more are.0 (ap (λ (r : List ℕ). slice_index r 0) (sym joined) ∙ at))
+    absurd (none _ _ (ap (front quote) joined ∙ letter_met quote letter more is are.0))
 
--- an escape means a byte
-pub unread-small : (quote : ℕ) (bytes text rest : List ℕ) → Unread quote bytes text rest → (slice_index rest 0 ≡ quote → ⊥) → slice_index rest 0 ≡ 92 → meaning_at rest < 256
-unread-small quote bytes text rest u other at = small_by quote rest u.letters u.spelled u.are other at
+pub unread-end : (quote : ℕ) (bytes text rest : List ℕ) → Unread quote bytes text rest → ((len meant : ℕ) → front quote rest ≡ fronts.Letter len meant → ⊥) → text ≡ content bytes
+unread-end quote bytes text rest u none = ends_by quote bytes text rest u.letters u.quotes u.spelled u.are u.means none
 
 -- a quotation has two quotes
 long_by : (quote : ℕ) (bytes text : List ℕ) → IsQuoted quote bytes text → 1 < length bytes

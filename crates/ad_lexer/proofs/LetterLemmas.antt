@@ -8,7 +8,7 @@ use Rattle.std.specs.Str.Parse.{digits_value}
 use Rattle.ad_lexer.specs.declared.quoted.Front.{Front}
 use Rattle.ad_lexer.specs.declared.quoted.Front.TheVariants as fronts
 use Rattle.ad_lexer.specs.Content as content
-use Rattle.ad_lexer.specs.Quoted.{Letter, plain, escape, octal, spelling, is_plain, escaped, is_octal_digit, IsOctal, IsLetter}
+use Rattle.ad_lexer.specs.Quoted.{Letter, plain, escape, octal, spelling, meaning, is_plain, escaped, is_octal_digit, IsOctal, IsLetter}
 use Rattle.ad_lexer.specs.Reading as reading
 
 -- 34 or 39
@@ -26,7 +26,7 @@ octal_unescaped c is = grind (arith, nat_tests)
 
 -- ---- a letter that stands there is read
 
-plain_met : (quote byte : ℕ) (after : List ℕ) → is_plain quote byte ≡ true → reading.front quote (byte ∷ after) ≡ fronts.Letter 1
+plain_met : (quote byte : ℕ) (after : List ℕ) → is_plain quote byte ≡ true → reading.front quote (byte ∷ after) ≡ fronts.Letter 1 byte
 unfolding reading.front
 plain_met quote byte after is =
     let others = or_parts (eqb byte quote || eqb byte 92 || eqb byte 10) (eqb byte 0) (not-true _ is) in
@@ -39,9 +39,9 @@ backslash : (quote : ℕ) (bytes : List ℕ) → is_quote quote ≡ true → rea
 unfolding reading.front
 backslash quote bytes is = let differs : eqb 92 quote ≡ false = quote_differs quote 92 is (λ e. omega arith) (λ e. omega arith) in rw differs refl
 
-escape_met : (byte meant : ℕ) (after : List ℕ) → escaped byte ≡ Some meant → reading.escape (byte ∷ after) ≡ fronts.Letter 2
+escape_met : (byte meant : ℕ) (after : List ℕ) → escaped byte ≡ Some meant → reading.escape (byte ∷ after) ≡ fronts.Letter 2 meant
 unfolding reading.escape
-escape_met byte meant after is = ap (λ o. cond (is_some o) (fronts.Letter 2) (reading.octal byte (slice_index after 0) (slice_index after 1))) is
+escape_met byte meant after is = ap (λ o. reading.escape_or o (reading.octal byte (slice_index after 0) (slice_index after 1))) is
 
 -- octal digits that stand first, up to three and as many as stand there
 pub record Digits (digits after : List ℕ) : Type 0 where
@@ -85,15 +85,15 @@ octal_digits digits after is = record { some = is.some; most = is.most; octal = 
 to_octal : (text : List ℕ) → is_octal_digit (slice_index text 0) ≡ true → reading.escape text ≡ reading.octal (slice_index text 0) (slice_index text 1) (slice_index text 2)
 unfolding reading.escape
 to_octal [] is = absurd (true≢false (sym is))
-to_octal (byte ∷ bytes) is = ap (λ o. cond (is_some o) (fronts.Letter 2) (reading.octal byte (slice_index bytes 0) (slice_index bytes 1))) (octal_unescaped byte is)
+to_octal (byte ∷ bytes) is = ap (λ o. reading.escape_or o (reading.octal byte (slice_index bytes 0) (slice_index bytes 1))) (octal_unescaped byte is)
 
-octal_met : (digits after : List ℕ) → IsOctal digits after → reading.escape (digits ++ after) ≡ fronts.Letter (suc (length digits))
+octal_met : (digits after : List ℕ) → IsOctal digits after → reading.escape (digits ++ after) ≡ fronts.Letter (suc (length digits)) (digits_value 8 digits)
 unfolding reading.octal
 octal_met digits after is =
     let told = digits_told digits after (octal_digits digits after is) in
     to_octal (digits ++ after) told.first ∙ rw (told.first, told.value, told.len, lt-ltb 0 (digits_value 8 digits) is.above, lt-ltb (digits_value 8 digits) 128 is.below) refl
 
-pub letter_met : (quote : ℕ) (letter : Letter) (after : List ℕ) → is_quote quote ≡ true → IsLetter quote letter after → reading.front quote (spelling letter ++ after) ≡ fronts.Letter (length (spelling letter))
+pub letter_met : (quote : ℕ) (letter : Letter) (after : List ℕ) → is_quote quote ≡ true → IsLetter quote letter after → reading.front quote (spelling letter ++ after) ≡ fronts.Letter (length (spelling letter)) (meaning letter)
 letter_met quote (plain byte) after is_quote is = plain_met quote byte after is
 letter_met quote (escape byte meant) after is_quote is = backslash quote (byte ∷ after) is_quote ∙ escape_met byte meant after is
 letter_met quote (octal digits) after is_quote is = backslash quote (digits ++ after) is_quote ∙ octal_met digits after is
@@ -116,7 +116,7 @@ abbrev pub IsLineEnd : List ℕ → Type 0
 IsLineEnd text = (text ≡ []) ⊎ ((text ≡ 92 ∷ []) ⊎ ((more : List ℕ) × (text ≡ 10 ∷ more)))
 
 abbrev pub FrontReads : ℕ → List ℕ → Front → Type 0
-FrontReads quote text (fronts.Letter n) = LetterAt quote text n
+FrontReads quote text (fronts.Letter n meant) = LetterAt quote text n
 FrontReads quote text fronts.Close = (more : List ℕ) × (text ≡ quote ∷ more)
 FrontReads quote text fronts.LineEnd = IsLineEnd text
 FrontReads quote text fronts.Nul = (more : List ℕ) × (text ≡ 0 ∷ more)
@@ -178,7 +178,7 @@ octal_reads quote a bytes =
       | inr none ↦ rw none (a, bytes, refl)
     ]
 
-escape_reads : (quote a : ℕ) (bytes : List ℕ) (meant : Option ℕ) → escaped a ≡ meant → FrontReads quote (92 ∷ a ∷ bytes) (cond (is_some meant) (fronts.Letter 2) (reading.octal a (slice_index bytes 0) (slice_index bytes 1)))
+escape_reads : (quote a : ℕ) (bytes : List ℕ) (meant : Option ℕ) → escaped a ≡ meant → FrontReads quote (92 ∷ a ∷ bytes) (reading.escape_or meant (reading.octal a (slice_index bytes 0) (slice_index bytes 1)))
 escape_reads quote a bytes None is = octal_reads quote a bytes
 escape_reads quote a bytes (Some m) is = record { letter = escape a m; after = bytes; text_is = refl; is_letter = is; length_is = refl }
 
@@ -188,7 +188,7 @@ backslash_reads quote [] = inr (inl refl)
 backslash_reads quote (a ∷ bytes) = escape_reads quote a bytes (escaped a) refl
 
 by_tests : (quote byte : ℕ) (bytes : List ℕ) (close feed nul back : Bool) → eqb byte quote ≡ close → eqb byte 10 ≡ feed → eqb byte 0 ≡ nul → eqb byte 92 ≡ back
-    → FrontReads quote (byte ∷ bytes) (cond close fronts.Close (cond feed fronts.LineEnd (cond nul fronts.Nul (cond back (reading.escape bytes) (fronts.Letter 1)))))
+    → FrontReads quote (byte ∷ bytes) (cond close fronts.Close (cond feed fronts.LineEnd (cond nul fronts.Nul (cond back (reading.escape bytes) (fronts.Letter 1 byte)))))
 by_tests quote byte bytes true feed nul back a b c d = (bytes, ap (λ (x : ℕ). x ∷ bytes) (eqb-true byte quote a))
 by_tests quote byte bytes false true nul back a b c d = inr (inr (bytes, ap (λ (x : ℕ). x ∷ bytes) (eqb-true byte 10 b)))
 by_tests quote byte bytes false false true back a b c d = (bytes, ap (λ (x : ℕ). x ∷ bytes) (eqb-true byte 0 c))

@@ -9,7 +9,7 @@ use Rattle.ad_lexer.specs.declared.quoted.Front.{Front}
 use Rattle.ad_lexer.specs.declared.quoted.Front.TheVariants as fronts
 use Rattle.ad_lexer.specs.declared.token.TokenKind.{TokenKind}
 use Rattle.ad_lexer.specs.Faults.{ReadsTo, HasNul, IsOpenString, HasBadEscape}
-use Rattle.ad_lexer.specs.Quoted.{Letter, plain, escape, octal, spelling, spellings, IsLetter, AreLetters, IsQuoted}
+use Rattle.ad_lexer.specs.Quoted.{Letter, plain, escape, octal, spelling, spellings, meaning, IsLetter, AreLetters, IsQuoted}
 use Rattle.ad_lexer.specs.Reading as reading
 use Rattle.ad_lexer.proofs.LetterLemmas.{is_quote, quote_differs, letter_met, spelling_some, LetterAt, IsLineEnd, FrontReads, front_reads}
 use Rattle.ad_lexer.proofs.Turns.{quoted_here, quoted_turn}
@@ -22,11 +22,11 @@ quoted_over kind quote at (letter ∷ letters) rest is are =
     let more : List ℕ = spellings letters ++ rest in
     let len : ℕ = length first in
     let joined : (first ++ spellings letters) ++ rest ≡ first ++ more = append_assoc first (spellings letters) rest in
-    let met : reading.front quote (first ++ more) ≡ fronts.Letter len = letter_met quote letter more is are.0 in
+    let met : reading.front quote (first ++ more) ≡ fronts.Letter len (meaning letter) = letter_met quote letter more is are.0 in
     let fits : len ≤ length (first ++ more) = omega (arith, length-append first more) in
     let e : at + len + length (spellings letters) ≡ at + length (first ++ spellings letters) = omega (arith, length-append first (spellings letters)) in
     ap (λ (l : List ℕ). reading.quoted kind quote at 0 l) joined
-    ∙ quoted_turn kind quote at len (first ++ more) met (spelling_some letter) fits
+    ∙ quoted_turn kind quote at len (meaning letter) (first ++ more) met (spelling_some letter) fits
     ∙ ap (λ (l : List ℕ). reading.quoted kind quote (at + len) 0 l) (drop_at first more len refl)
     ∙ quoted_over kind quote (at + len) letters rest is are.1
     ∙ ap (λ (n : ℕ). reading.quoted kind quote n 0 rest) e
@@ -34,7 +34,7 @@ quoted_over kind quote at (letter ∷ letters) rest is are =
 -- ---- each rest of a string is letters, and then something else
 
 abbrev IsStop : Front → Type 0
-IsStop (fronts.Letter n) = ⊥
+IsStop (fronts.Letter n meant) = ⊥
 IsStop other = Unit {0}
 
 pub record Parts (quote : ℕ) (text : List ℕ) : Type 0 where
@@ -62,7 +62,7 @@ shorter quote text n bound here fits =
     omega (arith, ap (λ (l : List ℕ). length l) here.text_is, length-append (spelling here.letter) here.after)
 
 parts_by : (quote bound : ℕ) (text : List ℕ) (front : Front) → reading.front quote text ≡ front → FrontReads quote text front → length text ≤ suc bound → ((t : List ℕ) → length t ≤ bound → Parts quote t) → Parts quote text
-parts_by quote bound text (fronts.Letter n) is reads fits again = with_letter quote text n reads (again reads.after (shorter quote text n bound reads fits))
+parts_by quote bound text (fronts.Letter n meant) is reads fits again = with_letter quote text n reads (again reads.after (shorter quote text n bound reads fits))
 parts_by quote bound text fronts.Close is reads fits again = stopped quote text fronts.Close is tt
 parts_by quote bound text fronts.LineEnd is reads fits again = stopped quote text fronts.LineEnd is tt
 parts_by quote bound text fronts.Nul is reads fits again = stopped quote text fronts.Nul is tt
@@ -129,7 +129,7 @@ no_letter quote rest is stop letter after begins is_letter =
 
 read_by : (kind : TokenKind) (quote : ℕ) (text : List ℕ) (p : Parts quote text) (front : Front) (more : ℕ → Step) → is_quote quote ≡ true → FrontReads quote p.rest front → IsStop front → (front ≡ fronts.Backslash → IsStop (reading.front quote p.rest))
     → QuotedReads kind quote (quote ∷ text) (reading.quoted_by kind (1 + length (spellings p.letters)) front more)
-read_by kind quote text p (fronts.Letter n) more is reads stop back = absurd stop
+read_by kind quote text p (fronts.Letter n meant) more is reads stop back = absurd stop
 read_by kind quote text p fronts.Close more is reads stop back =
     let to = reads_to quote text p (quote ∷ reads.0) is reads.1 in
     (refl, record { letters = to.letters; after = reads.0; text_is = to.text_is; are_letters = same_letters quote to.letters quote reads.0 [] to.are_letters; length_is = omega (arith, to.place_is) })
@@ -148,7 +148,7 @@ quoted_reads kind quote text is =
 
 -- ---- what stands there is read
 
-front_close : (quote : ℕ) (more : List ℕ) → reading.front quote (quote ∷ more) ≡ fronts.Close
+pub front_close : (quote : ℕ) (more : List ℕ) → reading.front quote (quote ∷ more) ≡ fronts.Close
 unfolding reading.front
 front_close quote more = rw (eq-eqb quote quote refl) refl
 
@@ -173,7 +173,7 @@ front_end quote rest is end =
     ]
 
 bad_by : (quote byte : ℕ) (more : List ℕ) (front : Front) → is_quote quote ≡ true → FrontReads quote (92 ∷ byte ∷ more) front → ((letter : Letter) (after : List ℕ) → 92 ∷ byte ∷ more ≡ spelling letter ++ after → ¬ IsLetter quote letter after) → front ≡ fronts.Backslash
-bad_by quote byte more (fronts.Letter n) is reads none = absurd (none reads.letter reads.after reads.text_is reads.is_letter)
+bad_by quote byte more (fronts.Letter n meant) is reads none = absurd (none reads.letter reads.after reads.text_is reads.is_letter)
 bad_by quote byte more fronts.Close is reads none =
     let e : 92 ≡ quote = ap (λ (l : List ℕ). slice_index l 0) reads.1 in
     absurd (true≢false (sym (eq-eqb 92 quote e) ∙ quote_differs quote 92 is (λ f. omega arith) (λ f. omega arith)))

@@ -19,10 +19,10 @@ quoted-skip kind quote at (suc skip) (byte ∷ bytes) fits =
     quoted-skip kind quote (at + 1) skip bytes (omega arith) ∙ ap (λ (n : ℕ). quoted kind quote n 0 (drop skip bytes)) e
 
 -- behind a letter the rest of the string goes on
-pub quoted_turn : (kind : TokenKind) (quote at len : ℕ) (text : List ℕ) → front quote text ≡ Letter len → 0 < len → len ≤ length text → quoted kind quote at 0 text ≡ quoted kind quote (at + len) 0 (drop len text)
-quoted_turn kind quote at zero text is some fits = absurd (omega arith)
-quoted_turn kind quote at (suc len) [] is some fits = absurd (omega arith)
-quoted_turn kind quote at (suc len) (byte ∷ bytes) is some fits =
+pub quoted_turn : (kind : TokenKind) (quote at len meant : ℕ) (text : List ℕ) → front quote text ≡ Letter len meant → 0 < len → len ≤ length text → quoted kind quote at 0 text ≡ quoted kind quote (at + len) 0 (drop len text)
+quoted_turn kind quote at zero meant text is some fits = absurd (omega arith)
+quoted_turn kind quote at (suc len) meant [] is some fits = absurd (omega arith)
+quoted_turn kind quote at (suc len) meant (byte ∷ bytes) is some fits =
     let e : at + 1 + len ≡ at + suc len = omega arith in
     let less : suc len - 1 ≡ len = omega arith in
     ap (λ f. quoted_by kind at f (λ n. quoted kind quote (at + 1) (n - 1) bytes)) is

@@ -1,5 +1,5 @@
 -- What the code reads at the front of a text, byte by byte. The definitions to believe stand in `Tokens`.
-use Rattle.std.specs.Prelude.{ℕ, zero, suc, ◌+◌, ◌-◌, ◌*◌, ◌^◌, ◌<◌, ◌≤◌, Bool, true, not, ◌&&◌, ◌||◌, ◌==◌, nat_lt, List, [], ◌∷◌, take, drop, slice_index, Option, Some, None, is_some, if◌then◌else◌}
+use Rattle.std.specs.Prelude.{ℕ, zero, suc, ◌+◌, ◌-◌, ◌*◌, ◌^◌, ◌<◌, ◌≤◌, Bool, true, not, ◌&&◌, ◌||◌, ◌==◌, nat_lt, List, [], ◌∷◌, take, drop, slice_index, Option, Some, None, if◌then◌else◌}
 use Rattle.std.specs.Char.{is_ascii_digit, is_ascii_hexdigit, is_digit, digit_value}
 use Rattle.std.specs.List.{prefix_len}
 use Rattle.ad_lexer.specs.declared.bytes.Class.{Class}
@@ -103,13 +103,17 @@ slash text =
 -- octal digits of a value in range
 unfoldable pub octal : ℕ → ℕ → ℕ → Front
 octal first second third =
-    if is_octal_digit first && nat_lt 0 (octal_value first second third) && nat_lt (octal_value first second third) 128 then fronts.Letter (octal_len second third)
+    if is_octal_digit first && nat_lt 0 (octal_value first second third) && nat_lt (octal_value first second third) 128 then fronts.Letter (octal_len second third) (octal_value first second third)
     else fronts.Backslash
+
+abbrev pub escape_or : Option ℕ → Front → Front
+escape_or None other = other
+escape_or (Some meant) other = fronts.Letter 2 meant
 
 -- what a backslash before the bytes begins
 unfoldable pub escape : List ℕ → Front
 escape [] = fronts.LineEnd
-escape (byte ∷ bytes) = if is_some (escaped byte) then fronts.Letter 2 else octal byte (slice_index bytes 0) (slice_index bytes 1)
+escape (byte ∷ bytes) = escape_or (escaped byte) (octal byte (slice_index bytes 0) (slice_index bytes 1))
 
 -- what stands at the front of the rest of a string
 unfoldable pub front : ℕ → List ℕ → Front
@@ -119,11 +123,11 @@ front quote (byte ∷ bytes) =
     else (if byte == 10 then fronts.LineEnd
     else (if byte == 0 then fronts.Nul
     else (if byte == 92 then escape bytes
-    else fronts.Letter 1)))
+    else fronts.Letter 1 byte)))
 
 -- one turn: what more gives behind a letter, and else the token or the fault
 abbrev pub quoted_by : TokenKind → ℕ → Front → (ℕ → Step) → Step
-quoted_by kind at (fronts.Letter len) more = more len
+quoted_by kind at (fronts.Letter len meant) more = more len
 quoted_by kind at fronts.Close more = steps.Token kind (at + 1)
 quoted_by kind at fronts.LineEnd more = steps.Fault kinds.StringEnd 0
 quoted_by kind at fronts.Nul more = steps.Fault kinds.Character at
@@ -168,7 +172,7 @@ IsWithin len (steps.Fault kind place) = place ≤ len
 
 -- the same of a letter, behind `least` bytes of it that were read
 abbrev pub IsLetterWithin : ℕ → ℕ → Front → Type 0
-IsLetterWithin least len (fronts.Letter n) = (least < n) × (n ≤ least + len)
+IsLetterWithin least len (fronts.Letter n meant) = (least < n) × (n ≤ least + len)
 IsLetterWithin least len fronts.Close = 0 < len
 IsLetterWithin least len fronts.LineEnd = Unit {0}
 IsLetterWithin least len fronts.Nul = 0 < len
@@ -176,5 +180,5 @@ IsLetterWithin least len fronts.Backslash = 0 < least + len
 
 -- the octal digits of a letter stand there
 abbrev pub HasOctal : ℕ → ℕ → Front → Type 0
-HasOctal second third (fronts.Letter n) = (2 ≤ n) × (n ≤ 4) × (3 ≤ n → 0 < second) × (4 ≤ n → 0 < third)
+HasOctal second third (fronts.Letter n meant) = (2 ≤ n) × (n ≤ 4) × (3 ≤ n → 0 < second) × (4 ≤ n → 0 < third)
 HasOctal second third other = Unit {0}

@@ -1,13 +1,13 @@
 // What strings, quoted names and integers mean.
-ghost use Rattle.std.specs.Prelude.{◌≡◌, ◌-◌, ◌<◌, ◌≤◌, ◌^◌, pos, drop, length, slice_index, take, IfOk, IfSome};
+ghost use Rattle.std.specs.Prelude.{◌≡◌, ◌-◌, ◌<◌, ◌≤◌, ◌^◌, pos, drop, length, take, IfOk, IfSome};
 ghost use Rattle.std.specs.Str.Parse.{digits_value};
-ghost use Rattle.ad_lexer.specs.Content.{content, meaning_at, letter_len};
+ghost use Rattle.ad_lexer.specs.Content.{content};
 ghost use Rattle.ad_lexer.specs.Numbers.{value};
 ghost use Rattle.ad_lexer.specs.Quoted.{IsQuotation};
 
 use crate::bytes::{behind, byte_at};
-use crate::escape::{escaped, octal_len, octal_value};
 use crate::number::{digit_value, digits};
+use crate::quoted::{Front, front_of};
 use pool_text::{OutOfMemory, Text};
 use std::alloc::Global;
 
@@ -48,42 +48,11 @@ fn unescaped(alloc: Global, spelling: &[u8]) -> Result<Text, OutOfMemory>
     let quote = byte_at(spelling, 0);
     let mut rest = behind(spelling, 1);
     let mut text = Text::new(alloc);
-    while byte_at(rest, 0) != quote {
-        text.append(&[meaning(rest)])?;
-        rest = behind(rest, letter_len(rest));
+    while let Front::Letter(len, byte) = front_of(quote, rest) {
+        text.append(&[byte])?;
+        rest = behind(rest, len);
     }
     Ok(text)
-}
-
-/// The byte that the letter at the front means.
-#[tactic(auto, unfolding(crate::specs::Content::meaning_at))]
-fn meaning(rest: &[u8]) -> u8
-    requires { slice_index rest.now 0 ≡ 92 → meaning_at rest.now < 256 }
-    ensures { result ≡ meaning_at rest.now }
-{
-    let first = byte_at(rest, 0);
-    if first != b'\\' {
-        return first;
-    }
-    let second = byte_at(rest, 1);
-    match escaped(second) {
-        Some(meant) => meant,
-        None => octal_value(second, byte_at(rest, 2), byte_at(rest, 3)) as u8,
-    }
-}
-
-/// How many bytes that letter takes.
-#[tactic(auto, unfolding(crate::specs::Content::letter_len))]
-fn letter_len(rest: &[u8]) -> usize
-    ensures { result ≡ letter_len rest.now }
-{
-    if byte_at(rest, 0) != b'\\' {
-        1
-    } else if escaped(byte_at(rest, 1)).is_some() {
-        2
-    } else {
-        octal_len(byte_at(rest, 2), byte_at(rest, 3))
-    }
 }
 
 /// The value that the bytes of an integer spell, in one of the three bases.

@@ -8,11 +8,11 @@ use crate::fault::LexKind;
 use crate::next::Step;
 use crate::token::TokenKind;
 
-/// What stands at the front of the rest of a string: a letter with its length, the closing quote, the line's or the
-/// text's end, byte 0, or a backslash that no escape follows.
+/// What stands at the front of the rest of a string: a letter with its length and the byte that it means, the closing
+/// quote, the line's or the text's end, byte 0, or a backslash that no escape follows.
 #[derive(Clone, Copy, Debug)]
 pub enum Front {
-    Letter(usize),
+    Letter(usize, u8),
     Close,
     LineEnd,
     Nul,
@@ -55,7 +55,7 @@ fn quoted(kind: TokenKind, quote: u8, text: &[u8]) -> Step
     let mut rest = text;
     loop {
         match front_of(quote, rest) {
-            Front::Letter(len) => {
+            Front::Letter(len, _) => {
                 at += len;
                 rest = behind(rest, len);
             }
@@ -68,7 +68,7 @@ fn quoted(kind: TokenKind, quote: u8, text: &[u8]) -> Step
 }
 
 #[tactic(auto, unfolding(crate::specs::Reading::front))]
-fn front_of(quote: u8, text: &[u8]) -> Front
+pub fn front_of(quote: u8, text: &[u8]) -> Front
     ensures value { result ≡ spec.front quote text.now }
     ensures within { spec.IsLetterWithin 0 (length text.now) result }
 {
@@ -82,7 +82,7 @@ fn front_of(quote: u8, text: &[u8]) -> Front
         b'\n' => Front::LineEnd,
         0 => Front::Nul,
         b'\\' => escape(rest),
-        _ => Front::Letter(1),
+        _ => Front::Letter(1, *byte),
     }
 }
 
@@ -95,10 +95,9 @@ fn escape(text: &[u8]) -> Front
     let [byte, ..] = text else {
         return Front::LineEnd;
     };
-    if escaped(*byte).is_some() {
-        Front::Letter(2)
-    } else {
-        octal(*byte, byte_at(text, 1), byte_at(text, 2))
+    match escaped(*byte) {
+        Some(meant) => Front::Letter(2, meant),
+        None => octal(*byte, byte_at(text, 1), byte_at(text, 2)),
     }
 }
 
@@ -109,7 +108,7 @@ fn octal(first: u8, second: u8, third: u8) -> Front
 {
     let value = octal_value(first, second, third);
     if is_octal_digit(first) && 0 < value && value < 128 {
-        Front::Letter(octal_len(second, third))
+        Front::Letter(octal_len(second, third), value as u8)
     } else {
         Front::Backslash
     }

@@ -2,8 +2,8 @@ use Rattle.std.proofs.Common.{length}
 use Rattle.ad_lexer.proofs.DecodeLemmas.{Unread}
 use Rattle.ad_lexer.proofs.decode.unescaped.Given as goal
 
-abbrev pub invariant-loop-rest : goal.invariant-loop-rest
-invariant-loop-rest l = ∥ Unread l.quote l.spelling l.text l.rest ∥₁
+abbrev pub invariant-loop-len : goal.invariant-loop-len
+invariant-loop-len l = ∥ Unread l.quote l.spelling l.text l.rest ∥₁
 
-abbrev pub decreases-loop-rest : goal.decreases-loop-rest
-decreases-loop-rest l = length l.rest
+abbrev pub decreases-loop-len : goal.decreases-loop-len
+decreases-loop-len l = length l.rest

@@ -9,7 +9,7 @@ loop-len-preserved c =
     let rest = c.loop-len.rest.now in
     let len = c.in-Letter.len in
     let within = c.in-Letter.ensures.within in
-    let turn = quoted_turn c.args.kind c.args.quote c.loop-len.at len rest (sym c.in-Letter.ensures.value) within.0 (omega (arith, within.1)) in
+    let turn = quoted_turn c.args.kind c.args.quote c.loop-len.at len _ rest (sym c.in-Letter.ensures.value) within.0 (omega (arith, within.1)) in
     let shorter : length c.behind-rest.result.now ≡ length rest - len = ap (λ (l : List ℕ). length l) c.behind-rest.ensures ∙ length-drop len rest in
     (ap (λ (l : List ℕ). quoted c.args.kind c.args.quote (c.loop-len.at + len) 0 l) c.behind-rest.ensures ∙ sym turn ∙ c.loop-len.invariant.0, omega (arith, within.1, c.loop-len.invariant.1))
 

@@ -22,9 +22,10 @@ use Rattle.ad_lexer.specs.Reading.{begin_of, next, symbol, symbol_len, symbol_of
 use Rattle.ad_lexer.proofs.Begins.{begin_is}
 use Rattle.ad_lexer.proofs.ItemLemmas.{symbol_begins, string_whole, name_whole, first_same, slash_alone, same_first, token_found}
 use Rattle.ad_lexer.proofs.NextLemmas.{next_at, number_next}
-use Rattle.ad_lexer.proofs.NumberLemmas.{integer_begins, integer_decimal, integer_hexadecimal, chosen, number_chosen}
+use Rattle.ad_lexer.proofs.NumberLemmas.{integer_begins, integer_decimal, integer_hexadecimal, number_is}
 use Rattle.ad_lexer.proofs.Runs.{run_exact}
-use Rattle.ad_lexer.proofs.Steps.{TokenAt, Stands, next_stands}
+use Rattle.ad_lexer.proofs.Fronts.{TokenAt, Stands}
+use Rattle.ad_lexer.proofs.Steps.{next_stands}
 use Rattle.ad_lexer.proofs.SymbolLemmas.{symbol_passes, symbol_short, symbol_reaches, symbol_found}
 use Rattle.ad_lexer.proofs.WordLemmas.{word_bytes, word_begins, word_nonempty}
 
@@ -79,9 +80,6 @@ decimal_more bytes after is isnt ends =
     let run : prefix_len is_ascii_digit (bytes ++ after) ≡ length bytes = run_exact is_ascii_digit bytes after parts.1 (λ some. no_digit (slice_index after 0) ends) in
     (other, rw other run)
 
-chosen_integer : (h m b i : Bool) (len : ℕ) → b ≡ false → i ≡ true → (m && not h) ≡ false → chosen h m b i len ≡ steps.Token Int len
-chosen_integer h m b i len behind integer mark = rw (mark, behind, integer) refl
-
 -- the byte behind the first part of a text
 at_behind : (bytes after : List ℕ) → slice_index (bytes ++ after) (length bytes) ≡ slice_index after 0
 at_behind [] after = refl
@@ -100,9 +98,7 @@ number_alone bytes after is ends same len =
     let off : (is_decimal_mark (behind_number text) && not (is_hexadecimal text)) ≡ false =
     ap (λ (b : ℕ). is_decimal_mark b && not (is_hexadecimal text)) behind ∙ ap (λ (h : Bool). is_decimal_mark (slice_index after 0) && not h) same ∙ mark_off (slice_index after 0) (is_hexadecimal bytes) isnt both.1 in
     let whole : is_integer (take (number_len text) text) ≡ true = ap (λ (n : ℕ). is_integer (take n text)) len ∙ ap is_integer (take_at bytes after (length bytes) refl) ∙ is in
-    number_next text (integer_begins bytes after is) ∙ number_chosen text
-    ∙ chosen_integer (is_hexadecimal text) (is_decimal_mark (behind_number text)) (is_word_byte (behind_number text)) (is_integer (take (number_len text) text)) (number_len text) (ap is_word_byte behind ∙ isnt) whole off
-    ∙ ap (λ (n : ℕ). steps.Token Int n) len
+    number_next text (integer_begins bytes after is) ∙ number_is text ∙ rw (off, ap is_word_byte behind ∙ isnt, whole) (ap (λ (n : ℕ). steps.Token Int n) len)
 
 pub integer_alone : (bytes after : List ℕ) → is_integer bytes ≡ true → ends_integer bytes (slice_index after 0) ≡ true → next (bytes ++ after) ≡ steps.Token Int (length bytes)
 integer_alone bytes after is ends =

@@ -4,6 +4,7 @@ pub mod BlankLemmas
 pub mod ContentLemmas
 pub mod DecimalLemmas
 mod DecodeLemmas
+mod Fronts
 pub mod ItemLemmas
 pub mod LetterLemmas
 mod MerelyLemmas

@@ -11,6 +11,7 @@ use Rattle.ad_lexer.specs.declared.token.TokenKind.{TokenKind}
 use Rattle.ad_lexer.specs.Faults.{ReadsTo, HasNul, IsOpenString, HasBadEscape}
 use Rattle.ad_lexer.specs.Quoted.{Letter, plain, escape, octal, spelling, spellings, meaning, IsLetter, AreLetters, IsQuoted}
 use Rattle.ad_lexer.specs.Reading as reading
+use Rattle.ad_lexer.proofs.Fronts.{TokenAt, Stands}
 use Rattle.ad_lexer.proofs.LetterLemmas.{is_quote, quote_differs, letter_met, spelling_some, LetterAt, IsLineEnd, FrontReads, front_reads}
 use Rattle.ad_lexer.proofs.Turns.{quoted_here, quoted_turn}
 
@@ -105,15 +106,6 @@ pub record QuotedAt (quote : ℕ) (text : List ℕ) (n : ℕ) : Type 0 where
   pub are_letters : AreLetters quote letters (quote ∷ [])
   pub length_is : 2 + length (spellings letters) ≡ n
 
-abbrev pub QuotedReads : TokenKind → ℕ → List ℕ → Step → Type 0
-QuotedReads kind quote text (steps.Token read n) = (read ≡ kind) × QuotedAt quote text n
-QuotedReads kind quote text (steps.Fault kinds.StringEnd place) = IsOpenString text × (place ≡ 0)
-QuotedReads kind quote text (steps.Fault kinds.Character place) = HasNul text place
-QuotedReads kind quote text (steps.Fault kinds.Escape place) = HasBadEscape text place
-QuotedReads kind quote text (steps.Fault other place) = ⊥
-QuotedReads kind quote text steps.End = ⊥
-QuotedReads kind quote text (steps.Blank n) = ⊥
-
 reads_to : (quote : ℕ) (text : List ℕ) (parts : Parts quote text) (rest : List ℕ) → is_quote quote ≡ true → parts.rest ≡ rest → ReadsTo quote (quote ∷ text) rest (1 + length (spellings parts.letters))
 reads_to quote text p rest is same = record {
   is_quote = is;
@@ -128,23 +120,24 @@ no_letter quote rest is stop letter after begins is_letter =
     subst IsStop (ap (λ (l : List ℕ). reading.front quote l) begins ∙ letter_met quote letter after is is_letter) stop
 
 read_by : (kind : TokenKind) (quote : ℕ) (text : List ℕ) (p : Parts quote text) (front : Front) (more : ℕ → Step) → is_quote quote ≡ true → FrontReads quote p.rest front → IsStop front → (front ≡ fronts.Backslash → IsStop (reading.front quote p.rest))
-    → QuotedReads kind quote (quote ∷ text) (reading.quoted_by kind (1 + length (spellings p.letters)) front more)
-read_by kind quote text p (fronts.Letter n meant) more is reads stop back = absurd stop
-read_by kind quote text p fronts.Close more is reads stop back =
+    → ((n : ℕ) → QuotedAt quote (quote ∷ text) n → TokenAt kind (quote ∷ text) n) → Stands (quote ∷ text) (reading.quoted_by kind (1 + length (spellings p.letters)) front more)
+read_by kind quote text p (fronts.Letter n meant) more is reads stop back token = absurd stop
+read_by kind quote text p fronts.Close more is reads stop back token =
     let to = reads_to quote text p (quote ∷ reads.0) is reads.1 in
-    (refl, record { letters = to.letters; after = reads.0; text_is = to.text_is; are_letters = same_letters quote to.letters quote reads.0 [] to.are_letters; length_is = omega (arith, to.place_is) })
-read_by kind quote text p fronts.LineEnd more is reads stop back = ((quote, p.rest, 1 + length (spellings p.letters), reads_to quote text p p.rest is refl, reads), refl)
-read_by kind quote text p fronts.Nul more is reads stop back = (quote, reads.0, reads_to quote text p (0 ∷ reads.0) is reads.1)
-read_by kind quote text p fronts.Backslash more is reads stop back =
+    token _ (record { letters = to.letters; after = reads.0; text_is = to.text_is; are_letters = same_letters quote to.letters quote reads.0 [] to.are_letters; length_is = omega (arith, to.place_is) })
+read_by kind quote text p fronts.LineEnd more is reads stop back token = ((quote, p.rest, 1 + length (spellings p.letters), reads_to quote text p p.rest is refl, reads), refl)
+read_by kind quote text p fronts.Nul more is reads stop back token = inr (inl (quote, reads.0, reads_to quote text p (0 ∷ reads.0) is reads.1))
+read_by kind quote text p fronts.Backslash more is reads stop back token =
     (quote, reads.0, reads.1, reads_to quote text p (92 ∷ reads.0 ∷ reads.1) is reads.2, λ letter after begins. no_letter quote p.rest is (back refl) letter after (reads.2 ∙ begins))
 
-pub quoted_reads : (kind : TokenKind) (quote : ℕ) (text : List ℕ) → is_quote quote ≡ true → QuotedReads kind quote (quote ∷ text) (reading.quoted kind quote 1 0 text)
-quoted_reads kind quote text is =
+-- what is read stands there, where a quoted text that is closed is a token
+pub quoted_stands : (kind : TokenKind) (quote : ℕ) (text : List ℕ) → is_quote quote ≡ true → ((n : ℕ) → QuotedAt quote (quote ∷ text) n → TokenAt kind (quote ∷ text) n) → Stands (quote ∷ text) (reading.quoted kind quote 1 0 text)
+quoted_stands kind quote text is token =
     let p = parts quote (length text) text (omega arith) in
     let over = quoted_over kind quote 1 p.letters p.rest is p.are_letters in
     let here = quoted_here kind quote (1 + length (spellings p.letters)) p.rest in
     let same : reading.quoted kind quote 1 0 text ≡ _ = ap (λ (l : List ℕ). reading.quoted kind quote 1 0 l) p.text_is ∙ over ∙ here in
-    subst (λ s. QuotedReads kind quote (quote ∷ text) s) (sym same) (read_by kind quote text p (reading.front quote p.rest) _ is (front_reads quote p.rest) p.stops (λ e. p.stops))
+    subst (λ s. Stands (quote ∷ text) s) (sym same) (read_by kind quote text p (reading.front quote p.rest) _ is (front_reads quote p.rest) p.stops (λ e. p.stops) token)
 
 -- ---- what stands there is read
 

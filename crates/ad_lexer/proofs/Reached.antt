@@ -15,7 +15,8 @@ use Rattle.ad_lexer.specs.Spans.{lexeme_of, lexemes_of, is_within, are_within}
 use Rattle.ad_lexer.specs.Tokens.{Item, blank, token, bytes_of, IsItem, Divides, lexemes, Tokens, Fault, Answers, IsOrMemory}
 use Rattle.ad_lexer.specs.Reading.{next}
 use Rattle.ad_lexer.proofs.ItemLemmas.{token_found}
-use Rattle.ad_lexer.proofs.Steps.{Stands, next_stands}
+use Rattle.ad_lexer.proofs.Fronts.{Stands}
+use Rattle.ad_lexer.proofs.Steps.{next_stands}
 use Rattle.ad_lexer.proofs.Texts.{tokens_same, fault_same, not_both}
 
 -- the length of items

@@ -13,7 +13,8 @@ use Rattle.ad_lexer.specs.Tokens.{Item, blank, token, bytes_of, IsItem, Divides,
 use Rattle.ad_lexer.specs.Reading.{next}
 use Rattle.ad_lexer.proofs.ItemLemmas.{step_of, item_next, item_same, token_found, spelled_some}
 use Rattle.ad_lexer.proofs.NextLemmas.{wrong_next}
-use Rattle.ad_lexer.proofs.Steps.{Stands, next_stands}
+use Rattle.ad_lexer.proofs.Fronts.{Stands}
+use Rattle.ad_lexer.proofs.Steps.{next_stands}
 use Rattle.ad_lexer.proofs.Utf8Lemmas.{utf8_cases}
 
 -- a text goes no further where it ends or has a fault

@@ -170,8 +170,7 @@ other_alone bytes after is stays dot =
     rw dot (symbol_token n (omega arith) ∙ ap (λ (m : ℕ). steps.Token Symbol m) len)
 
 dot_by : (dot digit : Bool) → ((dot && true) && digit) ≡ false → (dot && digit) ≡ false
-dot_by false digit is = refl
-dot_by true digit is = is
+dot_by dot digit is = grind (arith, nat_tests)
 
 no_dot : (bytes after : List ℕ) → is_symbol bytes ≡ true → (bytes_eq bytes (46 ∷ []) && is_ascii_digit (slice_index after 0)) ≡ false → is_dot_digit (bytes ++ after) ≡ false
 no_dot [] after is ends = absurd (true≢false (sym is))

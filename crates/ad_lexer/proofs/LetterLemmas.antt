@@ -28,16 +28,12 @@ octal_unescaped c is = grind (arith, nat_tests)
 
 plain_met : (quote byte : ℕ) (after : List ℕ) → is_plain quote byte ≡ true → reading.front quote (byte ∷ after) ≡ fronts.Letter 1 byte
 unfolding reading.front
-plain_met quote byte after is =
-    let others = or_parts (eqb byte quote || eqb byte 92 || eqb byte 10) (eqb byte 0) (not-true _ is) in
-    let more = or_parts (eqb byte quote || eqb byte 92) (eqb byte 10) others.0 in
-    let last = or_parts (eqb byte quote) (eqb byte 92) more.0 in
-    rw (last.0, more.1, others.1, last.1) refl
+plain_met quote byte after is = grind (arith, nat_tests)
 
 -- behind a backslash the escape is read
 backslash : (quote : ℕ) (bytes : List ℕ) → is_quote quote ≡ true → reading.front quote (92 ∷ bytes) ≡ reading.escape bytes
 unfolding reading.front
-backslash quote bytes is = let differs : eqb 92 quote ≡ false = quote_differs quote 92 is (λ e. omega arith) (λ e. omega arith) in rw differs refl
+backslash quote bytes is = rw (quote_differs quote 92 is (λ e. omega arith) (λ e. omega arith)) refl
 
 escape_met : (byte meant : ℕ) (after : List ℕ) → escaped byte ≡ Some meant → reading.escape (byte ∷ after) ≡ fronts.Letter 2 meant
 unfolding reading.escape

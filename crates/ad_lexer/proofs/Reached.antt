@@ -48,18 +48,6 @@ len_push : (items : List Item) (item : Item) → len_of (items ++ item ∷ []) �
 len_push [] item = ap (λ (l : List ℕ). length l) (append-nil (bytes_of item)) ∙ (let e : length (bytes_of item) ≡ 0 + length (bytes_of item) = omega arith in e)
 len_push (first ∷ items) item = omega (arith, len_push items item, length-append (bytes_of first) (flat_map bytes_of items), length-append (bytes_of first) (flat_map bytes_of (items ++ item ∷ [])))
 
-divides_len : (items : List Item) (text rest : List ℕ) → Divides text items rest → len_of items + length rest ≡ length text
-divides_len [] text rest divides = let e : length text ≡ length rest = ap (λ (l : List ℕ). length l) divides in omega arith
-divides_len (item ∷ items) text rest divides =
-    let whole : length text ≡ length (bytes_of item ++ divides.0) = ap (λ (l : List ℕ). length l) divides.1 in
-    omega (arith, divides_len items divides.0 rest divides.3, length-append (bytes_of item) divides.0, length-append (bytes_of item) (flat_map bytes_of items))
-
-pub reached_len : (text rest : List ℕ) (list : List Lexeme) (at : ℕ) → Reached text rest list at → at + length rest ≡ length text
-reached_len text rest list at reached = omega (arith, reached.at_is, divides_len reached.items text rest reached.divides)
-
-pub reached_start : (text : List ℕ) → Reached text text [] 0
-reached_start text = record { items = []; divides = refl; list_is = refl; at_is = refl }
-
 -- the bytes behind an item
 behind : (rest bytes after : List ℕ) (n : ℕ) → rest ≡ bytes ++ after → length bytes ≡ n → after ≡ drop n rest
 behind rest bytes after n begins len = sym (drop_at bytes after n len) ∙ ap (λ (l : List ℕ). drop n l) (sym begins)
@@ -79,8 +67,7 @@ abbrev pub lexeme_at : TokenKind → ℕ → ℕ → List ℕ → Lexeme
 lexeme_at kind start end text = record { kind = kind; start = start; end = end; text = text }
 
 lexeme_same : (kind : TokenKind) (start begin end stop : ℕ) (text bytes : List ℕ) → start ≡ begin → end ≡ stop → text ≡ bytes → lexeme_at kind start end text ≡ lexeme_at kind begin stop bytes
-lexeme_same kind start begin end stop text bytes starts ends texts =
-    ap (λ (n : ℕ). lexeme_at kind n end text) starts ∙ ap (λ (n : ℕ). lexeme_at kind begin n text) ends ∙ ap (λ (l : List ℕ). lexeme_at kind begin stop l) texts
+lexeme_same kind start begin end stop text bytes starts ends texts = cc
 
 pub reached_token : (text rest : List ℕ) (list : List Lexeme) (at : ℕ) (kind : TokenKind) (n : ℕ) → Reached text rest list at → steps.Token kind n ≡ next rest
     → Reached text (drop n rest) (list ++ lexeme_at kind at (at + n) (take n rest) ∷ []) (at + n)
@@ -151,7 +138,7 @@ answers_tokens text (Err (faults.At kind place)) is list tokens = absurd (not_bo
 answers_tokens text (Err faults.OutOfMemory) is list tokens = inr refl
 
 fault_by : (kind other : LexKind) (place other_place : ℕ) → (kind ≡ other) × (place ≡ other_place) → faults.At kind place ≡ faults.At other other_place
-fault_by kind other place other_place same = ap (λ k. faults.At k place) same.0 ∙ ap (λ (p : ℕ). faults.At other p) same.1
+fault_by kind other place other_place same = cc (same.0, same.1)
 
 pub answers_fault : (text : List ℕ) (answer : Result (List Lexeme) LexFault) → Answers text answer → (kind : LexKind) (place : ℕ) → Fault text kind place → IsOrMemory answer (Err (faults.At kind place))
 answers_fault text (Ok found) is kind place fault = absurd (not_both text found kind place is fault)

@@ -1,6 +1,7 @@
 -- Turns of the loops over a string's letters and over a number's digits.
 use Rattle.std.proofs.Common.{◌≡◌, ℕ, zero, suc, ◌+◌, ◌-◌, ◌*◌, ◌^◌, ◌<◌, ◌≤◌, Bool, true, false, ltb, ◌&&◌, lit<, List, [], ◌∷◌, length, drop, refl, sym, ◌∙◌, ap, arith}
 use Rattle.std.proofs.lemmas.Bool.Decides.{nat_tests}
+use Rattle.std.proofs.Math.Bool.{and_assoc}
 use Rattle.std.proofs.Math.Nat.{mul-le-mul_left}
 use Rattle.std.specs.Char.{is_digit, digit_value}
 use Rattle.std.specs.List.{list_all}
@@ -62,10 +63,6 @@ has_value-is base n (c ∷ cs) some fits =
     let grows = after_grows base next cs some in
     choose (is_digit c base) (ltb next (2 ^ 63)) (has_value base next cs) (list_all (λ d. is_digit d base) cs) (ltb (digits_value_after base next cs) (2 ^ 63)) (λ small. has_value-is base next cs some (grind (arith, nat_tests))) (λ large. grind (arith, nat_tests))
 
-and_assoc : (a b c : Bool) → (a && (b && c)) ≡ ((a && b) && c)
-and_assoc true b c = refl
-and_assoc false b c = refl
-
 -- an integer has digits, and they have a value
 pub is_integer_in : (n : ℕ) (ds : List ℕ) → 0 < n → (ltb 0 (length ds) && has_value n 0 ds) ≡ ((ltb 0 (length ds) && list_all (λ c. is_digit c n) ds) && ltb (digits_value_after n 0 ds) (2 ^ 63))
-is_integer_in n ds some = ap (λ (b : Bool). ltb 0 (length ds) && b) (has_value-is n 0 ds some (lit< tt)) ∙ and_assoc (ltb 0 (length ds)) _ _
+is_integer_in n ds some = ap (λ (b : Bool). ltb 0 (length ds) && b) (has_value-is n 0 ds some (lit< tt)) ∙ sym (and_assoc (ltb 0 (length ds)) _ _)

@@ -29,7 +29,7 @@ fn number_len(text: &[u8]) -> usize
 }
 
 /// The integer that the text begins with, or its fault.
-#[tactic(auto, unfolding(crate::specs::Reading::number))]
+#[tactic(auto, using(crate::proofs::Begins::number_some), unfolding(crate::specs::Reading::number))]
 pub fn number(text: &[u8]) -> Step
     requires some { 0 < length text.now }
     requires digit { spec.begin_of (slice_index text.now 0) ≡ Begin.Number }

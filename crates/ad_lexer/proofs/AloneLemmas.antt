@@ -21,11 +21,10 @@ use Rattle.ad_lexer.specs.Words.{is_word, is_word_byte, is_reserved}
 use Rattle.ad_lexer.specs.Reading.{begin_of, next, symbol, symbol_len, symbol_of, slash, is_decimal_mark}
 use Rattle.ad_lexer.proofs.Begins.{begin_is}
 use Rattle.ad_lexer.proofs.ItemLemmas.{symbol_begins, string_whole, name_whole, first_same, slash_alone, same_first, token_found}
-use Rattle.ad_lexer.proofs.NextLemmas.{next_at, number_next}
+use Rattle.ad_lexer.proofs.Steps.{next_at, number_next, next_stands}
 use Rattle.ad_lexer.proofs.NumberLemmas.{integer_begins, integer_decimal, integer_hexadecimal, number_is}
 use Rattle.ad_lexer.proofs.Runs.{run_exact}
 use Rattle.ad_lexer.proofs.Fronts.{TokenAt, Stands}
-use Rattle.ad_lexer.proofs.Steps.{next_stands}
 use Rattle.ad_lexer.proofs.SymbolLemmas.{symbol_passes, symbol_short, symbol_reaches, symbol_found}
 use Rattle.ad_lexer.proofs.WordLemmas.{word_bytes, word_begins, word_nonempty}
 

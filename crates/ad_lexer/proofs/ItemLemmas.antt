@@ -23,11 +23,10 @@ use Rattle.ad_lexer.specs.Reading as reading
 use Rattle.ad_lexer.specs.Reading.{begin_of, at_begin, next, word, number, symbol, symbol_len, symbol_of, slash}
 use Rattle.ad_lexer.proofs.Begins.{begin_is, begin_number}
 use Rattle.ad_lexer.proofs.Fronts.{BlankAt, TokenAt, Stands}
-use Rattle.ad_lexer.proofs.NextLemmas.{next_at, begin_39, begin_34, name_next, string_next, begin_space, number_next, wrong_next, blank_next}
+use Rattle.ad_lexer.proofs.Steps.{next_at, begin_39, begin_34, name_next, string_next, begin_space, number_next, wrong_next, blank_next, next_stands}
 use Rattle.ad_lexer.proofs.NumberLemmas.{number_read, integer_begins, integer_nonempty, integer_reaches}
 use Rattle.ad_lexer.proofs.QuotedLemmas.{letters_first, quoted_met, same_letters}
 use Rattle.ad_lexer.proofs.Runs.{run_reaches}
-use Rattle.ad_lexer.proofs.Steps.{next_stands}
 use Rattle.ad_lexer.proofs.SymbolLemmas.{symbol_passes, is_other, symbol_other, symbol_short, symbol_reaches}
 use Rattle.ad_lexer.proofs.WordLemmas.{word_bytes, word_begins, word_nonempty}
 

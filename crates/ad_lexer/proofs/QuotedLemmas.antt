@@ -1,19 +1,52 @@
 -- The string or quoted name at the front of a text.
-use Rattle.std.proofs.Common.{◌≡◌, ◌⊎◌, ℕ, zero, suc, ◌+◌, ◌-◌, ◌<◌, ◌≤◌, true, false, eqb, List, [], ◌∷◌, ◌++◌, length, drop, slice_index, refl, sym, ◌∙◌, ap, subst, inl, inr, arith, length-append, append_assoc}
+use Rattle.std.proofs.Common.{◌≡◌, ℕ, zero, suc, ◌+◌, ◌-◌, ◌*◌, ◌^◌, ◌<◌, ◌≤◌, Bool, true, false, ltb, ◌&&◌, lit<, List, [], ◌∷◌, length, drop, refl, sym, ◌∙◌, ap, arith, ◌⊎◌, eqb, ◌++◌, slice_index, subst, inl, inr, length-append, append_assoc}
+use Rattle.std.proofs.lemmas.Bool.Decides.{nat_tests}
+use Rattle.std.specs.Char.{is_digit, digit_value}
+use Rattle.std.specs.List.{list_all}
+use Rattle.std.specs.Str.Parse.{digits_value_after}
 use Rattle.std.proofs.lemmas.Bool.{or_parts, not-true, true≢false, eq-eqb}
 use Rattle.std.proofs.lemmas.List.{drop_at}
-use Rattle.ad_lexer.specs.declared.fault.LexKind.TheVariants as kinds
-use Rattle.ad_lexer.specs.declared.next.Step.{Step}
-use Rattle.ad_lexer.specs.declared.next.Step.TheVariants as steps
 use Rattle.ad_lexer.specs.declared.quoted.Front.{Front}
-use Rattle.ad_lexer.specs.declared.quoted.Front.TheVariants as fronts
 use Rattle.ad_lexer.specs.declared.token.TokenKind.{TokenKind}
+use Rattle.ad_lexer.specs.declared.next.Step.{Step}
 use Rattle.ad_lexer.specs.Faults.{ReadsTo, HasNul, IsOpenString, HasBadEscape}
 use Rattle.ad_lexer.specs.Quoted.{Letter, plain, escape, octal, spelling, spellings, meaning, IsLetter, AreLetters, IsQuoted}
+use Rattle.ad_lexer.specs.declared.fault.LexKind.TheVariants as kinds
+use Rattle.ad_lexer.specs.declared.next.Step.TheVariants as steps
+use Rattle.ad_lexer.specs.declared.quoted.Front.TheVariants as fronts
 use Rattle.ad_lexer.specs.Reading as reading
 use Rattle.ad_lexer.proofs.Fronts.{TokenAt, Stands}
 use Rattle.ad_lexer.proofs.LetterLemmas.{is_quote, quote_differs, letter_met, spelling_some, LetterAt, IsLineEnd, FrontReads, front_reads}
-use Rattle.ad_lexer.proofs.Turns.{quoted_here, quoted_turn}
+
+-- skipping bytes is going on behind them
+quoted-skip : (kind : TokenKind) (quote at skip : ℕ) (text : List ℕ) → skip ≤ length text → reading.quoted kind quote at skip text ≡ reading.quoted kind quote (at + skip) 0 (drop skip text)
+quoted-skip kind quote at zero text fits = let e : at ≡ at + 0 = omega arith in ap (λ (n : ℕ). reading.quoted kind quote n 0 text) e
+quoted-skip kind quote at (suc skip) [] fits = refl
+quoted-skip kind quote at (suc skip) (byte ∷ bytes) fits =
+    let e : at + 1 + skip ≡ at + suc skip = omega arith in
+    quoted-skip kind quote (at + 1) skip bytes (omega arith) ∙ ap (λ (n : ℕ). reading.quoted kind quote n 0 (drop skip bytes)) e
+
+-- behind a letter the rest of the string goes on
+pub quoted_turn : (kind : TokenKind) (quote at len meant : ℕ) (text : List ℕ) → reading.front quote text ≡ fronts.Letter len meant → 0 < len → len ≤ length text → reading.quoted kind quote at 0 text ≡ reading.quoted kind quote (at + len) 0 (drop len text)
+quoted_turn kind quote at zero meant text is some fits = absurd (omega arith)
+quoted_turn kind quote at (suc len) meant [] is some fits = absurd (omega arith)
+quoted_turn kind quote at (suc len) meant (byte ∷ bytes) is some fits =
+    let e : at + 1 + len ≡ at + suc len = omega arith in
+    let less : suc len - 1 ≡ len = omega arith in
+    ap (λ f. reading.quoted_by kind at f (λ n. reading.quoted kind quote (at + 1) (n - 1) bytes)) is
+    ∙ ap (λ (n : ℕ). reading.quoted kind quote (at + 1) n bytes) less
+    ∙ quoted-skip kind quote (at + 1) len bytes (omega arith)
+    ∙ ap (λ (n : ℕ). reading.quoted kind quote n 0 (drop len bytes)) e
+
+-- the rest of a string goes by what stands at its front
+pub quoted_here : (kind : TokenKind) (quote at : ℕ) (text : List ℕ) → reading.quoted kind quote at 0 text ≡ reading.quoted_by kind at (reading.front quote text) (λ n. reading.quoted kind quote (at + 1) (n - 1) (drop 1 text))
+unfolding reading.front
+quoted_here kind quote at [] = refl
+quoted_here kind quote at (byte ∷ bytes) = refl
+
+-- the same where that is known
+pub quoted_stop : (kind : TokenKind) (quote at : ℕ) (text : List ℕ) (f : Front) → f ≡ reading.front quote text → reading.quoted_by kind at f (λ n. reading.quoted kind quote (at + 1) (n - 1) (drop 1 text)) ≡ reading.quoted kind quote at 0 text
+quoted_stop kind quote at text f is = ap (λ g. reading.quoted_by kind at g (λ n. reading.quoted kind quote (at + 1) (n - 1) (drop 1 text))) is ∙ sym (quoted_here kind quote at text)
 
 -- letters are gone over
 pub quoted_over : (kind : TokenKind) (quote at : ℕ) (letters : List Letter) (rest : List ℕ) → is_quote quote ≡ true → AreLetters quote letters rest → reading.quoted kind quote at 0 (spellings letters ++ rest) ≡ reading.quoted kind quote (at + length (spellings letters)) 0 rest

@@ -45,11 +45,6 @@ word text = let len = prefix_len is_word_byte text in steps.Token (if is_reserve
 
 -- ---- numbers
 
--- whether further digits behind those of n keep the number below 2^63
-abbrev pub has_value : ℕ → ℕ → List ℕ → Bool
-has_value base n [] = true
-has_value base n (c ∷ cs) = (is_digit c base && nat_lt (n * base + digit_value c) (2 ^ 63)) && has_value base (n * base + digit_value c) cs
-
 -- `.`, `e` or `E`, of a decimal or an exponent
 abbrev pub is_decimal_mark : ℕ → Bool
 is_decimal_mark byte = byte == 46 || byte == 101 || byte == 69

@@ -1,6 +1,8 @@
 // Integers, and the numbers that are none.
-ghost use Rattle.std.specs.Prelude.{◌≡◌, ◌<◌, ◌≤◌, length, slice_index};
-ghost use Rattle.std.specs.Char.{digit_value};
+ghost use Rattle.std.specs.Prelude.{◌≡◌, ◌<◌, ◌≤◌, ◌^◌, ◌&&◌, nat_lt, length, slice_index};
+ghost use Rattle.std.specs.Char.{digit_value, is_digit};
+ghost use Rattle.std.specs.List.{list_all};
+ghost use Rattle.std.specs.Str.Parse.{digits_value};
 ghost use Rattle.ad_lexer.specs.Numbers as numbers;
 ghost use Rattle.ad_lexer.specs.Reading as spec;
 
@@ -84,11 +86,10 @@ pub fn digits(number: &[u8]) -> (u64, &[u8])
 fn has_value(base: u64, digits: &[u8]) -> bool
     requires low { 2 ≤ base }
     requires high { base ≤ 16 }
-    ensures { result ≡ spec.has_value base 0 digits.now }
+    ensures { result ≡ (list_all (λ c. is_digit c base) digits.now && nat_lt (digits_value base digits.now) (2 ^ 63)) }
 {
     let mut value: u64 = 0;
-    let mut rest = digits;
-    while let [byte, more @ ..] = rest {
+    for byte in digits {
         let digit = digit_value(*byte);
         if base <= digit {
             return false;
@@ -98,7 +99,6 @@ fn has_value(base: u64, digits: &[u8]) -> bool
             return false;
         }
         value = next as u64;
-        rest = more;
     }
     true
 }

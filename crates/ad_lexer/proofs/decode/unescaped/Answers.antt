@@ -1,7 +1,6 @@
 use Rattle.std.proofs.Common.{arith, ◌∙◌}
 use Rattle.std.proofs.Math.Logic.{∥∥₁_map}
-use Rattle.ad_lexer.proofs.MerelyLemmas.{equal-when, less-when}
-use Rattle.ad_lexer.proofs.DecodeLemmas.{unread-first, unread-turn, unread-end, quotation-long}
+use Rattle.ad_lexer.proofs.ContentLemmas.{equal-when, less-when, unread-first, unread-turn, unread-end, quotation-long}
 use Rattle.ad_lexer.proofs.decode.unescaped.Goals as goal
 
 pub behind-rest-requires : goal.behind-rest-requires

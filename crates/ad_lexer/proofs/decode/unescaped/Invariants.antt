@@ -1,5 +1,5 @@
 use Rattle.std.proofs.Common.{length}
-use Rattle.ad_lexer.proofs.DecodeLemmas.{Unread}
+use Rattle.ad_lexer.proofs.ContentLemmas.{Unread}
 use Rattle.ad_lexer.proofs.decode.unescaped.Given as goal
 
 abbrev pub invariant-loop-len : goal.invariant-loop-len

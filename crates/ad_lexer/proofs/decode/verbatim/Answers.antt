@@ -1,6 +1,5 @@
 use Rattle.std.proofs.Common.{sym, ◌∙◌}
-use Rattle.ad_lexer.proofs.MerelyLemmas.{equal-when, less-when}
-use Rattle.ad_lexer.proofs.DecodeLemmas.{quotation-long, verbatim-content}
+use Rattle.ad_lexer.proofs.ContentLemmas.{equal-when, less-when, quotation-long, verbatim-content}
 use Rattle.ad_lexer.proofs.decode.verbatim.Goals as goal
 
 pub inside-requires : goal.inside-requires

@@ -1,7 +1,7 @@
 use Rattle.std.proofs.Common.{◌≡◌, ℕ, ◌+◌, List, length, length-drop, ◌-◌, sym, ◌∙◌, ap, arith}
 use Rattle.ad_lexer.specs.declared.quoted.Front.TheVariants.{Close, LineEnd, Nul, Backslash}
 use Rattle.ad_lexer.specs.Reading.{quoted}
-use Rattle.ad_lexer.proofs.Turns.{quoted_stop, quoted_turn}
+use Rattle.ad_lexer.proofs.QuotedLemmas.{quoted_stop, quoted_turn}
 use Rattle.ad_lexer.proofs.quoted.quoted.Goals as goal
 
 pub loop-len-preserved : goal.loop-len-preserved

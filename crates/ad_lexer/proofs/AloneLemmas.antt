@@ -54,17 +54,11 @@ word_alone bytes after is ends =
 
 -- ---- integers
 
-no_hexdigit : (byte : ℕ) → is_word_byte byte ≡ false → is_ascii_hexdigit byte ≡ false
-no_hexdigit byte isnt = grind (arith, nat_tests)
-
-no_digit : (byte : ℕ) → is_word_byte byte ≡ false → is_ascii_digit byte ≡ false
-no_digit byte isnt = grind (arith, nat_tests)
-
 hexadecimal_more : (bytes after : List ℕ) → is_hexadecimal bytes ≡ true → list_all is_ascii_hexdigit (drop 2 bytes) ≡ true → is_word_byte (slice_index after 0) ≡ false → (is_hexadecimal (bytes ++ after) ≡ true) × (number_len (bytes ++ after) ≡ length bytes)
 hexadecimal_more [] after is each ends = absurd (grind (arith, nat_tests))
 hexadecimal_more (a ∷ []) after is each ends = absurd (grind (arith, nat_tests))
 hexadecimal_more (a ∷ b ∷ bytes) after is each ends =
-    let run : prefix_len is_ascii_hexdigit (bytes ++ after) ≡ length bytes = run_exact is_ascii_hexdigit bytes after each (λ some. no_hexdigit (slice_index after 0) ends) in
+    let run : prefix_len is_ascii_hexdigit (bytes ++ after) ≡ length bytes = run_exact is_ascii_hexdigit bytes after each (λ some. grind (arith, nat_tests)) in
     (is, rw is (omega arith))
 
 decimal_isnt : (bytes after : List ℕ) → 0 < length bytes → is_hexadecimal bytes ≡ false → is_word_byte (slice_index after 0) ≡ false → is_hexadecimal (bytes ++ after) ≡ false
@@ -76,7 +70,7 @@ decimal_more : (bytes after : List ℕ) → is_integer bytes ≡ true → is_hex
 decimal_more bytes after is isnt ends =
     let parts = integer_decimal bytes is isnt in
     let other = decimal_isnt bytes after parts.0 isnt ends in
-    let run : prefix_len is_ascii_digit (bytes ++ after) ≡ length bytes = run_exact is_ascii_digit bytes after parts.1 (λ some. no_digit (slice_index after 0) ends) in
+    let run : prefix_len is_ascii_digit (bytes ++ after) ≡ length bytes = run_exact is_ascii_digit bytes after parts.1 (λ some. grind (arith, nat_tests)) in
     (other, rw other run)
 
 -- the byte behind the first part of a text

@@ -3,7 +3,7 @@ use Rattle.std.proofs.Common.{◌≡◌, ℕ, suc, ◌+◌, Bool, true, false, c
 use Rattle.std.proofs.lemmas.Bool.{cases_Bool, and_parts, and_right, or_parts, or_from, not-false, eqb-true}
 use Rattle.std.proofs.lemmas.List.Sums.{prefix_len-le-length}
 use Rattle.std.specs.List.{prefix_len}
-use Rattle.ad_lexer.specs.Blanks.{is_line_byte, begins_comment, has_close, IsLineComment, IsBlockComment, IsBlank}
+use Rattle.ad_lexer.specs.Blanks.{is_line_byte, begins_comment, has_close, IsLineComment, IsBlockComment}
 use Rattle.ad_lexer.specs.Faults.{IsOpenComment}
 use Rattle.ad_lexer.specs.declared.fault.LexKind.TheVariants as kinds
 use Rattle.ad_lexer.specs.declared.next.Step.{Step}

@@ -1,5 +1,5 @@
 -- What a string or a quoted name means, letter by letter.
-use Rattle.std.proofs.Common.{◌≡◌, ℕ, zero, suc, ◌-◌, ◌<◌, Bool, true, false, cond, eqb, List, [], ◌∷◌, ◌++◌, length, map, drop, slice_index, is_some, refl, sym, ◌∙◌, ap, arith, length-append, append_assoc, inl, inr, ◌≤◌, take, ◌==◌, Some, subst}
+use Rattle.std.proofs.Common.{◌≡◌, ℕ, zero, suc, ◌-◌, ◌<◌, Bool, true, false, cond, eqb, List, [], ◌∷◌, ◌++◌, length, map, drop, slice_index, is_some, refl, sym, ◌∙◌, ap, arith, length-append, append_assoc, inl, inr, take, ◌==◌, subst}
 use Rattle.std.proofs.lemmas.Bool.{or_parts, not-true, eq-eqb}
 use Rattle.std.proofs.lemmas.Bool.Decides.{nat_tests}
 use Rattle.std.proofs.lemmas.List.{drop_at, append-nil}
@@ -102,25 +102,26 @@ pub record Unread (quote : ℕ) (bytes text rest : List ℕ) : Type 0 where
   pub are : AreLetters quote letters (quote ∷ [])
   pub means : text ++ map meaning letters ≡ content bytes
 
-first_by : (quote : ℕ) (bytes text : List ℕ) → is_quote quote ≡ true → IsQuoted quote bytes text → Unread (slice_index bytes 0) bytes [] (drop 1 bytes)
-first_by quote bytes text is q =
-    let first : slice_index bytes 0 ≡ quote = ap (λ (b : List ℕ). slice_index b 0) q.1 in
-    subst (λ n. Unread n bytes [] (drop 1 bytes)) (sym first) (record {
-      quotes = is;
-      letters = q.0;
-      spelled = ap (λ (b : List ℕ). drop 1 b) q.1;
-      are = q.2;
-      means = sym q.3 ∙ sym (quoted_content quote bytes text is q);
+-- a quotation stands between two equal quotes
+pub quotation_quote : (bytes : List ℕ) → IsQuotation bytes → (quote : ℕ) × (text : List ℕ) × (is_quote quote ≡ true) × IsQuoted quote bytes text
+quotation_quote bytes q = elim q [ inl string ↦ (34, string.0, refl, string.1) | inr named ↦ (39, named.0, refl, named.1) ]
+
+pub unread_first : (bytes : List ℕ) → IsQuotation bytes → Unread (slice_index bytes 0) bytes [] (drop 1 bytes)
+unread_first bytes quotation =
+    let q = quotation_quote bytes quotation in
+    subst (λ n. Unread n bytes [] (drop 1 bytes)) (sym (ap (λ (b : List ℕ). slice_index b 0) q.3.1)) (record {
+      quotes = q.2;
+      letters = q.3.0;
+      spelled = ap (λ (b : List ℕ). drop 1 b) q.3.1;
+      are = q.3.2;
+      means = sym q.3.3 ∙ sym (quoted_content q.0 bytes q.1 q.2 q.3);
     })
 
-pub unread-first : (bytes : List ℕ) → IsQuotation bytes → Unread (slice_index bytes 0) bytes [] (drop 1 bytes)
-unread-first bytes q = elim q [ inl string ↦ first_by 34 bytes string.0 refl string.1 | inr named ↦ first_by 39 bytes named.0 refl named.1 ]
-
 -- a letter is read
-turn_by : (quote : ℕ) (bytes text rest : List ℕ) (letters : List Letter) (len meant : ℕ) → is_quote quote ≡ true → rest ≡ spellings letters ++ quote ∷ [] → AreLetters quote letters (quote ∷ [])
+pub unread_turn : (quote : ℕ) (bytes text rest : List ℕ) (letters : List Letter) (len meant : ℕ) → is_quote quote ≡ true → rest ≡ spellings letters ++ quote ∷ [] → AreLetters quote letters (quote ∷ [])
     → text ++ map meaning letters ≡ content bytes → fronts.Letter len meant ≡ front quote rest → Unread quote bytes (text ++ meant ∷ []) (drop len rest)
-turn_by quote bytes text rest [] len meant is spelled are means reads = absurd (cc (reads ∙ ap (front quote) spelled ∙ front_close quote []))
-turn_by quote bytes text rest (letter ∷ letters) len meant is spelled are means reads =
+unread_turn quote bytes text rest [] len meant is spelled are means reads = absurd (cc (reads ∙ ap (front quote) spelled ∙ front_close quote []))
+unread_turn quote bytes text rest (letter ∷ letters) len meant is spelled are means reads =
     let more : List ℕ = spellings letters ++ quote ∷ [] in
     let joined : rest ≡ spelling letter ++ more = spelled ∙ append_assoc (spelling letter) (spellings letters) (quote ∷ []) in
     let same : fronts.Letter len meant ≡ fronts.Letter (length (spelling letter)) (meaning letter) = reads ∙ ap (front quote) joined ∙ letter_met quote letter more is are.0 in
@@ -134,53 +135,45 @@ turn_by quote bytes text rest (letter ∷ letters) len meant is spelled are mean
       means = ap (λ (b : ℕ). (text ++ b ∷ []) ++ map meaning letters) meaning_is ∙ append_assoc text (meaning letter ∷ []) (map meaning letters) ∙ means;
     }
 
-pub unread-turn : (quote : ℕ) (bytes text rest : List ℕ) (len meant : ℕ) → Unread quote bytes text rest → fronts.Letter len meant ≡ front quote rest → Unread quote bytes (text ++ meant ∷ []) (drop len rest)
-unread-turn quote bytes text rest len meant u reads = turn_by quote bytes text rest u.letters len meant u.quotes u.spelled u.are u.means reads
-
 -- where no letter is left the text is the content
-ends_by : (quote : ℕ) (bytes text rest : List ℕ) (letters : List Letter) → is_quote quote ≡ true → rest ≡ spellings letters ++ quote ∷ [] → AreLetters quote letters (quote ∷ [])
+pub unread_end : (quote : ℕ) (bytes text rest : List ℕ) (letters : List Letter) → is_quote quote ≡ true → rest ≡ spellings letters ++ quote ∷ [] → AreLetters quote letters (quote ∷ [])
     → text ++ map meaning letters ≡ content bytes → ((len meant : ℕ) → front quote rest ≡ fronts.Letter len meant → ⊥) → text ≡ content bytes
-ends_by quote bytes text rest [] is spelled are means none = sym (append-nil text) ∙ means
-ends_by quote bytes text rest (letter ∷ letters) is spelled are means none =
+unread_end quote bytes text rest [] is spelled are means none = sym (append-nil text) ∙ means
+unread_end quote bytes text rest (letter ∷ letters) is spelled are means none =
     let more : List ℕ = spellings letters ++ quote ∷ [] in
     let joined : rest ≡ spelling letter ++ more = spelled ∙ append_assoc (spelling letter) (spellings letters) (quote ∷ []) in
     absurd (none _ _ (ap (front quote) joined ∙ letter_met quote letter more is are.0))
 
-pub unread-end : (quote : ℕ) (bytes text rest : List ℕ) → Unread quote bytes text rest → ((len meant : ℕ) → front quote rest ≡ fronts.Letter len meant → ⊥) → text ≡ content bytes
-unread-end quote bytes text rest u none = ends_by quote bytes text rest u.letters u.quotes u.spelled u.are u.means none
-
 -- a quotation has two quotes
-long_by : (quote : ℕ) (bytes text : List ℕ) → IsQuoted quote bytes text → 1 < length bytes
-long_by quote bytes text q = omega (arith, ap length q.1, length-append (spellings q.0) (quote ∷ []))
+pub quotation_long : (bytes : List ℕ) → IsQuotation bytes → 1 < length bytes
+quotation_long bytes quotation =
+    let q = quotation_quote bytes quotation in
+    omega (arith, ap (λ (l : List ℕ). length l) q.3.1, length-append (spellings q.3.0) (q.0 ∷ []))
 
-pub quotation-long : (bytes : List ℕ) → IsQuotation bytes → 1 < length bytes
-quotation-long bytes q = elim q [ inl string ↦ long_by 34 bytes string.0 string.1 | inr named ↦ long_by 39 bytes named.0 named.1 ]
-
--- ---- letters that mean themselves ----
+-- ---- letters that mean themselves
 
 -- without a backslash each letter means itself
-plain-spellings : (letters : List Letter) → list_any (λ byte. byte == 92) (spellings letters) ≡ false → spellings letters ≡ map meaning letters
-plain-spellings [] none = refl
-plain-spellings (plain byte ∷ letters) none = ap (λ bytes. byte ∷ bytes) (plain-spellings letters (or_parts (byte == 92) _ none).1)
-plain-spellings (escape byte meant ∷ letters) none = absurd (cc)
-plain-spellings (octal digits ∷ letters) none = absurd (cc)
+plain_spellings : (letters : List Letter) → list_any (λ byte. byte == 92) (spellings letters) ≡ false → spellings letters ≡ map meaning letters
+plain_spellings [] none = refl
+plain_spellings (plain byte ∷ letters) none = ap (λ bytes. byte ∷ bytes) (plain_spellings letters (or_parts (byte == 92) _ none).1)
+plain_spellings (escape byte meant ∷ letters) none = absurd (cc)
+plain_spellings (octal digits ∷ letters) none = absurd (cc)
 
-verbatim_by : (quote : ℕ) (bytes text : List ℕ) → is_quote quote ≡ true → IsQuoted quote bytes text → list_any (λ byte. byte == 92) bytes ≡ false → take (length bytes - 1 - 1) (drop 1 bytes) ≡ content bytes
-verbatim_by quote bytes text is q none =
-    let letters : List Letter = q.0 in
-    let inside : drop 1 bytes ≡ spellings letters ++ quote ∷ [] = ap (λ (b : List ℕ). drop 1 b) q.1 in
-    let many : length bytes - 1 - 1 ≡ length (spellings letters) = omega (arith, ap length q.1, length-append (spellings letters) (quote ∷ [])) in
-    let plainly : list_any (λ byte. byte == 92) (spellings letters ++ quote ∷ []) ≡ false = (or_parts (quote == 92) _ (ap (list_any (λ byte. byte == 92)) (sym q.1) ∙ none)).1 in
-    ap (take (length bytes - 1 - 1)) inside ∙ ap (λ n. take n (spellings letters ++ quote ∷ [])) many ∙ take-append_seam (spellings letters) (quote ∷ [])
-    ∙ plain-spellings letters (or_parts (list_any (λ byte. byte == 92) (spellings letters)) _ (sym (list_any-append (λ byte. byte == 92) (spellings letters) (quote ∷ [])) ∙ plainly)).0 ∙ sym q.3 ∙ sym (quoted_content quote bytes text is q)
-
-pub verbatim-content : (bytes : List ℕ) → IsQuotation bytes → list_any (λ byte. byte == 92) bytes ≡ false → take (length bytes - 1 - 1) (drop 1 bytes) ≡ content bytes
-verbatim-content bytes q none = elim q [ inl string ↦ verbatim_by 34 bytes string.0 refl string.1 none | inr named ↦ verbatim_by 39 bytes named.0 refl named.1 none ]
+pub verbatim_content : (bytes : List ℕ) → IsQuotation bytes → list_any (λ byte. byte == 92) bytes ≡ false → take (length bytes - 1 - 1) (drop 1 bytes) ≡ content bytes
+verbatim_content bytes quotation none =
+    let q = quotation_quote bytes quotation in
+    let inner : List ℕ = spellings q.3.0 in
+    let last : List ℕ = q.0 ∷ [] in
+    let inside : drop 1 bytes ≡ inner ++ last = ap (λ (b : List ℕ). drop 1 b) q.3.1 in
+    let many : length bytes - 1 - 1 ≡ length inner = omega (arith, ap (λ (l : List ℕ). length l) q.3.1, length-append inner last) in
+    let plainly : list_any (λ byte. byte == 92) (inner ++ last) ≡ false = (or_parts (q.0 == 92) _ (ap (list_any (λ byte. byte == 92)) (sym q.3.1) ∙ none)).1 in
+    let first = or_parts (list_any (λ byte. byte == 92) inner) _ (sym (list_any-append (λ byte. byte == 92) inner last) ∙ plainly) in
+    ap (take (length bytes - 1 - 1)) inside ∙ ap (λ n. take n (inner ++ last)) many ∙ take-append_seam inner last ∙ plain_spellings q.3.0 first.0 ∙ sym q.3.3 ∙ sym (quoted_content q.0 bytes q.1 q.2 q.3)
 
 -- ---- what follows from a fact of which only that it holds is known
 
-pub equal-when : {P : Type 0} (a b : List ℕ) → ∥ P ∥₁ → (P → a ≡ b) → a ≡ b
-equal-when a b had f = ∥∥₁_elim had (is_set ℕ_set a b) f
+pub equal_when : {P : Type 0} (a b : List ℕ) → ∥ P ∥₁ → (P → a ≡ b) → a ≡ b
+equal_when a b had f = ∥∥₁_elim had (is_set ℕ_set a b) f
 
-pub less-when : {P : Type 0} (a b : ℕ) → ∥ P ∥₁ → (P → a < b) → a < b
-less-when a b had f = ∥∥₁_elim had le_prop f
+pub less_when : {P : Type 0} (a b : ℕ) → ∥ P ∥₁ → (P → a < b) → a < b
+less_when a b had f = ∥∥₁_elim had le_prop f

@@ -13,7 +13,7 @@ use Rattle.ad_lexer.specs.declared.next.Step.TheVariants as steps
 use Rattle.ad_lexer.specs.declared.token.TokenKind.{TokenKind}
 use Rattle.ad_lexer.specs.declared.token.TokenKind.TheVariants.{Plain, Reserved, Quoted, Str, Int, Symbol}
 use Rattle.ad_lexer.specs.Blanks.{is_space, begins_comment, IsBlank}
-use Rattle.ad_lexer.specs.Numbers.{is_integer, number_len}
+use Rattle.ad_lexer.specs.Numbers.{is_integer}
 use Rattle.ad_lexer.specs.Quoted.{spellings, meaning, IsQuoted}
 use Rattle.ad_lexer.specs.Spelling.{Spells}
 use Rattle.ad_lexer.specs.Symbols.{is_symbol}

@@ -6,26 +6,16 @@ use Rattle.std.proofs.lemmas.List.Sums.{prefix_len-le-length}
 use Rattle.std.specs.Char.{is_ascii_digit, is_ascii_hexdigit, is_digit}
 use Rattle.std.specs.List.{list_all, prefix_len}
 use Rattle.ad_lexer.specs.Blanks.{begins_comment}
-use Rattle.ad_lexer.specs.Faults.{is_decimal, is_bad_number, is_dot_digit, behind_number, Wrong}
+use Rattle.ad_lexer.specs.Faults.{is_decimal, is_bad_number, behind_number, Wrong}
 use Rattle.ad_lexer.specs.Numbers.{is_hexadecimal, base, digits, value, is_integer, number_len}
 use Rattle.ad_lexer.specs.Words.{is_word_byte}
 use Rattle.ad_lexer.specs.declared.fault.LexKind.TheVariants as kinds
-use Rattle.ad_lexer.specs.declared.next.Step.{Step}
 use Rattle.ad_lexer.specs.declared.next.Step.TheVariants as steps
 use Rattle.ad_lexer.specs.declared.token.TokenKind.{TokenKind}
 use Rattle.ad_lexer.specs.declared.token.TokenKind.TheVariants.{Int}
 use Rattle.ad_lexer.specs.Reading.{number, is_whole, is_decimal_mark}
 use Rattle.ad_lexer.proofs.Fronts.{TokenAt, Stands, first_bytes}
 use Rattle.ad_lexer.proofs.Runs.{run_reaches, all_weaker}
-
-hexadecimal_digit : (c : ℕ) → is_digit c 16 ≡ true → is_ascii_hexdigit c ≡ true
-hexadecimal_digit c is = grind (arith, nat_tests)
-
-octal_digit : (c : ℕ) → is_digit c 8 ≡ true → is_ascii_digit c ≡ true
-octal_digit c is = grind (arith, nat_tests)
-
-decimal_digit : (c : ℕ) → is_digit c 10 ≡ true → is_ascii_digit c ≡ true
-decimal_digit c is = grind (arith, nat_tests)
 
 -- the digits of an integer
 integer_parts : (bytes : List ℕ) → is_integer bytes ≡ true → (0 < length (digits bytes)) × (list_all (λ c. is_digit c (base bytes)) (digits bytes) ≡ true)
@@ -34,8 +24,8 @@ integer_parts bytes is =
     (ltb-true 0 (length (digits bytes)) first.0, first.1)
 
 in_base : (octal : Bool) (bytes : List ℕ) → list_all (λ c. is_digit c (cond octal 8 10)) bytes ≡ true → list_all is_ascii_digit bytes ≡ true
-in_base true bytes each = all_weaker (λ c. is_digit c 8) is_ascii_digit octal_digit bytes each
-in_base false bytes each = all_weaker (λ c. is_digit c 10) is_ascii_digit decimal_digit bytes each
+in_base true bytes each = all_weaker (λ c. is_digit c 8) is_ascii_digit (λ c is. grind (arith, nat_tests)) bytes each
+in_base false bytes each = all_weaker (λ c. is_digit c 10) is_ascii_digit (λ c is. grind (arith, nat_tests)) bytes each
 
 -- an integer that isn't hexadecimal is a run of decimal digits
 pub integer_decimal : (bytes : List ℕ) → is_integer bytes ≡ true → is_hexadecimal bytes ≡ false → (0 < length bytes) × (list_all is_ascii_digit bytes ≡ true)
@@ -48,7 +38,7 @@ pub integer_hexadecimal : (bytes : List ℕ) → is_integer bytes ≡ true → i
 integer_hexadecimal bytes is hexadecimal =
     let parts : (0 < length (digits bytes)) × (list_all (λ c. is_digit c (base bytes)) (digits bytes) ≡ true) = integer_parts bytes is in
     let plain = rw hexadecimal at parts in
-    all_weaker (λ c. is_digit c 16) is_ascii_hexdigit hexadecimal_digit (drop 2 bytes) plain.1
+    all_weaker (λ c. is_digit c 16) is_ascii_hexdigit (λ c is. grind (arith, nat_tests)) (drop 2 bytes) plain.1
 
 -- an integer begins with a digit
 pub integer_begins : (bytes after : List ℕ) → is_integer bytes ≡ true → is_ascii_digit (slice_index (bytes ++ after) 0) ≡ true

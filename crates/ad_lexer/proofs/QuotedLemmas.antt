@@ -1,9 +1,5 @@
 -- The string or quoted name at the front of a text.
-use Rattle.std.proofs.Common.{◌≡◌, ℕ, zero, suc, ◌+◌, ◌-◌, ◌*◌, ◌^◌, ◌<◌, ◌≤◌, Bool, true, false, ltb, ◌&&◌, lit<, List, [], ◌∷◌, length, drop, refl, sym, ◌∙◌, ap, arith, ◌⊎◌, eqb, ◌++◌, slice_index, subst, inl, inr, length-append, append_assoc}
-use Rattle.std.proofs.lemmas.Bool.Decides.{nat_tests}
-use Rattle.std.specs.Char.{is_digit, digit_value}
-use Rattle.std.specs.List.{list_all}
-use Rattle.std.specs.Str.Parse.{digits_value_after}
+use Rattle.std.proofs.Common.{◌≡◌, ℕ, zero, suc, ◌+◌, ◌-◌, ◌<◌, ◌≤◌, true, false, List, [], ◌∷◌, length, drop, refl, sym, ◌∙◌, ap, arith, ◌⊎◌, eqb, ◌++◌, slice_index, subst, inl, inr, length-append, append_assoc}
 use Rattle.std.proofs.lemmas.Bool.{or_parts, not-true, true≢false, eq-eqb}
 use Rattle.std.proofs.lemmas.List.{drop_at}
 use Rattle.ad_lexer.specs.declared.quoted.Front.{Front}

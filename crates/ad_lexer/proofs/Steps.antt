@@ -1,6 +1,6 @@
 -- What stands at the front of a text is read, and what is read stands there.
-use Rattle.std.proofs.Common.{◌≡◌, ◌⊎◌, ℕ, zero, suc, ◌+◌, ◌<◌, true, false, eqb, ltb, ◌*◌, ◌^◌, List, [], ◌∷◌, ◌++◌, length, take, drop, slice_index, refl, sym, ◌∙◌, ap, subst, inl, inr, arith, ◌≤◌, Bool, cond, map, length-append, length-take-le, take-append-drop, append_assoc}
-use Rattle.std.proofs.lemmas.Bool.{cases_Bool, and_parts, or_cases, and_right, true≢false, eqb-true, or_left, or_right, eq-eqb}
+use Rattle.std.proofs.Common.{◌≡◌, ◌⊎◌, ℕ, zero, suc, ◌+◌, ◌<◌, true, false, eqb, ltb, ◌*◌, ◌^◌, List, [], ◌∷◌, ◌++◌, length, take, drop, slice_index, refl, sym, ◌∙◌, ap, subst, inl, inr, arith, Bool, cond, map, length-append, append_assoc}
+use Rattle.std.proofs.lemmas.Bool.{cases_Bool, and_parts, or_cases, and_right, true≢false, eqb-true, or_right, eq-eqb}
 use Rattle.std.proofs.lemmas.Bool.Decides.{nat_tests}
 use Rattle.std.specs.Char.{is_ascii_digit, is_digit, digit_value}
 use Rattle.std.proofs.lemmas.List.Sums.{prefix_len-le-length}
@@ -11,7 +11,7 @@ use Rattle.ad_lexer.specs.declared.token.TokenKind.{TokenKind}
 use Rattle.ad_lexer.specs.declared.token.TokenKind.TheVariants.{Quoted, Str, Int, Symbol, Plain, Reserved}
 use Rattle.ad_lexer.specs.Blanks.{is_space, IsBlank, begins_comment}
 use Rattle.ad_lexer.specs.Faults.{ReadsTo, BeginsNothing, HasNul, IsEmptyName, IsOpenString, HasBadEscape, is_decimal, is_dot_digit, is_bad_number, Wrong}
-use Rattle.ad_lexer.specs.Numbers.{is_integer, number_len}
+use Rattle.ad_lexer.specs.Numbers.{is_integer}
 use Rattle.ad_lexer.specs.Quoted.{plain, spellings, Letter, meaning, IsQuoted}
 use Rattle.ad_lexer.specs.Spelling.{Spells}
 use Rattle.ad_lexer.specs.Reading.{begin_of, at_begin, next, number, name, string, slash, symbol, symbol_len, symbol_of, quoted, word}
@@ -167,14 +167,9 @@ by_begin begins.Space byte bytes is isnt none = absurd (true≢false (sym (begin
 by_begin begins.Word byte bytes is isnt none = absurd (none _ [] (word_spells (byte ∷ []) (rw (begin_is byte begins.Word is) refl)))
 by_begin begins.Number byte bytes is isnt none = absurd (none Int [] (digit_integer byte (begin_is byte begins.Number is)))
 by_begin begins.Name byte bytes is isnt none =
-    let first : byte ≡ 39 = begin_is byte begins.Name is in
-    absurd (none Quoted (97 ∷ 39 ∷ []) (97 ∷ [], (plain 97 ∷ [], ap (λ (x : ℕ). x ∷ 97 ∷ 39 ∷ []) first, (refl, tt), refl), omega arith))
-by_begin begins.String byte bytes is isnt none =
-    let first : byte ≡ 34 = begin_is byte begins.String is in
-    absurd (none Str (34 ∷ []) ([], ([], ap (λ (x : ℕ). x ∷ 34 ∷ []) first, tt, refl)))
-by_begin begins.Slash byte bytes is isnt none =
-    let first : byte ≡ 47 = begin_is byte begins.Slash is in
-    absurd (none Symbol [] (rw first refl))
+    absurd (none Quoted (97 ∷ 39 ∷ []) (97 ∷ [], (plain 97 ∷ [], ap (λ (x : ℕ). x ∷ 97 ∷ 39 ∷ []) (begin_is byte begins.Name is), (refl, tt), refl), omega arith))
+by_begin begins.String byte bytes is isnt none = absurd (none Str (34 ∷ []) ([], ([], ap (λ (x : ℕ). x ∷ 34 ∷ []) (begin_is byte begins.String is), tt, refl)))
+by_begin begins.Slash byte bytes is isnt none = absurd (none Symbol [] (rw (begin_is byte begins.Slash is) refl))
 by_begin begins.Symbol byte bytes is isnt none = nothing_symbol byte bytes none
 
 pub nothing_next : (text : List ℕ) → BeginsNothing text → next text ≡ steps.Fault kinds.Character 0
@@ -258,9 +253,6 @@ name_letters bytes [] after is isnt =
     absurd (true≢false (sym (eq-eqb (slice_index bytes 0) 39 first) ∙ isnt))
 name_letters bytes (letter ∷ letters) after is isnt = omega arith
 
-name_some : (bytes : List ℕ) (n : ℕ) (at : QuotedAt 39 (39 ∷ bytes) n) → eqb (slice_index bytes 0) 39 ≡ false → 0 < length (map meaning at.letters)
-name_some bytes n at isnt = name_letters bytes at.letters at.after at.text_is isnt
-
 second_quote : (bytes : List ℕ) → eqb (slice_index bytes 0) 39 ≡ true → (more : List ℕ) × (39 ∷ bytes ≡ 39 ∷ 39 ∷ more)
 second_quote [] is = absurd (true≢false (sym is))
 second_quote (b ∷ bytes) is = (bytes, ap (λ (x : ℕ). 39 ∷ x ∷ bytes) (eqb-true b 39 is))
@@ -268,7 +260,7 @@ second_quote (b ∷ bytes) is = (bytes, ap (λ (x : ℕ). 39 ∷ x ∷ bytes) (e
 name_choice : (bytes : List ℕ) (empty : Bool) → eqb (slice_index bytes 0) 39 ≡ empty → Stands (39 ∷ bytes) (cond empty (steps.Fault kinds.Character 0) (quoted Quoted 39 1 0 bytes))
 name_choice bytes true is = inr (inr (second_quote bytes is, refl))
 name_choice bytes false is =
-    quoted_stands Quoted 39 bytes refl (λ n at. quoted_token Quoted 39 (39 ∷ bytes) n at (map meaning at.letters, spelled_quoted 39 (39 ∷ bytes) n at, name_some bytes n at is) refl)
+    quoted_stands Quoted 39 bytes refl (λ n at. quoted_token Quoted 39 (39 ∷ bytes) n at (map meaning at.letters, spelled_quoted 39 (39 ∷ bytes) n at, name_letters bytes at.letters at.after at.text_is is) refl)
 
 name_stands : (byte : ℕ) (bytes : List ℕ) → begin_of byte ≡ begins.Name → Stands (byte ∷ bytes) (name (byte ∷ bytes))
 unfolding name
@@ -278,24 +270,17 @@ name_stands byte bytes is =
 
 -- ---- symbols, and bytes that begin nothing
 
-one_symbol : (byte : ℕ) (bytes : List ℕ) → is_symbol (byte ∷ []) ≡ true → 1 ≤ symbol_len byte (slice_index bytes 0) (slice_index bytes 1)
-one_symbol byte bytes is = symbol_reaches (byte ∷ []) bytes is
-
 begins_none : (byte : ℕ) → Tells byte begins.Symbol → (is_symbol (byte ∷ []) ≡ true → ⊥) → (kind : TokenKind) (more : List ℕ) → ¬ Spells kind (byte ∷ more)
 begins_none byte tells none Plain more spells = true≢false (sym (and_parts (begins_word byte) _ spells.0).0 ∙ tells.1)
 begins_none byte tells none Reserved more spells = true≢false (sym (and_parts (begins_word byte) _ spells.0).0 ∙ tells.1)
-begins_none byte tells none Quoted more spells =
-    let first : byte ≡ 39 = ap (λ (l : List ℕ). slice_index l 0) spells.1.1 in
-    true≢false (sym (eq-eqb byte 39 first) ∙ tells.3)
-begins_none byte tells none Str more spells =
-    let first : byte ≡ 34 = ap (λ (l : List ℕ). slice_index l 0) spells.1.1 in
-    true≢false (sym (eq-eqb byte 34 first) ∙ tells.4)
+begins_none byte tells none Quoted more spells = true≢false (sym (eq-eqb byte 39 (ap (λ (l : List ℕ). slice_index l 0) spells.1.1)) ∙ tells.3)
+begins_none byte tells none Str more spells = true≢false (sym (eq-eqb byte 34 (ap (λ (l : List ℕ). slice_index l 0) spells.1.1)) ∙ tells.4)
 begins_none byte tells none Int more spells = true≢false (sym (integer_begins (byte ∷ more) [] spells) ∙ tells.2)
 begins_none byte tells none Symbol more spells = none (symbol_first byte more spells)
 
 symbol_by : (byte : ℕ) (bytes : List ℕ) (n : ℕ) → Tells byte begins.Symbol → symbol_len byte (slice_index bytes 0) (slice_index bytes 1) ≡ n → Stands (byte ∷ bytes) (symbol_of n)
 symbol_by byte bytes zero tells is =
-    inl ((byte, bytes, refl, tells.0, begins_none byte tells (λ one. absurd (omega (arith, one_symbol byte bytes one)))), refl)
+    inl ((byte, bytes, refl, tells.0, begins_none byte tells (λ one. absurd (omega (arith, symbol_reaches (byte ∷ []) bytes one)))), refl)
 symbol_by byte bytes (suc n) tells is =
     let found = symbol_found (byte ∷ bytes) (suc n) (omega arith) is (omega arith) in
     let positive : eqb (suc n) 0 ≡ false = grind (arith, nat_tests) in

@@ -3,7 +3,7 @@ use Rattle.std.proofs.Common.{◌≡◌, ℕ, zero, suc, ◌+◌, ◌<◌, true,
 use Rattle.std.proofs.lemmas.Bool.{cases_Bool, and_parts, and_from, or_parts, ltb-true, lt-ltb, not_from_false, not-true}
 use Rattle.std.proofs.lemmas.Bool.Decides.{nat_tests}
 use Rattle.std.proofs.lemmas.List.{take_at, drop_at, get_or_at}
-use Rattle.std.proofs.lemmas.Str.{IsUtf8-append, IsUtf8-nil, IsUtf8-take, IsUtf8-drop, IsUtf8-encode, encode_ascii, IsCharBoundary-before_ascii, IsCharBoundary-after_ascii}
+use Rattle.std.proofs.lemmas.Str.{IsUtf8-append, IsUtf8-nil, IsUtf8-take, IsUtf8-drop, IsCharBoundary-before_ascii}
 use Rattle.std.specs.Char.{is_ascii, is_ascii_digit, is_ascii_hexdigit}
 use Rattle.std.specs.List.{list_all}
 use Rattle.std.specs.Str.{IsAscii}
@@ -66,9 +66,6 @@ swap_ascii front byte bytes others more rest each other goes is =
 -- ---- letters
 
 -- the bytes of an escape are ASCII, and so is what it means
-octal_ascii : (c : ℕ) → is_octal_digit c ≡ true → is_ascii c ≡ true
-octal_ascii c is = grind (arith, nat_tests)
-
 escape_ascii : (byte meant : ℕ) → escaped byte ≡ Some meant → (is_ascii byte ≡ true) × (meant < 128) × (0 < meant)
 escape_ascii byte meant is = (grind (arith, nat_tests), grind (arith, nat_tests), grind (arith, nat_tests))
 
@@ -82,7 +79,7 @@ letters_mean quote front (escape b m ∷ letters) after are is =
     let low = escape_ascii b m are.0 in
     swap_ascii front 92 (b ∷ []) (m ∷ []) (spellings letters) (map meaning letters) (and_from (is_ascii b) true low.0 refl) (one_ascii m low.1) (letters_mean quote [] letters after are.1) is
 letters_mean quote front (octal ds ∷ letters) after are is =
-    let digits = all_weaker is_octal_digit is_ascii octal_ascii ds are.0.octal in
+    let digits = all_weaker is_octal_digit is_ascii (λ c low. grind (arith, nat_tests)) ds are.0.octal in
     swap_ascii front 92 ds (digits_value 8 ds ∷ []) (spellings letters) (map meaning letters) digits (one_ascii (digits_value 8 ds) are.0.below) (letters_mean quote [] letters after are.1) is
 
 -- and they are spelled so where they mean UTF-8
@@ -95,7 +92,7 @@ letters_spell quote front (escape b m ∷ letters) after are is =
     let low = escape_ascii b m are.0 in
     swap_ascii front m [] (92 ∷ b ∷ []) (map meaning letters) (spellings letters) (one_ascii m low.1) (and_from (is_ascii b) true low.0 refl) (letters_spell quote [] letters after are.1) is
 letters_spell quote front (octal ds ∷ letters) after are is =
-    let digits = all_weaker is_octal_digit is_ascii octal_ascii ds are.0.octal in
+    let digits = all_weaker is_octal_digit is_ascii (λ c low. grind (arith, nat_tests)) ds are.0.octal in
     swap_ascii front (digits_value 8 ds) [] (92 ∷ ds) (map meaning letters) (spellings letters) (one_ascii (digits_value 8 ds) are.0.below) digits (letters_spell quote [] letters after are.1) is
 
 -- no letter means byte 0
@@ -161,33 +158,24 @@ blank_rest bytes after blank_is is =
       | inr (inr block) ↦ (ends_ascii (47 ∷ 42 ∷ (block.0 ++ 42 ∷ [])) 47 bytes after (block.1 ∙ ap (λ (l : List ℕ). 47 ∷ 42 ∷ l) (sym (append_assoc block.0 (42 ∷ []) (47 ∷ [])))) (omega arith) is).1
     ]
 
-word_low : (c : ℕ) → is_word_byte c ≡ true → is_ascii c ≡ true
-word_low c is = grind (arith, nat_tests)
-
-digit_low : (c : ℕ) → is_ascii_digit c ≡ true → is_ascii c ≡ true
-digit_low c is = grind (arith, nat_tests)
-
-hexadecimal_low : (c : ℕ) → is_ascii_hexdigit c ≡ true → is_ascii c ≡ true
-hexadecimal_low c is = grind (arith, nat_tests)
-
 hexadecimal_ascii : (bytes : List ℕ) → is_hexadecimal bytes ≡ true → list_all is_ascii_hexdigit (drop 2 bytes) ≡ true → list_all is_ascii bytes ≡ true
 hexadecimal_ascii [] is each = refl
 hexadecimal_ascii (a ∷ []) is each = absurd (grind (arith, nat_tests))
 hexadecimal_ascii (a ∷ b ∷ bytes) is each =
     let first : is_ascii a ≡ true = grind (arith, nat_tests) in
     let second : is_ascii b ≡ true = grind (arith, nat_tests) in
-    and_from (is_ascii a) _ first (and_from (is_ascii b) _ second (all_weaker is_ascii_hexdigit is_ascii hexadecimal_low bytes each))
+    and_from (is_ascii a) _ first (and_from (is_ascii b) _ second (all_weaker is_ascii_hexdigit is_ascii (λ c low. grind (arith, nat_tests)) bytes each))
 
 integer_ascii : (bytes : List ℕ) → is_integer bytes ≡ true → list_all is_ascii bytes ≡ true
 integer_ascii bytes is =
     elim (cases_Bool (is_hexadecimal bytes)) [
       | inl hexadecimal ↦ hexadecimal_ascii bytes hexadecimal (integer_hexadecimal bytes is hexadecimal)
-      | inr isnt ↦ all_weaker is_ascii_digit is_ascii digit_low bytes (integer_decimal bytes is isnt).1
+      | inr isnt ↦ all_weaker is_ascii_digit is_ascii (λ c low. grind (arith, nat_tests)) bytes (integer_decimal bytes is isnt).1
     ]
 
 spelled_rest : (kind : TokenKind) (bytes after : List ℕ) → Spells kind bytes → IsUtf8 (bytes ++ after) → IsUtf8 after
-spelled_rest Plain bytes after spells is = drop_ascii bytes after (all_weaker is_word_byte is_ascii word_low bytes (word_bytes bytes spells.0)) is
-spelled_rest Reserved bytes after spells is = drop_ascii bytes after (all_weaker is_word_byte is_ascii word_low bytes (word_bytes bytes spells.0)) is
+spelled_rest Plain bytes after spells is = drop_ascii bytes after (all_weaker is_word_byte is_ascii (λ c low. grind (arith, nat_tests)) bytes (word_bytes bytes spells.0)) is
+spelled_rest Reserved bytes after spells is = drop_ascii bytes after (all_weaker is_word_byte is_ascii (λ c low. grind (arith, nat_tests)) bytes (word_bytes bytes spells.0)) is
 spelled_rest Quoted bytes after spells is = (quoted_cut 39 bytes spells.0 after refl spells.1 is).1
 spelled_rest Str bytes after spells is = (quoted_cut 34 bytes spells.0 after refl spells.1 is).1
 spelled_rest Int bytes after spells is = drop_ascii bytes after (integer_ascii bytes spells) is

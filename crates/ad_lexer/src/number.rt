@@ -1,5 +1,5 @@
 // Integers, and the numbers that are none.
-ghost use Rattle.std.specs.Prelude.{◌≡◌, ◌<◌, ◌≤◌, ◌^◌, ◌&&◌, nat_lt, length, slice_index};
+ghost use Rattle.std.specs.Prelude.{◌≡◌, ◌<◌, ◌≤◌, ◌^◌, ◌&&◌, nat_lt, length, slice_index, take, true};
 ghost use Rattle.std.specs.Char.{digit_value, is_digit};
 ghost use Rattle.std.specs.List.{list_all};
 ghost use Rattle.std.specs.Str.Parse.{digits_value};
@@ -10,6 +10,9 @@ use crate::bytes::{Class, behind, byte_at, front, is_in, run_len};
 use crate::fault::LexKind;
 use crate::next::{Begin, Step};
 use crate::token::TokenKind;
+
+/// Numbers of at most so many decimal digits are below 2^63.
+const SHORT_DIGITS: usize = 18;
 
 fn is_hexadecimal(text: &[u8]) -> bool
     ensures { result ≡ numbers.is_hexadecimal text.now }
@@ -53,10 +56,21 @@ pub fn number(text: &[u8]) -> Step
 /// Whether the first `len` bytes are an integer with no letter, digit or `_` behind it.
 #[tactic(auto, unfolding(crate::specs::Reading::is_whole))]
 fn is_whole(text: &[u8], len: usize) -> bool
-    requires { len ≤ length text.now }
+    requires some { 0 < len }
+    requires within { len ≤ length text.now }
+    requires number { len ≡ numbers.number_len text.now }
     ensures { result ≡ spec.is_whole text.now len }
 {
-    !is_in(Class::Word, byte_at(text, len)) && is_integer(front(text, len))
+    !is_in(Class::Word, byte_at(text, len)) && (is_short(text, len) || is_integer(front(text, len)))
+}
+
+/// Whether the number has decimal digits of which the first isn't 0, and so few that their value fits.
+fn is_short(text: &[u8], len: usize) -> bool
+    requires some { 0 < len }
+    requires number { len ≡ numbers.number_len text.now }
+    ensures { result ≡ true → numbers.is_integer (take len text.now) ≡ true }
+{
+    len <= SHORT_DIGITS && byte_at(text, 0) > b'0'
 }
 
 fn is_integer(number: &[u8]) -> bool

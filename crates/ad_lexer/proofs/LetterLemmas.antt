@@ -26,7 +26,7 @@ octal_unescaped c is = grind (arith, nat_tests)
 
 -- ---- a letter that stands there is read
 
-plain_met : (quote byte : ℕ) (after : List ℕ) → is_plain quote byte ≡ true → reading.front quote (byte ∷ after) ≡ fronts.Letter 1 byte
+pub plain_met : (quote byte : ℕ) (after : List ℕ) → is_plain quote byte ≡ true → reading.front quote (byte ∷ after) ≡ fronts.Letter 1 byte
 unfolding reading.front
 plain_met quote byte after is = grind (arith, nat_tests)
 

@@ -1,18 +1,22 @@
 -- The string or quoted name at the front of a text.
 use Rattle.std.proofs.Common.{◌≡◌, ℕ, zero, suc, ◌+◌, ◌-◌, ◌<◌, ◌≤◌, true, false, List, [], ◌∷◌, length, drop, refl, sym, ◌∙◌, ap, arith, ◌⊎◌, eqb, ◌++◌, slice_index, subst, inl, inr, length-append, append_assoc}
-use Rattle.std.proofs.lemmas.Bool.{or_parts, not-true, true≢false, eq-eqb}
+use Rattle.std.proofs.lemmas.Bool.Decides.{nat_tests}
+use Rattle.ad_lexer.proofs.Runs.{run_step, run_stop}
+use Rattle.std.proofs.lemmas.Bool.{cases_Bool, or_parts, not-true, true≢false, eq-eqb}
 use Rattle.std.proofs.lemmas.List.{drop_at}
 use Rattle.ad_lexer.specs.declared.quoted.Front.{Front}
 use Rattle.ad_lexer.specs.declared.token.TokenKind.{TokenKind}
 use Rattle.ad_lexer.specs.declared.next.Step.{Step}
 use Rattle.ad_lexer.specs.Faults.{ReadsTo, HasNul, IsOpenString, HasBadEscape}
-use Rattle.ad_lexer.specs.Quoted.{Letter, plain, escape, octal, spelling, spellings, meaning, IsLetter, AreLetters, IsQuoted}
+use Rattle.ad_lexer.specs.Quoted.{Letter, plain, escape, octal, spelling, spellings, meaning, is_plain, IsLetter, AreLetters, IsQuoted}
+use Rattle.std.specs.List.{prefix_len}
+use Rattle.ad_lexer.specs.declared.bytes.Class.TheVariants as class
 use Rattle.ad_lexer.specs.declared.fault.LexKind.TheVariants as kinds
 use Rattle.ad_lexer.specs.declared.next.Step.TheVariants as steps
 use Rattle.ad_lexer.specs.declared.quoted.Front.TheVariants as fronts
 use Rattle.ad_lexer.specs.Reading as reading
 use Rattle.ad_lexer.proofs.Fronts.{TokenAt, Stands}
-use Rattle.ad_lexer.proofs.LetterLemmas.{is_quote, quote_differs, letter_met, spelling_some, LetterAt, IsLineEnd, FrontReads, front_reads}
+use Rattle.ad_lexer.proofs.LetterLemmas.{is_quote, quote_differs, plain_met, letter_met, spelling_some, LetterAt, IsLineEnd, FrontReads, front_reads}
 
 -- skipping bytes is going on behind them
 quoted-skip : (kind : TokenKind) (quote at skip : ℕ) (text : List ℕ) → skip ≤ length text → reading.quoted kind quote at skip text ≡ reading.quoted kind quote (at + skip) 0 (drop skip text)
@@ -33,6 +37,22 @@ quoted_turn kind quote at (suc len) meant (byte ∷ bytes) is some fits =
     ∙ ap (λ (n : ℕ). reading.quoted kind quote (at + 1) n bytes) less
     ∙ quoted-skip kind quote (at + 1) len bytes (omega arith)
     ∙ ap (λ (n : ℕ). reading.quoted kind quote n 0 (drop len bytes)) e
+
+-- bytes that stand for themselves are gone over at once
+plain_in : (quote byte : ℕ) → is_quote quote ≡ true → reading.is_in class.Plain byte ≡ true → is_plain quote byte ≡ true
+plain_in quote byte is stands = grind (arith, nat_tests)
+
+pub plain_run : (kind : TokenKind) (quote at : ℕ) (text : List ℕ) → is_quote quote ≡ true → reading.quoted kind quote (at + prefix_len (reading.is_in class.Plain) text) 0 (drop (prefix_len (reading.is_in class.Plain) text) text) ≡ reading.quoted kind quote at 0 text
+plain_run kind quote at [] is = let e : at + 0 ≡ at = omega arith in ap (λ (n : ℕ). reading.quoted kind quote n 0 []) e
+plain_run kind quote at (byte ∷ bytes) is =
+    let p = reading.is_in class.Plain in
+    elim (cases_Bool (p byte)) [
+      | inl stands ↦
+          let e : at + suc (prefix_len p bytes) ≡ at + 1 + prefix_len p bytes = omega arith in
+          let turn = quoted_turn kind quote at 1 byte (byte ∷ bytes) (plain_met quote byte bytes (plain_in quote byte is stands)) (omega arith) (omega arith) in
+          rw (run_step p byte bytes stands) (ap (λ (n : ℕ). reading.quoted kind quote n 0 (drop (prefix_len p bytes) bytes)) e ∙ plain_run kind quote (at + 1) bytes is ∙ sym turn)
+      | inr other ↦ let e : at + 0 ≡ at = omega arith in rw (run_stop p byte bytes other) (ap (λ (n : ℕ). reading.quoted kind quote n 0 (byte ∷ bytes)) e)
+    ]
 
 -- the rest of a string goes by what stands at its front
 pub quoted_here : (kind : TokenKind) (quote at : ℕ) (text : List ℕ) → reading.quoted kind quote at 0 text ≡ reading.quoted_by kind at (reading.front quote text) (λ n. reading.quoted kind quote (at + 1) (n - 1) (drop 1 text))

@@ -16,7 +16,7 @@ use Rattle.ad_lexer.specs.declared.token.TokenKind.TheVariants.{Plain, Reserved,
 use Rattle.ad_lexer.specs.Blanks.{is_space, is_line_byte}
 use Rattle.ad_lexer.specs.Content.{octal_len, octal_value}
 use Rattle.ad_lexer.specs.Numbers.{is_hexadecimal, is_integer, number_len}
-use Rattle.ad_lexer.specs.Quoted.{escaped, is_octal_digit}
+use Rattle.ad_lexer.specs.Quoted.{escaped, is_octal_digit, is_plain}
 use Rattle.ad_lexer.specs.Symbols.{is_symbol}
 use Rattle.ad_lexer.specs.Words.{begins_word, is_word_byte, is_reserved}
 
@@ -26,6 +26,7 @@ is_in class.Word byte = is_word_byte byte
 is_in class.Decimal byte = is_ascii_digit byte
 is_in class.Hexadecimal byte = is_ascii_hexdigit byte
 is_in class.Line byte = is_line_byte byte
+is_in class.Plain byte = is_plain 34 byte && not (byte == 39)
 
 -- what the first byte of a text begins
 unfoldable pub begin_of : ℕ → Begin

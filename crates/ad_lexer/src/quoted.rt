@@ -1,8 +1,8 @@
 // Strings and quoted names.
-ghost use Rattle.std.specs.Prelude.{◌≡◌, ◌+◌, ◌<◌, ◌≤◌, ◌^◌, length, is_some};
+ghost use Rattle.std.specs.Prelude.{◌==◌, ◌||◌, true, ◌≡◌, ◌+◌, ◌<◌, ◌≤◌, ◌^◌, length, is_some};
 ghost use Rattle.ad_lexer.specs.Reading as spec;
 
-use crate::bytes::{behind, byte_at};
+use crate::bytes::{Class, behind, byte_at, run_len};
 use crate::escape::{escaped, is_octal_digit, octal_len, octal_value};
 use crate::fault::LexKind;
 use crate::next::Step;
@@ -47,12 +47,14 @@ pub fn string(text: &[u8]) -> Step
 
 /// The quoted text whose opening quote stands before these bytes, or its fault, with places from that quote.
 fn quoted(kind: TokenKind, quote: u8, text: &[u8]) -> Step
-    requires { length text.now + 1 < 2 ^ 32 }
+    requires quoted { (quote == 34 || quote == 39) ≡ true }
+    requires room { length text.now + 1 < 2 ^ 32 }
     ensures value { result ≡ spec.quoted kind quote 1 0 text.now }
     ensures within { spec.IsWithin (1 + length text.now) result }
 {
-    let mut at = 1;
-    let mut rest = text;
+    let plain = run_len(Class::Plain, text);
+    let mut at = 1 + plain;
+    let mut rest = behind(text, plain);
     loop {
         match front_of(quote, rest) {
             Front::Letter(len, _) => {

@@ -21,10 +21,10 @@ use Rattle.ad_lexer.specs.Words.{is_word, is_word_byte, is_reserved}
 use Rattle.ad_lexer.specs.Reading.{begin_of, next, symbol, symbol_len, symbol_of, slash, is_decimal_mark}
 use Rattle.ad_lexer.proofs.Begins.{begin_is}
 use Rattle.ad_lexer.proofs.ItemLemmas.{symbol_begins, string_whole, name_whole, first_same, slash_alone, same_first, token_found}
-use Rattle.ad_lexer.proofs.NextLemmas.{next_at, number_next}
-use Rattle.ad_lexer.proofs.NumberLemmas.{integer_begins, integer_decimal, integer_hexadecimal, chosen, number_chosen}
+use Rattle.ad_lexer.proofs.Steps.{next_at, number_next, next_stands}
+use Rattle.ad_lexer.proofs.NumberLemmas.{integer_begins, integer_decimal, integer_hexadecimal, number_is}
 use Rattle.ad_lexer.proofs.Runs.{run_exact}
-use Rattle.ad_lexer.proofs.Steps.{TokenAt, Stands, next_stands}
+use Rattle.ad_lexer.proofs.Fronts.{TokenAt, Stands}
 use Rattle.ad_lexer.proofs.SymbolLemmas.{symbol_passes, symbol_short, symbol_reaches, symbol_found}
 use Rattle.ad_lexer.proofs.WordLemmas.{word_bytes, word_begins, word_nonempty}
 
@@ -54,17 +54,11 @@ word_alone bytes after is ends =
 
 -- ---- integers
 
-no_hexdigit : (byte : ℕ) → is_word_byte byte ≡ false → is_ascii_hexdigit byte ≡ false
-no_hexdigit byte isnt = grind (arith, nat_tests)
-
-no_digit : (byte : ℕ) → is_word_byte byte ≡ false → is_ascii_digit byte ≡ false
-no_digit byte isnt = grind (arith, nat_tests)
-
 hexadecimal_more : (bytes after : List ℕ) → is_hexadecimal bytes ≡ true → list_all is_ascii_hexdigit (drop 2 bytes) ≡ true → is_word_byte (slice_index after 0) ≡ false → (is_hexadecimal (bytes ++ after) ≡ true) × (number_len (bytes ++ after) ≡ length bytes)
 hexadecimal_more [] after is each ends = absurd (grind (arith, nat_tests))
 hexadecimal_more (a ∷ []) after is each ends = absurd (grind (arith, nat_tests))
 hexadecimal_more (a ∷ b ∷ bytes) after is each ends =
-    let run : prefix_len is_ascii_hexdigit (bytes ++ after) ≡ length bytes = run_exact is_ascii_hexdigit bytes after each (λ some. no_hexdigit (slice_index after 0) ends) in
+    let run : prefix_len is_ascii_hexdigit (bytes ++ after) ≡ length bytes = run_exact is_ascii_hexdigit bytes after each (λ some. grind (arith, nat_tests)) in
     (is, rw is (omega arith))
 
 decimal_isnt : (bytes after : List ℕ) → 0 < length bytes → is_hexadecimal bytes ≡ false → is_word_byte (slice_index after 0) ≡ false → is_hexadecimal (bytes ++ after) ≡ false
@@ -76,11 +70,8 @@ decimal_more : (bytes after : List ℕ) → is_integer bytes ≡ true → is_hex
 decimal_more bytes after is isnt ends =
     let parts = integer_decimal bytes is isnt in
     let other = decimal_isnt bytes after parts.0 isnt ends in
-    let run : prefix_len is_ascii_digit (bytes ++ after) ≡ length bytes = run_exact is_ascii_digit bytes after parts.1 (λ some. no_digit (slice_index after 0) ends) in
+    let run : prefix_len is_ascii_digit (bytes ++ after) ≡ length bytes = run_exact is_ascii_digit bytes after parts.1 (λ some. grind (arith, nat_tests)) in
     (other, rw other run)
-
-chosen_integer : (h m b i : Bool) (len : ℕ) → b ≡ false → i ≡ true → (m && not h) ≡ false → chosen h m b i len ≡ steps.Token Int len
-chosen_integer h m b i len behind integer mark = rw (mark, behind, integer) refl
 
 -- the byte behind the first part of a text
 at_behind : (bytes after : List ℕ) → slice_index (bytes ++ after) (length bytes) ≡ slice_index after 0
@@ -100,9 +91,7 @@ number_alone bytes after is ends same len =
     let off : (is_decimal_mark (behind_number text) && not (is_hexadecimal text)) ≡ false =
     ap (λ (b : ℕ). is_decimal_mark b && not (is_hexadecimal text)) behind ∙ ap (λ (h : Bool). is_decimal_mark (slice_index after 0) && not h) same ∙ mark_off (slice_index after 0) (is_hexadecimal bytes) isnt both.1 in
     let whole : is_integer (take (number_len text) text) ≡ true = ap (λ (n : ℕ). is_integer (take n text)) len ∙ ap is_integer (take_at bytes after (length bytes) refl) ∙ is in
-    number_next text (integer_begins bytes after is) ∙ number_chosen text
-    ∙ chosen_integer (is_hexadecimal text) (is_decimal_mark (behind_number text)) (is_word_byte (behind_number text)) (is_integer (take (number_len text) text)) (number_len text) (ap is_word_byte behind ∙ isnt) whole off
-    ∙ ap (λ (n : ℕ). steps.Token Int n) len
+    number_next text (integer_begins bytes after is) ∙ number_is text ∙ rw (off, ap is_word_byte behind ∙ isnt, whole) (ap (λ (n : ℕ). steps.Token Int n) len)
 
 pub integer_alone : (bytes after : List ℕ) → is_integer bytes ≡ true → ends_integer bytes (slice_index after 0) ≡ true → next (bytes ++ after) ≡ steps.Token Int (length bytes)
 integer_alone bytes after is ends =
@@ -174,8 +163,7 @@ other_alone bytes after is stays dot =
     rw dot (symbol_token n (omega arith) ∙ ap (λ (m : ℕ). steps.Token Symbol m) len)
 
 dot_by : (dot digit : Bool) → ((dot && true) && digit) ≡ false → (dot && digit) ≡ false
-dot_by false digit is = refl
-dot_by true digit is = is
+dot_by dot digit is = grind (arith, nat_tests)
 
 no_dot : (bytes after : List ℕ) → is_symbol bytes ≡ true → (bytes_eq bytes (46 ∷ []) && is_ascii_digit (slice_index after 0)) ≡ false → is_dot_digit (bytes ++ after) ≡ false
 no_dot [] after is ends = absurd (true≢false (sym is))

@@ -1,5 +1,5 @@
 -- What the first byte of a text tells of it.
-use Rattle.std.proofs.Common.{◌≡◌, ℕ, ◌+◌, ◌<◌, Bool, true, false, eqb, cond, List, [], ◌∷◌, length, slice_index, refl, subst, arith}
+use Rattle.std.proofs.Common.{◌≡◌, ℕ, ◌+◌, ◌<◌, Bool, true, false, eqb, cond, List, [], ◌∷◌, length, slice_index, refl, arith}
 use Rattle.std.proofs.lemmas.Bool.Decides.{nat_tests}
 use Rattle.std.specs.Char.{is_ascii_digit}
 use Rattle.std.specs.List.{prefix_len}
@@ -20,23 +20,16 @@ Tells byte begins.String = byte ≡ 34
 Tells byte begins.Slash = byte ≡ 47
 Tells byte begins.Symbol = (is_space byte ≡ false) × (begins_word byte ≡ false) × (is_ascii_digit byte ≡ false) × (eqb byte 39 ≡ false) × (eqb byte 34 ≡ false) × (eqb byte 47 ≡ false)
 
-tells : (byte : ℕ) (space word digit name string slash : Bool) → is_space byte ≡ space → begins_word byte ≡ word → is_ascii_digit byte ≡ digit → eqb byte 39 ≡ name → eqb byte 34 ≡ string → eqb byte 47 ≡ slash
-    → Tells byte (cond space begins.Space (cond word begins.Word (cond digit begins.Number (cond name begins.Name (cond string begins.String (cond slash begins.Slash begins.Symbol))))))
-tells byte true word digit name string slash a b c d e f = a
-tells byte false true digit name string slash a b c d e f = b
-tells byte false false true name string slash a b c d e f = c
-tells byte false false false true string slash a b c d e f = grind (arith, nat_tests)
-tells byte false false false false true slash a b c d e f = grind (arith, nat_tests)
-tells byte false false false false false true a b c d e f = grind (arith, nat_tests)
-tells byte false false false false false false a b c d e f = (a, b, c, d, e, f)
-
-pub begin_tells : (byte : ℕ) → Tells byte (begin_of byte)
-unfolding begin_of
-begin_tells byte = tells byte (is_space byte) (begins_word byte) (is_ascii_digit byte) (eqb byte 39) (eqb byte 34) (eqb byte 47) refl refl refl refl refl refl
-
 -- the same where the begin is known
 pub begin_is : (byte : ℕ) (begin : Begin) → begin_of byte ≡ begin → Tells byte begin
-begin_is byte begin is = subst (λ b. Tells byte b) is (begin_tells byte)
+unfolding begin_of
+begin_is byte begins.Space is = grind (arith, nat_tests)
+begin_is byte begins.Word is = grind (arith, nat_tests)
+begin_is byte begins.Number is = grind (arith, nat_tests)
+begin_is byte begins.Name is = grind (arith, nat_tests)
+begin_is byte begins.String is = grind (arith, nat_tests)
+begin_is byte begins.Slash is = grind (arith, nat_tests)
+begin_is byte begins.Symbol is = grind (arith, nat_tests)
 
 pub begin_word : (byte : ℕ) → begins_word byte ≡ true → begin_of byte ≡ begins.Word
 unfolding begin_of

@@ -3,13 +3,15 @@ use Rattle.std.proofs.Common.{◌≡◌, ℕ, suc, ◌+◌, Bool, true, false, c
 use Rattle.std.proofs.lemmas.Bool.{cases_Bool, and_parts, and_right, or_parts, or_from, not-false, eqb-true}
 use Rattle.std.proofs.lemmas.List.Sums.{prefix_len-le-length}
 use Rattle.std.specs.List.{prefix_len}
-use Rattle.ad_lexer.specs.Blanks.{is_line_byte, begins_comment, has_close, IsLineComment, IsBlockComment, IsBlank}
+use Rattle.ad_lexer.specs.Blanks.{is_line_byte, begins_comment, has_close, IsLineComment, IsBlockComment}
 use Rattle.ad_lexer.specs.Faults.{IsOpenComment}
 use Rattle.ad_lexer.specs.declared.fault.LexKind.TheVariants as kinds
 use Rattle.ad_lexer.specs.declared.next.Step.{Step}
 use Rattle.ad_lexer.specs.declared.next.Step.TheVariants as steps
 use Rattle.ad_lexer.specs.declared.token.TokenKind.TheVariants.{Symbol}
 use Rattle.ad_lexer.specs.Reading.{comment_len, comment_of, slash}
+use Rattle.ad_lexer.specs.Symbols.{is_symbol}
+use Rattle.ad_lexer.proofs.Fronts.{BlankAt, TokenAt, Stands, first_bytes}
 use Rattle.ad_lexer.proofs.Runs.{run_passes, run_ends, run_exact}
 
 abbrev closes : ℕ → List ℕ → Bool
@@ -114,21 +116,6 @@ open_met text is = subst (λ (t : List ℕ). slash t ≡ steps.Fault kinds.Comme
 
 -- ---- what is read is there
 
--- a blank of some length stands at the front of a text
-pub record BlankAt (text : List ℕ) (n : ℕ) : Type 0 where
-  pub bytes : List ℕ
-  pub after : List ℕ
-  pub text_is : text ≡ bytes ++ after
-  pub is_blank : IsBlank bytes after
-  pub length_is : length bytes ≡ n
-
-abbrev pub SlashReads : List ℕ → Step → Type 0
-SlashReads text (steps.Blank n) = BlankAt text n
-SlashReads text (steps.Token kind n) = (kind ≡ Symbol) × (n ≡ 1) × (begins_comment text ≡ false)
-SlashReads text (steps.Fault kinds.CommentEnd place) = IsOpenComment text × (place ≡ 0)
-SlashReads text (steps.Fault other place) = ⊥
-SlashReads text steps.End = ⊥
-
 line_reads : (text : List ℕ) → BlankAt (47 ∷ 47 ∷ text) (2 + prefix_len is_line_byte text)
 line_reads text =
     let n = prefix_len is_line_byte text in
@@ -140,7 +127,7 @@ line_reads text =
       length_is = let fits = length-take-le n text (prefix_len-le-length is_line_byte text) in omega arith;
     }
 
-block_reads : (text : List ℕ) (found : Option ℕ) → comment_len 0 text ≡ found → SlashReads (47 ∷ 42 ∷ text) (comment_of found)
+block_reads : (text : List ℕ) (found : Option ℕ) → comment_len 0 text ≡ found → Stands (47 ∷ 42 ∷ text) (comment_of found)
 block_reads text None is = ((text, refl, comment_never 0 text is), refl)
 block_reads text (Some n) is =
     let closed = comment_closed 0 text n is in
@@ -152,20 +139,19 @@ block_reads text (Some n) is =
       length_is = omega (arith, closed.end_is, length-append closed.inner (42 ∷ 47 ∷ []));
     }
 
-by_second : (a b : ℕ) (text : List ℕ) (line block : Bool) → a ≡ 47 → eqb b 47 ≡ line → eqb b 42 ≡ block
-    → SlashReads (a ∷ b ∷ text) (cond line (steps.Blank (2 + prefix_len is_line_byte text)) (cond block (comment_of (comment_len 0 text)) (steps.Token Symbol 1)))
-by_second a b text true block first is star =
-    let second : b ≡ 47 = eqb-true b 47 is in
-    let n : ℕ = 2 + prefix_len is_line_byte text in
-    subst (λ (x : ℕ). BlankAt (x ∷ b ∷ text) n) (sym first) (subst (λ (y : ℕ). BlankAt (47 ∷ y ∷ text) n) (sym second) (line_reads text))
-by_second a b text false true first is star =
-    let second : b ≡ 42 = eqb-true b 42 star in
-    let step : Step = comment_of (comment_len 0 text) in
-    subst (λ (x : ℕ). SlashReads (x ∷ b ∷ text) step) (sym first) (subst (λ (y : ℕ). SlashReads (47 ∷ y ∷ text) step) (sym second) (block_reads text (comment_len 0 text) refl))
-by_second a b text false false first is star = (refl, refl, and_right (eqb a 47) _ (or_from (eqb b 47) (eqb b 42) is star))
+slash_alone : (a : ℕ) (text : List ℕ) → a ≡ 47 → begins_comment (a ∷ text) ≡ false → TokenAt Symbol (a ∷ text) 1
+slash_alone a text first no_comment = let one : is_symbol (a ∷ []) ≡ true = rw first refl in first_bytes Symbol (a ∷ text) 1 (omega arith) one no_comment
 
-pub slash_reads : (text : List ℕ) → slice_index text 0 ≡ 47 → SlashReads text (slash text)
+by_second : (a b : ℕ) (text : List ℕ) (line block : Bool) → a ≡ 47 → eqb b 47 ≡ line → eqb b 42 ≡ block
+    → Stands (a ∷ b ∷ text) (cond line (steps.Blank (2 + prefix_len is_line_byte text)) (cond block (comment_of (comment_len 0 text)) (steps.Token Symbol 1)))
+by_second a b text true block first is star = rw (first, eqb-true b 47 is) (line_reads text)
+by_second a b text false true first is star =
+    let step : Step = comment_of (comment_len 0 text) in
+    subst (λ (x : ℕ). Stands (x ∷ b ∷ text) step) (sym first) (subst (λ (y : ℕ). Stands (47 ∷ y ∷ text) step) (sym (eqb-true b 42 star)) (block_reads text (comment_len 0 text) refl))
+by_second a b text false false first is star = slash_alone a (b ∷ text) first (and_right (eqb a 47) _ (or_from (eqb b 47) (eqb b 42) is star))
+
+pub slash_stands : (text : List ℕ) → slice_index text 0 ≡ 47 → Stands text (slash text)
 unfolding slash
-slash_reads [] is = absurd (omega arith)
-slash_reads (a ∷ []) is = (refl, refl, and_right (eqb a 47) false refl)
-slash_reads (a ∷ b ∷ text) is = by_second a b text (eqb b 47) (eqb b 42) is refl refl
+slash_stands [] is = absurd (omega arith)
+slash_stands (a ∷ []) is = slash_alone a [] is (and_right (eqb a 47) false refl)
+slash_stands (a ∷ b ∷ text) is = by_second a b text (eqb b 47) (eqb b 42) is refl refl

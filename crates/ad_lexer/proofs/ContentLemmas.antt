@@ -1,14 +1,21 @@
 -- What a string or a quoted name means, letter by letter.
-use Rattle.std.proofs.Common.{◌≡◌, ℕ, zero, suc, ◌-◌, ◌<◌, Bool, true, false, cond, eqb, List, [], ◌∷◌, ◌++◌, length, map, drop, slice_index, is_some, refl, sym, ◌∙◌, ap, arith, length-append, append_assoc}
-use Rattle.std.proofs.lemmas.Bool.{and_parts, or_parts, not-true, eq-eqb}
+use Rattle.std.proofs.Common.{◌≡◌, ℕ, zero, suc, ◌-◌, ◌<◌, Bool, true, false, cond, eqb, List, [], ◌∷◌, ◌++◌, length, map, drop, slice_index, is_some, refl, sym, ◌∙◌, ap, arith, length-append, append_assoc, inl, inr, take, ◌==◌, subst}
+use Rattle.std.proofs.lemmas.Bool.{or_parts, not-true, eq-eqb}
 use Rattle.std.proofs.lemmas.Bool.Decides.{nat_tests}
-use Rattle.std.proofs.lemmas.List.{drop_at}
-use Rattle.std.specs.Str.Parse.{digits_value}
+use Rattle.std.proofs.lemmas.List.{drop_at, append-nil}
+use Rattle.std.specs.List.{list_any}
+use Rattle.std.proofs.Math.Seq.{take-append_seam}
+use Rattle.std.proofs.lemmas.List.Folds.{list_any-append}
+use Rattle.std.proofs.Math.Logic.{∥∥₁_elim}
+use Rattle.std.proofs.Math.Bridge.{le_prop}
+use Rattle.std.proofs.Math.Nat.{ℕ_set}
 use Rattle.ad_lexer.specs.Content.{octal_value, octal_len, or_octal, meaning_at, letter_len, content_from, content}
-use Rattle.ad_lexer.specs.Quoted.{Letter, plain, escape, octal, spelling, spellings, meaning, is_plain, escaped, is_octal_digit, IsOctal, IsLetter, AreLetters, IsQuoted}
-use Rattle.ad_lexer.proofs.LetterLemmas as letters
-use Rattle.ad_lexer.proofs.LetterLemmas.{is_quote, spelling_some}
-use Rattle.ad_lexer.proofs.QuotedLemmas.{letter_first}
+use Rattle.ad_lexer.specs.Quoted.{Letter, plain, escape, octal, spelling, spellings, meaning, is_plain, escaped, IsLetter, AreLetters, IsQuoted, IsQuotation}
+use Rattle.ad_lexer.specs.Reading.{front}
+use Rattle.ad_lexer.specs.declared.quoted.Front.TheVariants as fronts
+use Rattle.ad_lexer.proofs.LetterLemmas.{is_quote, spelling_some, octal_unescaped, digits_told, octal_digits, letter_met}
+use Rattle.ad_lexer.proofs.QuotedLemmas.{letter_first, front_close}
+use mathlib.Core.List.{is_set}
 
 -- skipping bytes is going on behind them
 content-skip : (quote skip : ℕ) (text : List ℕ) → content_from quote skip text ≡ content_from quote 0 (drop skip text)
@@ -44,55 +51,21 @@ content_stop quote bytes = rw (eq-eqb quote quote refl) refl
 plain_isnt : (quote byte : ℕ) → is_plain quote byte ≡ true → eqb byte 92 ≡ false
 plain_isnt quote byte is = (or_parts (eqb byte quote) (eqb byte 92) (or_parts _ (eqb byte 10) (or_parts _ (eqb byte 0) (not-true _ is)).0).0).1
 
-digits_meaning : (digits after : List ℕ) → IsOctal digits after → or_octal (escaped (slice_index (digits ++ after) 0)) (octal_value (slice_index (digits ++ after) 0) (slice_index (digits ++ after) 1) (slice_index (digits ++ after) 2)) ≡ digits_value 8 digits
-digits_meaning [] after is = absurd (omega (arith, is.some))
-digits_meaning (a ∷ []) after is =
-    let first = (and_parts (is_octal_digit a) true is.octal).0 in
-    let one = letters.octal_value a first in
-    rw (letters.octal_unescaped a first, is.whole (omega arith)) (omega arith)
-digits_meaning (a ∷ b ∷ []) after is =
-    let both = and_parts (is_octal_digit a) _ is.octal in
-    let second = (and_parts (is_octal_digit b) true both.1).0 in
-    let one = letters.octal_value a both.0 in
-    let two = letters.octal_value b second in
-    rw (letters.octal_unescaped a both.0, second, is.whole (omega arith)) (omega arith)
-digits_meaning (a ∷ b ∷ c ∷ []) after is =
-    let both = and_parts (is_octal_digit a) _ is.octal in
-    let more = and_parts (is_octal_digit b) _ both.1 in
-    let third = (and_parts (is_octal_digit c) true more.1).0 in
-    let one = letters.octal_value a both.0 in
-    let two = letters.octal_value b more.0 in
-    let three = letters.octal_value c third in
-    rw (letters.octal_unescaped a both.0, more.0, third) (omega arith)
-digits_meaning (a ∷ b ∷ c ∷ d ∷ more) after is = absurd (omega (arith, is.most))
-
-digits_length : (digits after : List ℕ) → IsOctal digits after → cond (is_some (escaped (slice_index (digits ++ after) 0))) 2 (octal_len (slice_index (digits ++ after) 1) (slice_index (digits ++ after) 2)) ≡ suc (length digits)
-digits_length [] after is = absurd (omega (arith, is.some))
-digits_length (a ∷ []) after is =
-    let first = (and_parts (is_octal_digit a) true is.octal).0 in
-    rw (letters.octal_unescaped a first, is.whole (omega arith)) refl
-digits_length (a ∷ b ∷ []) after is =
-    let both = and_parts (is_octal_digit a) _ is.octal in
-    let second = (and_parts (is_octal_digit b) true both.1).0 in
-    rw (letters.octal_unescaped a both.0, second, is.whole (omega arith)) refl
-digits_length (a ∷ b ∷ c ∷ []) after is =
-    let both = and_parts (is_octal_digit a) _ is.octal in
-    let more = and_parts (is_octal_digit b) _ both.1 in
-    let third = (and_parts (is_octal_digit c) true more.1).0 in
-    rw (letters.octal_unescaped a both.0, more.0, third) refl
-digits_length (a ∷ b ∷ c ∷ d ∷ more) after is = absurd (omega (arith, is.most))
-
 pub letter_meaning : (quote : ℕ) (letter : Letter) (after : List ℕ) → IsLetter quote letter after → meaning_at (spelling letter ++ after) ≡ meaning letter
 unfolding meaning_at
 letter_meaning quote (plain byte) after is = rw (plain_isnt quote byte is) refl
 letter_meaning quote (escape byte meant) after is = ap (λ o. or_octal o (octal_value byte (slice_index after 0) (slice_index after 1))) is
-letter_meaning quote (octal digits) after is = digits_meaning digits after is
+letter_meaning quote (octal digits) after is =
+    let told = digits_told digits after (octal_digits digits after is) in
+    rw (octal_unescaped _ told.first) told.value
 
 pub letter_length : (quote : ℕ) (letter : Letter) (after : List ℕ) → IsLetter quote letter after → letter_len (spelling letter ++ after) ≡ length (spelling letter)
 unfolding letter_len
 letter_length quote (plain byte) after is = rw (plain_isnt quote byte is) refl
 letter_length quote (escape byte meant) after is = ap (λ o. cond (is_some o) 2 (octal_len (slice_index after 0) (slice_index after 1))) is
-letter_length quote (octal digits) after is = digits_length digits after is
+letter_length quote (octal digits) after is =
+    let told = digits_told digits after (octal_digits digits after is) in
+    rw (octal_unescaped _ told.first) told.len
 
 -- ---- letters mean their content
 
@@ -118,3 +91,89 @@ letters_content quote (letter ∷ letters) after is are =
 -- what quoted bytes mean is their content
 pub quoted_content : (quote : ℕ) (bytes text : List ℕ) → is_quote quote ≡ true → IsQuoted quote bytes text → content bytes ≡ text
 quoted_content quote bytes text is quoted = ap content quoted.1 ∙ letters_content quote quoted.0 [] is quoted.2 ∙ sym quoted.3
+
+-- ---- the loop that reads the letters between quotes
+
+-- the text so far and the letters that are left make up the content
+pub record Unread (quote : ℕ) (bytes text rest : List ℕ) : Type 0 where
+  pub quotes : is_quote quote ≡ true
+  pub letters : List Letter
+  pub spelled : rest ≡ spellings letters ++ quote ∷ []
+  pub are : AreLetters quote letters (quote ∷ [])
+  pub means : text ++ map meaning letters ≡ content bytes
+
+-- a quotation stands between two equal quotes
+pub quotation_quote : (bytes : List ℕ) → IsQuotation bytes → (quote : ℕ) × (text : List ℕ) × (is_quote quote ≡ true) × IsQuoted quote bytes text
+quotation_quote bytes q = elim q [ inl string ↦ (34, string.0, refl, string.1) | inr named ↦ (39, named.0, refl, named.1) ]
+
+pub unread_first : (bytes : List ℕ) → IsQuotation bytes → Unread (slice_index bytes 0) bytes [] (drop 1 bytes)
+unread_first bytes quotation =
+    let q = quotation_quote bytes quotation in
+    subst (λ n. Unread n bytes [] (drop 1 bytes)) (sym (ap (λ (b : List ℕ). slice_index b 0) q.3.1)) (record {
+      quotes = q.2;
+      letters = q.3.0;
+      spelled = ap (λ (b : List ℕ). drop 1 b) q.3.1;
+      are = q.3.2;
+      means = sym q.3.3 ∙ sym (quoted_content q.0 bytes q.1 q.2 q.3);
+    })
+
+-- a letter is read
+pub unread_turn : (quote : ℕ) (bytes text rest : List ℕ) (letters : List Letter) (len meant : ℕ) → is_quote quote ≡ true → rest ≡ spellings letters ++ quote ∷ [] → AreLetters quote letters (quote ∷ [])
+    → text ++ map meaning letters ≡ content bytes → fronts.Letter len meant ≡ front quote rest → Unread quote bytes (text ++ meant ∷ []) (drop len rest)
+unread_turn quote bytes text rest [] len meant is spelled are means reads = absurd (cc (reads ∙ ap (front quote) spelled ∙ front_close quote []))
+unread_turn quote bytes text rest (letter ∷ letters) len meant is spelled are means reads =
+    let more : List ℕ = spellings letters ++ quote ∷ [] in
+    let joined : rest ≡ spelling letter ++ more = spelled ∙ append_assoc (spelling letter) (spellings letters) (quote ∷ []) in
+    let same : fronts.Letter len meant ≡ fronts.Letter (length (spelling letter)) (meaning letter) = reads ∙ ap (front quote) joined ∙ letter_met quote letter more is are.0 in
+    let long : length (spelling letter) ≡ len = cc in
+    let meaning_is : meant ≡ meaning letter = cc in
+    record {
+      quotes = is;
+      letters = letters;
+      spelled = ap (λ (r : List ℕ). drop len r) joined ∙ drop_at (spelling letter) more len long;
+      are = are.1;
+      means = ap (λ (b : ℕ). (text ++ b ∷ []) ++ map meaning letters) meaning_is ∙ append_assoc text (meaning letter ∷ []) (map meaning letters) ∙ means;
+    }
+
+-- where no letter is left the text is the content
+pub unread_end : (quote : ℕ) (bytes text rest : List ℕ) (letters : List Letter) → is_quote quote ≡ true → rest ≡ spellings letters ++ quote ∷ [] → AreLetters quote letters (quote ∷ [])
+    → text ++ map meaning letters ≡ content bytes → ((len meant : ℕ) → front quote rest ≡ fronts.Letter len meant → ⊥) → text ≡ content bytes
+unread_end quote bytes text rest [] is spelled are means none = sym (append-nil text) ∙ means
+unread_end quote bytes text rest (letter ∷ letters) is spelled are means none =
+    let more : List ℕ = spellings letters ++ quote ∷ [] in
+    let joined : rest ≡ spelling letter ++ more = spelled ∙ append_assoc (spelling letter) (spellings letters) (quote ∷ []) in
+    absurd (none _ _ (ap (front quote) joined ∙ letter_met quote letter more is are.0))
+
+-- a quotation has two quotes
+pub quotation_long : (bytes : List ℕ) → IsQuotation bytes → 1 < length bytes
+quotation_long bytes quotation =
+    let q = quotation_quote bytes quotation in
+    omega (arith, ap (λ (l : List ℕ). length l) q.3.1, length-append (spellings q.3.0) (q.0 ∷ []))
+
+-- ---- letters that mean themselves
+
+-- without a backslash each letter means itself
+plain_spellings : (letters : List Letter) → list_any (λ byte. byte == 92) (spellings letters) ≡ false → spellings letters ≡ map meaning letters
+plain_spellings [] none = refl
+plain_spellings (plain byte ∷ letters) none = ap (λ bytes. byte ∷ bytes) (plain_spellings letters (or_parts (byte == 92) _ none).1)
+plain_spellings (escape byte meant ∷ letters) none = absurd (cc)
+plain_spellings (octal digits ∷ letters) none = absurd (cc)
+
+pub verbatim_content : (bytes : List ℕ) → IsQuotation bytes → list_any (λ byte. byte == 92) bytes ≡ false → take (length bytes - 1 - 1) (drop 1 bytes) ≡ content bytes
+verbatim_content bytes quotation none =
+    let q = quotation_quote bytes quotation in
+    let inner : List ℕ = spellings q.3.0 in
+    let last : List ℕ = q.0 ∷ [] in
+    let inside : drop 1 bytes ≡ inner ++ last = ap (λ (b : List ℕ). drop 1 b) q.3.1 in
+    let many : length bytes - 1 - 1 ≡ length inner = omega (arith, ap (λ (l : List ℕ). length l) q.3.1, length-append inner last) in
+    let plainly : list_any (λ byte. byte == 92) (inner ++ last) ≡ false = (or_parts (q.0 == 92) _ (ap (list_any (λ byte. byte == 92)) (sym q.3.1) ∙ none)).1 in
+    let first = or_parts (list_any (λ byte. byte == 92) inner) _ (sym (list_any-append (λ byte. byte == 92) inner last) ∙ plainly) in
+    ap (take (length bytes - 1 - 1)) inside ∙ ap (λ n. take n (inner ++ last)) many ∙ take-append_seam inner last ∙ plain_spellings q.3.0 first.0 ∙ sym q.3.3 ∙ sym (quoted_content q.0 bytes q.1 q.2 q.3)
+
+-- ---- what follows from a fact of which only that it holds is known
+
+pub equal_when : {P : Type 0} (a b : List ℕ) → ∥ P ∥₁ → (P → a ≡ b) → a ≡ b
+equal_when a b had f = ∥∥₁_elim had (is_set ℕ_set a b) f
+
+pub less_when : {P : Type 0} (a b : ℕ) → ∥ P ∥₁ → (P → a < b) → a < b
+less_when a b had f = ∥∥₁_elim had le_prop f

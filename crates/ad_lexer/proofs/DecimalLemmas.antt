@@ -1,12 +1,16 @@
 -- The decimal text of a number below 2^63 spells it.
-use Rattle.std.proofs.Common.{◌≡◌, ℕ, zero, suc, decimal, ◌^◌, ◌<◌, true, false, eqb, ltb, List, [], ◌∷◌, length, slice_index, refl, arith}
-use Rattle.std.proofs.lemmas.Bool.{and_from, lt-ltb}
+use Rattle.std.proofs.Common.{◌≡◌, ℕ, zero, suc, decimal, ◌^◌, ◌<◌, ◌≤◌, true, false, eqb, ltb, List, [], ◌∷◌, length, take, slice_index, refl, sym, subst, arith, length-take-le, get_or-take}
+use Rattle.std.proofs.Math.Nat.{pow-le-pow_right}
+use Rattle.std.proofs.lemmas.Bool.{and_from, and_parts, lt-ltb}
 use Rattle.std.proofs.lemmas.Bool.Decides.{nat_tests}
 use Rattle.std.proofs.lemmas.Fmt.{decimal_is_IsNumeral, decimal_digit, first_decimal}
-use Rattle.std.specs.Char.{is_digit}
-use Rattle.std.specs.List.{list_all}
+use Rattle.std.proofs.lemmas.Int.Digits.{digits_value-lt}
+use Rattle.std.proofs.lemmas.List.Sums.{prefix_len-le-length}
+use Rattle.std.specs.Char.{is_ascii_digit, is_digit, digit_value}
+use Rattle.std.specs.List.{list_all, prefix_len}
 use Rattle.std.specs.Str.Parse.{AllDigits, digits_value}
-use Rattle.ad_lexer.specs.Numbers.{is_integer, value}
+use Rattle.ad_lexer.specs.Numbers.{is_hexadecimal, is_integer, number_len, value}
+use Rattle.ad_lexer.proofs.Runs.{run_passes}
 
 digits_pass : (ds : List ℕ) → AllDigits 10 ds → list_all (λ c. is_digit c 10) ds ≡ true
 digits_pass [] each = refl
@@ -19,6 +23,26 @@ decimal_by ds n first numeral is fits =
     let some : ltb 0 (length ds) ≡ true = lt-ltb 0 (length ds) numeral.0 in
     let small : ltb (digits_value 10 ds) (2 ^ 63) ≡ true = grind (arith, nat_tests) in
     rw other (and_from _ _ (and_from _ _ some (digits_pass ds numeral.1)) small, is)
+
+digit_below : (c : ℕ) → is_ascii_digit c ≡ true → digit_value c < 10
+digit_below c is = grind (arith, nat_tests)
+
+all_digits : (ds : List ℕ) → list_all is_ascii_digit ds ≡ true → AllDigits 10 ds
+all_digits [] each = tt
+all_digits (c ∷ ds) each = let both = and_parts (is_ascii_digit c) _ each in (digit_below c both.0, all_digits ds both.1)
+
+-- a number of at most 18 decimal digits, of which the first isn't 0, is an integer
+pub short_integer : (text : List ℕ) (len : ℕ) → len ≡ number_len text → 0 < len → len ≤ 18 → 48 < slice_index text 0 → is_integer (take len text) ≡ true
+short_integer text len number some short first =
+    let isnt : is_hexadecimal text ≡ false = grind (arith, nat_tests) in
+    let run : len ≡ prefix_len is_ascii_digit text = rw isnt at number in
+    let ds : List ℕ = take len text in
+    let each : AllDigits 10 ds = all_digits ds (subst (λ n. list_all is_ascii_digit (take n text) ≡ true) (sym run) (run_passes is_ascii_digit text)) in
+    let long : length ds ≡ len = length-take-le len text (omega (arith, prefix_len-le-length is_ascii_digit text)) in
+    let begins : slice_index ds 0 ≡ slice_index text 0 = get_or-take len text 0 0 some in
+    let most : 10 ^ length ds ≤ 10 ^ 18 = pow-le-pow_right {n = 10} (omega arith) {i = length ds} {j = 18} (omega arith) in
+    let fits : digits_value 10 ds < 2 ^ 63 = omega (arith, digits_value-lt 10 ds each, most) in
+    (decimal_by ds (digits_value 10 ds) (omega arith) (omega arith, each) refl fits).0
 
 pub decimal_integer : (n : ℕ) → n < 2 ^ 63 → (is_integer (decimal n) ≡ true) × (value (decimal n) ≡ n)
 decimal_integer zero fits = rw (decimal_digit 0 (omega arith)) (refl, refl)

@@ -13,7 +13,7 @@ use Rattle.ad_lexer.specs.declared.next.Step.TheVariants as steps
 use Rattle.ad_lexer.specs.declared.token.TokenKind.{TokenKind}
 use Rattle.ad_lexer.specs.declared.token.TokenKind.TheVariants.{Plain, Reserved, Quoted, Str, Int, Symbol}
 use Rattle.ad_lexer.specs.Blanks.{is_space, begins_comment, IsBlank}
-use Rattle.ad_lexer.specs.Numbers.{is_integer, number_len}
+use Rattle.ad_lexer.specs.Numbers.{is_integer}
 use Rattle.ad_lexer.specs.Quoted.{spellings, meaning, IsQuoted}
 use Rattle.ad_lexer.specs.Spelling.{Spells}
 use Rattle.ad_lexer.specs.Symbols.{is_symbol}
@@ -22,12 +22,11 @@ use Rattle.ad_lexer.specs.Words.{begins_word, is_word, is_word_byte, is_reserved
 use Rattle.ad_lexer.specs.Reading as reading
 use Rattle.ad_lexer.specs.Reading.{begin_of, at_begin, next, word, number, symbol, symbol_len, symbol_of, slash}
 use Rattle.ad_lexer.proofs.Begins.{begin_is, begin_number}
-use Rattle.ad_lexer.proofs.BlankLemmas.{BlankAt, SlashReads, slash_reads}
-use Rattle.ad_lexer.proofs.NextLemmas.{next_at, begin_39, begin_34, name_next, string_next, begin_space, number_next, wrong_next, blank_next}
-use Rattle.ad_lexer.proofs.NumberLemmas.{NumberReads, number_reads, integer_begins, integer_nonempty, integer_reaches}
+use Rattle.ad_lexer.proofs.Fronts.{BlankAt, TokenAt, Stands}
+use Rattle.ad_lexer.proofs.Steps.{next_at, begin_39, begin_34, name_next, string_next, begin_space, number_next, wrong_next, blank_next, next_stands}
+use Rattle.ad_lexer.proofs.NumberLemmas.{number_read, integer_begins, integer_nonempty, integer_reaches}
 use Rattle.ad_lexer.proofs.QuotedLemmas.{letters_first, quoted_met, same_letters}
 use Rattle.ad_lexer.proofs.Runs.{run_reaches}
-use Rattle.ad_lexer.proofs.Steps.{TokenAt, Stands, next_stands}
 use Rattle.ad_lexer.proofs.SymbolLemmas.{symbol_passes, is_other, symbol_other, symbol_short, symbol_reaches}
 use Rattle.ad_lexer.proofs.WordLemmas.{word_bytes, word_begins, word_nonempty}
 
@@ -119,14 +118,10 @@ word_reaches bytes after read n is reads =
     let len : prefix_len is_word_byte (bytes ++ after) ≡ n = ap len_of (sym here ∙ reads) in
     omega (arith, run_reaches is_word_byte bytes after (word_bytes bytes is))
 
-number_by : (text : List ℕ) (read : TokenKind) (n : ℕ) → NumberReads text (steps.Token read n) → n ≡ number_len text
-number_by text read n reads = reads.1
-
 number_reaches : (bytes after : List ℕ) (read : TokenKind) (n : ℕ) → is_integer bytes ≡ true → next (bytes ++ after) ≡ steps.Token read n → length bytes ≤ n
 number_reaches bytes after read n is reads =
     let digit = integer_begins bytes after is in
-    let here = number_next (bytes ++ after) digit in
-    let len = number_by (bytes ++ after) read n (subst (λ s. NumberReads (bytes ++ after) s) (sym here ∙ reads) (number_reads (bytes ++ after) digit)) in
+    let len = number_read (bytes ++ after) read n (sym (number_next (bytes ++ after) digit) ∙ reads) in
     omega (arith, integer_reaches bytes after is)
 
 -- a symbol that begins with `/` is `/`
@@ -149,9 +144,6 @@ symbol_longest bytes after read n is reads =
     let len = symbol_read (symbol_len (slice_index text 0) (slice_index text 1) (slice_index text 2)) read n _ reads in
     omega (arith, symbol_reaches bytes after is)
 
-slash_short : (text : List ℕ) (read : TokenKind) (n : ℕ) → SlashReads text (steps.Token read n) → n ≡ 1
-slash_short text read n reads = reads.1
-
 pub same_first : (bytes after : List ℕ) → 0 < length bytes → slice_index (bytes ++ after) 0 ≡ slice_index bytes 0
 same_first [] after some = absurd (omega arith)
 same_first (byte ∷ bytes) after some = refl
@@ -163,9 +155,8 @@ symbol_next_reaches bytes after read n is reads =
     elim (symbol_begins bytes after is) [
       | inl slashed ↦
           let first : slice_index text 0 ≡ 47 = begin_is (slice_index text 0) begins.Slash slashed in
-          let here = next_at text begins.Slash (some_more bytes after some) slashed in
-          let one = slash_short text read n (subst (λ s. SlashReads text s) (sym here ∙ reads) (slash_reads text first)) in
-          omega (arith, slash_alone bytes is (sym (same_first bytes after some) ∙ first))
+          let stands : TokenAt read text n = subst (λ s. Stands text s) reads (next_stands text) in
+          omega (arith, stands.length_is, spelled_some read stands.bytes stands.spelled, slash_alone bytes is (sym (same_first bytes after some) ∙ first))
       | inr other ↦
           let here = next_at text begins.Symbol (some_more bytes after some) other in
           symbol_longest bytes after read n is (sym here ∙ reads)

@@ -1,28 +1,21 @@
 -- The number at the front of a text.
-use Rattle.std.proofs.Common.{◌≡◌, ℕ, ◌+◌, ◌<◌, ◌≤◌, Bool, true, false, cond, not, eqb, ltb, ◌^◌, ◌&&◌, ◌||◌, List, [], ◌∷◌, ◌++◌, length, take, drop, slice_index, refl, sym, ◌∙◌, inl, inr, arith}
-use Rattle.std.proofs.lemmas.Bool.{cases_Bool, and_parts, ltb-true, true≢false}
+use Rattle.std.proofs.Common.{◌≡◌, ℕ, ◌+◌, ◌<◌, ◌≤◌, Bool, true, false, cond, not, eqb, ltb, ◌^◌, ◌&&◌, ◌||◌, List, [], ◌∷◌, ◌++◌, length, take, drop, slice_index, refl, sym, ◌∙◌, subst, inl, inr, arith}
+use Rattle.std.proofs.lemmas.Bool.{cases_Bool, and_parts, or_left, ltb-true, true≢false}
 use Rattle.std.proofs.lemmas.Bool.Decides.{nat_tests}
 use Rattle.std.proofs.lemmas.List.Sums.{prefix_len-le-length}
 use Rattle.std.specs.Char.{is_ascii_digit, is_ascii_hexdigit, is_digit}
 use Rattle.std.specs.List.{list_all, prefix_len}
-use Rattle.ad_lexer.specs.Faults.{is_decimal, is_bad_number, behind_number}
+use Rattle.ad_lexer.specs.Blanks.{begins_comment}
+use Rattle.ad_lexer.specs.Faults.{is_decimal, is_bad_number, behind_number, Wrong}
 use Rattle.ad_lexer.specs.Numbers.{is_hexadecimal, base, digits, value, is_integer, number_len}
 use Rattle.ad_lexer.specs.Words.{is_word_byte}
 use Rattle.ad_lexer.specs.declared.fault.LexKind.TheVariants as kinds
-use Rattle.ad_lexer.specs.declared.next.Step.{Step}
 use Rattle.ad_lexer.specs.declared.next.Step.TheVariants as steps
+use Rattle.ad_lexer.specs.declared.token.TokenKind.{TokenKind}
 use Rattle.ad_lexer.specs.declared.token.TokenKind.TheVariants.{Int}
 use Rattle.ad_lexer.specs.Reading.{number, is_whole, is_decimal_mark}
+use Rattle.ad_lexer.proofs.Fronts.{TokenAt, Stands, first_bytes}
 use Rattle.ad_lexer.proofs.Runs.{run_reaches, all_weaker}
-
-hexadecimal_digit : (c : ℕ) → is_digit c 16 ≡ true → is_ascii_hexdigit c ≡ true
-hexadecimal_digit c is = grind (arith, nat_tests)
-
-octal_digit : (c : ℕ) → is_digit c 8 ≡ true → is_ascii_digit c ≡ true
-octal_digit c is = grind (arith, nat_tests)
-
-decimal_digit : (c : ℕ) → is_digit c 10 ≡ true → is_ascii_digit c ≡ true
-decimal_digit c is = grind (arith, nat_tests)
 
 -- the digits of an integer
 integer_parts : (bytes : List ℕ) → is_integer bytes ≡ true → (0 < length (digits bytes)) × (list_all (λ c. is_digit c (base bytes)) (digits bytes) ≡ true)
@@ -31,8 +24,8 @@ integer_parts bytes is =
     (ltb-true 0 (length (digits bytes)) first.0, first.1)
 
 in_base : (octal : Bool) (bytes : List ℕ) → list_all (λ c. is_digit c (cond octal 8 10)) bytes ≡ true → list_all is_ascii_digit bytes ≡ true
-in_base true bytes each = all_weaker (λ c. is_digit c 8) is_ascii_digit octal_digit bytes each
-in_base false bytes each = all_weaker (λ c. is_digit c 10) is_ascii_digit decimal_digit bytes each
+in_base true bytes each = all_weaker (λ c. is_digit c 8) is_ascii_digit (λ c is. grind (arith, nat_tests)) bytes each
+in_base false bytes each = all_weaker (λ c. is_digit c 10) is_ascii_digit (λ c is. grind (arith, nat_tests)) bytes each
 
 -- an integer that isn't hexadecimal is a run of decimal digits
 pub integer_decimal : (bytes : List ℕ) → is_integer bytes ≡ true → is_hexadecimal bytes ≡ false → (0 < length bytes) × (list_all is_ascii_digit bytes ≡ true)
@@ -45,7 +38,7 @@ pub integer_hexadecimal : (bytes : List ℕ) → is_integer bytes ≡ true → i
 integer_hexadecimal bytes is hexadecimal =
     let parts : (0 < length (digits bytes)) × (list_all (λ c. is_digit c (base bytes)) (digits bytes) ≡ true) = integer_parts bytes is in
     let plain = rw hexadecimal at parts in
-    all_weaker (λ c. is_digit c 16) is_ascii_hexdigit hexadecimal_digit (drop 2 bytes) plain.1
+    all_weaker (λ c. is_digit c 16) is_ascii_hexdigit (λ c is. grind (arith, nat_tests)) (drop 2 bytes) plain.1
 
 -- an integer begins with a digit
 pub integer_begins : (bytes after : List ℕ) → is_integer bytes ≡ true → is_ascii_digit (slice_index (bytes ++ after) 0) ≡ true
@@ -104,65 +97,56 @@ number_fits text =
 
 -- ---- how the tests of a number choose
 
-abbrev pub chosen : Bool → Bool → Bool → Bool → ℕ → Step
-chosen hexadecimal mark behind integer len =
-    cond (mark && not hexadecimal) (steps.Fault kinds.Decimal 0) (cond (not behind && integer) (steps.Token Int len) (steps.Fault kinds.Number 0))
+-- a mark of a decimal is behind a number that isn't hexadecimal
+abbrev pub is_marked : List ℕ → Bool
+is_marked text = is_decimal_mark (behind_number text) && not (is_hexadecimal text)
 
-pub number_chosen : (text : List ℕ) → number text ≡ chosen (is_hexadecimal text) (is_decimal_mark (behind_number text)) (is_word_byte (behind_number text)) (is_integer (take (number_len text) text)) (number_len text)
+-- the number is an integer, with nothing behind it that goes on
+abbrev pub is_token : List ℕ → Bool
+is_token text = not (is_word_byte (behind_number text)) && is_integer (take (number_len text) text)
+
+pub number_is : (text : List ℕ) → number text ≡ cond (is_marked text) (steps.Fault kinds.Decimal 0) (cond (is_token text) (steps.Token Int (number_len text)) (steps.Fault kinds.Number 0))
 unfolding number is_whole
-number_chosen text = refl
+number_is text = refl
 
--- the two faults of a number, from the tests
-bad_decimal : (d h m b i : Bool) (len : ℕ) → ((d && not h) && m) ≡ true → chosen h m b i len ≡ steps.Fault kinds.Decimal 0
-bad_decimal false h m b i len is = absurd (cc)
-bad_decimal true false true b i len is = refl
-bad_decimal true false false b i len is = absurd (cc)
-bad_decimal true true m b i len is = absurd (cc)
+decimal_tests : (d h m : Bool) → ((d && not h) && m) ≡ true → (m && not h) ≡ true
+decimal_tests d h m is = grind (arith, nat_tests)
 
-bad_number : (d h m b i : Bool) (len : ℕ) → ((d && not ((d && not h) && m)) && (b || not i)) ≡ true → chosen h m b i len ≡ steps.Fault kinds.Number 0
-bad_number false h m b i len is = absurd (cc)
-bad_number true true true true i len is = refl
-bad_number true true true false false len is = refl
-bad_number true true true false true len is = absurd (cc)
-bad_number true true false true i len is = refl
-bad_number true true false false false len is = refl
-bad_number true true false false true len is = absurd (cc)
-bad_number true false true b i len is = absurd (cc)
-bad_number true false false true i len is = refl
-bad_number true false false false false len is = refl
-bad_number true false false false true len is = absurd (cc)
+number_tests : (d h m b i : Bool) → ((d && not ((d && not h) && m)) && (b || not i)) ≡ true → ((m && not h) ≡ false) × ((not b && i) ≡ false)
+number_tests d h m b i is = (grind (arith, nat_tests), grind (arith, nat_tests))
+
+decimal_tested : (d h m : Bool) → d ≡ true → (m && not h) ≡ true → ((d && not h) && m) ≡ true
+decimal_tested d h m digit is = grind (arith, nat_tests)
 
 pub decimal_met : (text : List ℕ) → is_decimal text ≡ true → number text ≡ steps.Fault kinds.Decimal 0
-decimal_met text is = number_chosen text ∙ bad_decimal (is_ascii_digit (slice_index text 0)) (is_hexadecimal text) (is_decimal_mark (behind_number text)) (is_word_byte (behind_number text)) (is_integer (take (number_len text) text)) (number_len text) is
+decimal_met text is = number_is text ∙ rw (decimal_tests _ (is_hexadecimal text) (is_decimal_mark (behind_number text)) is) refl
 
 pub number_met : (text : List ℕ) → is_bad_number text ≡ true → number text ≡ steps.Fault kinds.Number 0
-number_met text is = number_chosen text ∙ bad_number (is_ascii_digit (slice_index text 0)) (is_hexadecimal text) (is_decimal_mark (behind_number text)) (is_word_byte (behind_number text)) (is_integer (take (number_len text) text)) (number_len text) is
+number_met text is =
+    let tests = number_tests _ (is_hexadecimal text) (is_decimal_mark (behind_number text)) (is_word_byte (behind_number text)) (is_integer (take (number_len text) text)) is in
+    number_is text ∙ rw (tests.0, tests.1) refl
 
--- what a number is read as, by the tests
-abbrev pub Reads : Bool → Bool → Bool → Bool → Bool → ℕ → Step → Type 0
-Reads d h m b i len (steps.Token kind n) = (kind ≡ Int) × (n ≡ len) × (i ≡ true)
-Reads d h m b i len (steps.Fault kinds.Decimal place) = (((d && not h) && m) ≡ true) × (place ≡ 0)
-Reads d h m b i len (steps.Fault kinds.Number place) = (((d && not ((d && not h) && m)) && (b || not i)) ≡ true) × (place ≡ 0)
-Reads d h m b i len (steps.Fault other place) = ⊥
-Reads d h m b i len steps.End = ⊥
-Reads d h m b i len (steps.Blank n) = ⊥
+number_by : (d h m b i : Bool) (text : List ℕ) (len : ℕ) → d ≡ true → (i ≡ true → TokenAt Int text len) → (((d && not h) && m) ≡ true → Wrong kinds.Decimal text 0) → (((d && not ((d && not h) && m)) && (b || not i)) ≡ true → Wrong kinds.Number text 0)
+    → Stands text (cond (m && not h) (steps.Fault kinds.Decimal 0) (cond (not b && i) (steps.Token Int len) (steps.Fault kinds.Number 0)))
+number_by d h m b i text len digit token decimal other =
+    elim (cases_Bool (m && not h)) [
+      | inl marked ↦ rw marked (decimal (decimal_tested d h m digit marked))
+      | inr plain ↦ elim (cases_Bool (not b && i)) [
+        | inl is ↦ rw (plain, is) (token (and_parts (not b) i is).1)
+        | inr isnt ↦ rw (plain, isnt) (other (grind (arith, nat_tests)))
+      ]
+    ]
 
-reads : (h m b i : Bool) (len : ℕ) → Reads true h m b i len (chosen h m b i len)
-reads true true true i len = (refl, refl)
-reads true true false false len = (refl, refl)
-reads true true false true len = (refl, refl, refl)
-reads true false true i len = (refl, refl)
-reads true false false false len = (refl, refl)
-reads true false false true len = (refl, refl, refl)
-reads false true b i len = (refl, refl)
-reads false false true i len = (refl, refl)
-reads false false false false len = (refl, refl)
-reads false false false true len = (refl, refl, refl)
+pub number_stands : (text : List ℕ) → is_ascii_digit (slice_index text 0) ≡ true → begins_comment text ≡ false → Stands text (number text)
+number_stands text digit no_comment =
+    subst (λ s. Stands text s) (sym (number_is text)) (number_by (is_ascii_digit (slice_index text 0)) (is_hexadecimal text) (is_decimal_mark (behind_number text)) (is_word_byte (behind_number text)) (is_integer (take (number_len text) text)) text (number_len text) digit
+    (λ is. first_bytes Int text (number_len text) (number_fits text) is no_comment) (λ is. (or_left (is_decimal text) _ is, refl)) (λ is. (is, refl)))
 
--- what a text that begins with a digit is read as
-abbrev pub NumberReads : List ℕ → Step → Type 0
-NumberReads text step = Reads (is_ascii_digit (slice_index text 0)) (is_hexadecimal text) (is_decimal_mark (behind_number text)) (is_word_byte (behind_number text)) (is_integer (take (number_len text) text)) (number_len text) step
+-- a token that is read is as long as the number
+token_len : (p q : Bool) (len : ℕ) (read : TokenKind) (n : ℕ) → cond p (steps.Fault kinds.Decimal 0) (cond q (steps.Token Int len) (steps.Fault kinds.Number 0)) ≡ steps.Token read n → len ≡ n
+token_len true q len read n is = absurd (cc)
+token_len false true len read n is = cc
+token_len false false len read n is = absurd (cc)
 
-pub number_reads : (text : List ℕ) → is_ascii_digit (slice_index text 0) ≡ true → NumberReads text (number text)
-unfolding number is_whole
-number_reads text is = rw is (reads (is_hexadecimal text) (is_decimal_mark (behind_number text)) (is_word_byte (behind_number text)) (is_integer (take (number_len text) text)) (number_len text))
+pub number_read : (text : List ℕ) (read : TokenKind) (n : ℕ) → number text ≡ steps.Token read n → number_len text ≡ n
+number_read text read n is = token_len (is_marked text) (is_token text) (number_len text) read n (sym (number_is text) ∙ is)

@@ -1,18 +1,68 @@
 -- The string or quoted name at the front of a text.
-use Rattle.std.proofs.Common.{◌≡◌, ◌⊎◌, ℕ, zero, suc, ◌+◌, ◌-◌, ◌<◌, ◌≤◌, true, false, eqb, List, [], ◌∷◌, ◌++◌, length, drop, slice_index, refl, sym, ◌∙◌, ap, subst, inl, inr, arith, length-append, append_assoc}
-use Rattle.std.proofs.lemmas.Bool.{or_parts, not-true, true≢false, eq-eqb}
+use Rattle.std.proofs.Common.{◌≡◌, ℕ, zero, suc, ◌+◌, ◌-◌, ◌<◌, ◌≤◌, true, false, List, [], ◌∷◌, length, drop, refl, sym, ◌∙◌, ap, arith, ◌⊎◌, eqb, ◌++◌, slice_index, subst, inl, inr, length-append, append_assoc}
+use Rattle.std.proofs.lemmas.Bool.Decides.{nat_tests}
+use Rattle.ad_lexer.proofs.Runs.{run_step, run_stop}
+use Rattle.std.proofs.lemmas.Bool.{cases_Bool, or_parts, not-true, true≢false, eq-eqb}
 use Rattle.std.proofs.lemmas.List.{drop_at}
-use Rattle.ad_lexer.specs.declared.fault.LexKind.TheVariants as kinds
-use Rattle.ad_lexer.specs.declared.next.Step.{Step}
-use Rattle.ad_lexer.specs.declared.next.Step.TheVariants as steps
 use Rattle.ad_lexer.specs.declared.quoted.Front.{Front}
-use Rattle.ad_lexer.specs.declared.quoted.Front.TheVariants as fronts
 use Rattle.ad_lexer.specs.declared.token.TokenKind.{TokenKind}
+use Rattle.ad_lexer.specs.declared.next.Step.{Step}
 use Rattle.ad_lexer.specs.Faults.{ReadsTo, HasNul, IsOpenString, HasBadEscape}
-use Rattle.ad_lexer.specs.Quoted.{Letter, plain, escape, octal, spelling, spellings, IsLetter, AreLetters, IsQuoted}
+use Rattle.ad_lexer.specs.Quoted.{Letter, plain, escape, octal, spelling, spellings, meaning, is_plain, IsLetter, AreLetters, IsQuoted}
+use Rattle.std.specs.List.{prefix_len}
+use Rattle.ad_lexer.specs.declared.bytes.Class.TheVariants as class
+use Rattle.ad_lexer.specs.declared.fault.LexKind.TheVariants as kinds
+use Rattle.ad_lexer.specs.declared.next.Step.TheVariants as steps
+use Rattle.ad_lexer.specs.declared.quoted.Front.TheVariants as fronts
 use Rattle.ad_lexer.specs.Reading as reading
-use Rattle.ad_lexer.proofs.LetterLemmas.{is_quote, quote_differs, letter_met, spelling_some, LetterAt, IsLineEnd, FrontReads, front_reads}
-use Rattle.ad_lexer.proofs.Turns.{quoted_here, quoted_turn}
+use Rattle.ad_lexer.proofs.Fronts.{TokenAt, Stands}
+use Rattle.ad_lexer.proofs.LetterLemmas.{is_quote, quote_differs, plain_met, letter_met, spelling_some, LetterAt, IsLineEnd, FrontReads, front_reads}
+
+-- skipping bytes is going on behind them
+quoted-skip : (kind : TokenKind) (quote at skip : ℕ) (text : List ℕ) → skip ≤ length text → reading.quoted kind quote at skip text ≡ reading.quoted kind quote (at + skip) 0 (drop skip text)
+quoted-skip kind quote at zero text fits = let e : at ≡ at + 0 = omega arith in ap (λ (n : ℕ). reading.quoted kind quote n 0 text) e
+quoted-skip kind quote at (suc skip) [] fits = refl
+quoted-skip kind quote at (suc skip) (byte ∷ bytes) fits =
+    let e : at + 1 + skip ≡ at + suc skip = omega arith in
+    quoted-skip kind quote (at + 1) skip bytes (omega arith) ∙ ap (λ (n : ℕ). reading.quoted kind quote n 0 (drop skip bytes)) e
+
+-- behind a letter the rest of the string goes on
+pub quoted_turn : (kind : TokenKind) (quote at len meant : ℕ) (text : List ℕ) → reading.front quote text ≡ fronts.Letter len meant → 0 < len → len ≤ length text → reading.quoted kind quote at 0 text ≡ reading.quoted kind quote (at + len) 0 (drop len text)
+quoted_turn kind quote at zero meant text is some fits = absurd (omega arith)
+quoted_turn kind quote at (suc len) meant [] is some fits = absurd (omega arith)
+quoted_turn kind quote at (suc len) meant (byte ∷ bytes) is some fits =
+    let e : at + 1 + len ≡ at + suc len = omega arith in
+    let less : suc len - 1 ≡ len = omega arith in
+    ap (λ f. reading.quoted_by kind at f (λ n. reading.quoted kind quote (at + 1) (n - 1) bytes)) is
+    ∙ ap (λ (n : ℕ). reading.quoted kind quote (at + 1) n bytes) less
+    ∙ quoted-skip kind quote (at + 1) len bytes (omega arith)
+    ∙ ap (λ (n : ℕ). reading.quoted kind quote n 0 (drop len bytes)) e
+
+-- bytes that stand for themselves are gone over at once
+plain_in : (quote byte : ℕ) → is_quote quote ≡ true → reading.is_in class.Plain byte ≡ true → is_plain quote byte ≡ true
+plain_in quote byte is stands = grind (arith, nat_tests)
+
+pub plain_run : (kind : TokenKind) (quote at : ℕ) (text : List ℕ) → is_quote quote ≡ true → reading.quoted kind quote (at + prefix_len (reading.is_in class.Plain) text) 0 (drop (prefix_len (reading.is_in class.Plain) text) text) ≡ reading.quoted kind quote at 0 text
+plain_run kind quote at [] is = let e : at + 0 ≡ at = omega arith in ap (λ (n : ℕ). reading.quoted kind quote n 0 []) e
+plain_run kind quote at (byte ∷ bytes) is =
+    let p = reading.is_in class.Plain in
+    elim (cases_Bool (p byte)) [
+      | inl stands ↦
+          let e : at + suc (prefix_len p bytes) ≡ at + 1 + prefix_len p bytes = omega arith in
+          let turn = quoted_turn kind quote at 1 byte (byte ∷ bytes) (plain_met quote byte bytes (plain_in quote byte is stands)) (omega arith) (omega arith) in
+          rw (run_step p byte bytes stands) (ap (λ (n : ℕ). reading.quoted kind quote n 0 (drop (prefix_len p bytes) bytes)) e ∙ plain_run kind quote (at + 1) bytes is ∙ sym turn)
+      | inr other ↦ let e : at + 0 ≡ at = omega arith in rw (run_stop p byte bytes other) (ap (λ (n : ℕ). reading.quoted kind quote n 0 (byte ∷ bytes)) e)
+    ]
+
+-- the rest of a string goes by what stands at its front
+pub quoted_here : (kind : TokenKind) (quote at : ℕ) (text : List ℕ) → reading.quoted kind quote at 0 text ≡ reading.quoted_by kind at (reading.front quote text) (λ n. reading.quoted kind quote (at + 1) (n - 1) (drop 1 text))
+unfolding reading.front
+quoted_here kind quote at [] = refl
+quoted_here kind quote at (byte ∷ bytes) = refl
+
+-- the same where that is known
+pub quoted_stop : (kind : TokenKind) (quote at : ℕ) (text : List ℕ) (f : Front) → f ≡ reading.front quote text → reading.quoted_by kind at f (λ n. reading.quoted kind quote (at + 1) (n - 1) (drop 1 text)) ≡ reading.quoted kind quote at 0 text
+quoted_stop kind quote at text f is = ap (λ g. reading.quoted_by kind at g (λ n. reading.quoted kind quote (at + 1) (n - 1) (drop 1 text))) is ∙ sym (quoted_here kind quote at text)
 
 -- letters are gone over
 pub quoted_over : (kind : TokenKind) (quote at : ℕ) (letters : List Letter) (rest : List ℕ) → is_quote quote ≡ true → AreLetters quote letters rest → reading.quoted kind quote at 0 (spellings letters ++ rest) ≡ reading.quoted kind quote (at + length (spellings letters)) 0 rest
@@ -22,11 +72,11 @@ quoted_over kind quote at (letter ∷ letters) rest is are =
     let more : List ℕ = spellings letters ++ rest in
     let len : ℕ = length first in
     let joined : (first ++ spellings letters) ++ rest ≡ first ++ more = append_assoc first (spellings letters) rest in
-    let met : reading.front quote (first ++ more) ≡ fronts.Letter len = letter_met quote letter more is are.0 in
+    let met : reading.front quote (first ++ more) ≡ fronts.Letter len (meaning letter) = letter_met quote letter more is are.0 in
     let fits : len ≤ length (first ++ more) = omega (arith, length-append first more) in
     let e : at + len + length (spellings letters) ≡ at + length (first ++ spellings letters) = omega (arith, length-append first (spellings letters)) in
     ap (λ (l : List ℕ). reading.quoted kind quote at 0 l) joined
-    ∙ quoted_turn kind quote at len (first ++ more) met (spelling_some letter) fits
+    ∙ quoted_turn kind quote at len (meaning letter) (first ++ more) met (spelling_some letter) fits
     ∙ ap (λ (l : List ℕ). reading.quoted kind quote (at + len) 0 l) (drop_at first more len refl)
     ∙ quoted_over kind quote (at + len) letters rest is are.1
     ∙ ap (λ (n : ℕ). reading.quoted kind quote n 0 rest) e
@@ -34,7 +84,7 @@ quoted_over kind quote at (letter ∷ letters) rest is are =
 -- ---- each rest of a string is letters, and then something else
 
 abbrev IsStop : Front → Type 0
-IsStop (fronts.Letter n) = ⊥
+IsStop (fronts.Letter n meant) = ⊥
 IsStop other = Unit {0}
 
 pub record Parts (quote : ℕ) (text : List ℕ) : Type 0 where
@@ -62,7 +112,7 @@ shorter quote text n bound here fits =
     omega (arith, ap (λ (l : List ℕ). length l) here.text_is, length-append (spelling here.letter) here.after)
 
 parts_by : (quote bound : ℕ) (text : List ℕ) (front : Front) → reading.front quote text ≡ front → FrontReads quote text front → length text ≤ suc bound → ((t : List ℕ) → length t ≤ bound → Parts quote t) → Parts quote text
-parts_by quote bound text (fronts.Letter n) is reads fits again = with_letter quote text n reads (again reads.after (shorter quote text n bound reads fits))
+parts_by quote bound text (fronts.Letter n meant) is reads fits again = with_letter quote text n reads (again reads.after (shorter quote text n bound reads fits))
 parts_by quote bound text fronts.Close is reads fits again = stopped quote text fronts.Close is tt
 parts_by quote bound text fronts.LineEnd is reads fits again = stopped quote text fronts.LineEnd is tt
 parts_by quote bound text fronts.Nul is reads fits again = stopped quote text fronts.Nul is tt
@@ -105,15 +155,6 @@ pub record QuotedAt (quote : ℕ) (text : List ℕ) (n : ℕ) : Type 0 where
   pub are_letters : AreLetters quote letters (quote ∷ [])
   pub length_is : 2 + length (spellings letters) ≡ n
 
-abbrev pub QuotedReads : TokenKind → ℕ → List ℕ → Step → Type 0
-QuotedReads kind quote text (steps.Token read n) = (read ≡ kind) × QuotedAt quote text n
-QuotedReads kind quote text (steps.Fault kinds.StringEnd place) = IsOpenString text × (place ≡ 0)
-QuotedReads kind quote text (steps.Fault kinds.Character place) = HasNul text place
-QuotedReads kind quote text (steps.Fault kinds.Escape place) = HasBadEscape text place
-QuotedReads kind quote text (steps.Fault other place) = ⊥
-QuotedReads kind quote text steps.End = ⊥
-QuotedReads kind quote text (steps.Blank n) = ⊥
-
 reads_to : (quote : ℕ) (text : List ℕ) (parts : Parts quote text) (rest : List ℕ) → is_quote quote ≡ true → parts.rest ≡ rest → ReadsTo quote (quote ∷ text) rest (1 + length (spellings parts.letters))
 reads_to quote text p rest is same = record {
   is_quote = is;
@@ -128,27 +169,28 @@ no_letter quote rest is stop letter after begins is_letter =
     subst IsStop (ap (λ (l : List ℕ). reading.front quote l) begins ∙ letter_met quote letter after is is_letter) stop
 
 read_by : (kind : TokenKind) (quote : ℕ) (text : List ℕ) (p : Parts quote text) (front : Front) (more : ℕ → Step) → is_quote quote ≡ true → FrontReads quote p.rest front → IsStop front → (front ≡ fronts.Backslash → IsStop (reading.front quote p.rest))
-    → QuotedReads kind quote (quote ∷ text) (reading.quoted_by kind (1 + length (spellings p.letters)) front more)
-read_by kind quote text p (fronts.Letter n) more is reads stop back = absurd stop
-read_by kind quote text p fronts.Close more is reads stop back =
+    → ((n : ℕ) → QuotedAt quote (quote ∷ text) n → TokenAt kind (quote ∷ text) n) → Stands (quote ∷ text) (reading.quoted_by kind (1 + length (spellings p.letters)) front more)
+read_by kind quote text p (fronts.Letter n meant) more is reads stop back token = absurd stop
+read_by kind quote text p fronts.Close more is reads stop back token =
     let to = reads_to quote text p (quote ∷ reads.0) is reads.1 in
-    (refl, record { letters = to.letters; after = reads.0; text_is = to.text_is; are_letters = same_letters quote to.letters quote reads.0 [] to.are_letters; length_is = omega (arith, to.place_is) })
-read_by kind quote text p fronts.LineEnd more is reads stop back = ((quote, p.rest, 1 + length (spellings p.letters), reads_to quote text p p.rest is refl, reads), refl)
-read_by kind quote text p fronts.Nul more is reads stop back = (quote, reads.0, reads_to quote text p (0 ∷ reads.0) is reads.1)
-read_by kind quote text p fronts.Backslash more is reads stop back =
+    token _ (record { letters = to.letters; after = reads.0; text_is = to.text_is; are_letters = same_letters quote to.letters quote reads.0 [] to.are_letters; length_is = omega (arith, to.place_is) })
+read_by kind quote text p fronts.LineEnd more is reads stop back token = ((quote, p.rest, 1 + length (spellings p.letters), reads_to quote text p p.rest is refl, reads), refl)
+read_by kind quote text p fronts.Nul more is reads stop back token = inr (inl (quote, reads.0, reads_to quote text p (0 ∷ reads.0) is reads.1))
+read_by kind quote text p fronts.Backslash more is reads stop back token =
     (quote, reads.0, reads.1, reads_to quote text p (92 ∷ reads.0 ∷ reads.1) is reads.2, λ letter after begins. no_letter quote p.rest is (back refl) letter after (reads.2 ∙ begins))
 
-pub quoted_reads : (kind : TokenKind) (quote : ℕ) (text : List ℕ) → is_quote quote ≡ true → QuotedReads kind quote (quote ∷ text) (reading.quoted kind quote 1 0 text)
-quoted_reads kind quote text is =
+-- what is read stands there, where a quoted text that is closed is a token
+pub quoted_stands : (kind : TokenKind) (quote : ℕ) (text : List ℕ) → is_quote quote ≡ true → ((n : ℕ) → QuotedAt quote (quote ∷ text) n → TokenAt kind (quote ∷ text) n) → Stands (quote ∷ text) (reading.quoted kind quote 1 0 text)
+quoted_stands kind quote text is token =
     let p = parts quote (length text) text (omega arith) in
     let over = quoted_over kind quote 1 p.letters p.rest is p.are_letters in
     let here = quoted_here kind quote (1 + length (spellings p.letters)) p.rest in
     let same : reading.quoted kind quote 1 0 text ≡ _ = ap (λ (l : List ℕ). reading.quoted kind quote 1 0 l) p.text_is ∙ over ∙ here in
-    subst (λ s. QuotedReads kind quote (quote ∷ text) s) (sym same) (read_by kind quote text p (reading.front quote p.rest) _ is (front_reads quote p.rest) p.stops (λ e. p.stops))
+    subst (λ s. Stands (quote ∷ text) s) (sym same) (read_by kind quote text p (reading.front quote p.rest) _ is (front_reads quote p.rest) p.stops (λ e. p.stops) token)
 
 -- ---- what stands there is read
 
-front_close : (quote : ℕ) (more : List ℕ) → reading.front quote (quote ∷ more) ≡ fronts.Close
+pub front_close : (quote : ℕ) (more : List ℕ) → reading.front quote (quote ∷ more) ≡ fronts.Close
 unfolding reading.front
 front_close quote more = rw (eq-eqb quote quote refl) refl
 
@@ -173,7 +215,7 @@ front_end quote rest is end =
     ]
 
 bad_by : (quote byte : ℕ) (more : List ℕ) (front : Front) → is_quote quote ≡ true → FrontReads quote (92 ∷ byte ∷ more) front → ((letter : Letter) (after : List ℕ) → 92 ∷ byte ∷ more ≡ spelling letter ++ after → ¬ IsLetter quote letter after) → front ≡ fronts.Backslash
-bad_by quote byte more (fronts.Letter n) is reads none = absurd (none reads.letter reads.after reads.text_is reads.is_letter)
+bad_by quote byte more (fronts.Letter n meant) is reads none = absurd (none reads.letter reads.after reads.text_is reads.is_letter)
 bad_by quote byte more fronts.Close is reads none =
     let e : 92 ≡ quote = ap (λ (l : List ℕ). slice_index l 0) reads.1 in
     absurd (true≢false (sym (eq-eqb 92 quote e) ∙ quote_differs quote 92 is (λ f. omega arith) (λ f. omega arith)))

@@ -13,10 +13,10 @@ any_all p q (x ∷ xs) some each =
       | inr isnt ↦ any_all p q xs (rw isnt at some) both.1
     ]
 
-run_step : (p : ℕ → Bool) (x : ℕ) (xs : List ℕ) → p x ≡ true → prefix_len p (x ∷ xs) ≡ suc (prefix_len p xs)
+pub run_step : (p : ℕ → Bool) (x : ℕ) (xs : List ℕ) → p x ≡ true → prefix_len p (x ∷ xs) ≡ suc (prefix_len p xs)
 run_step p x xs is = rw is (omega arith)
 
-run_stop : (p : ℕ → Bool) (x : ℕ) (xs : List ℕ) → p x ≡ false → prefix_len p (x ∷ xs) ≡ 0
+pub run_stop : (p : ℕ → Bool) (x : ℕ) (xs : List ℕ) → p x ≡ false → prefix_len p (x ∷ xs) ≡ 0
 run_stop p x xs isnt = rw isnt refl
 
 -- each byte of a run passes

@@ -47,19 +47,13 @@ pub symbol_other : (bytes : List ℕ) → is_symbol bytes ≡ true → is_other 
 symbol_other bytes is = symbol_passes (λ b. is_other (slice_index b 0)) bytes refl is
 
 one_at_least : (p q r : Bool) → r ≡ true → 1 ≤ cond p 3 (cond q 2 (cond r 1 0))
-one_at_least true q r is = omega arith
-one_at_least false true r is = omega arith
-one_at_least false false true is = omega arith
-one_at_least false false false is = absurd (cc)
+one_at_least p q r is = grind (arith, nat_tests)
 
 two_at_least : (p q r : Bool) → q ≡ true → 2 ≤ cond p 3 (cond q 2 (cond r 1 0))
-two_at_least true q r is = omega arith
-two_at_least false true r is = omega arith
-two_at_least false false r is = absurd (cc)
+two_at_least p q r is = grind (arith, nat_tests)
 
 three_at_least : (p q r : Bool) → p ≡ true → 3 ≤ cond p 3 (cond q 2 (cond r 1 0))
-three_at_least true q r is = omega arith
-three_at_least false q r is = absurd (cc)
+three_at_least p q r is = grind (arith, nat_tests)
 
 -- a symbol is no longer than the longest that stands there
 pub symbol_reaches : (bytes after : List ℕ) → is_symbol bytes ≡ true → length bytes ≤ symbol_len (slice_index (bytes ++ after) 0) (slice_index (bytes ++ after) 1) (slice_index (bytes ++ after) 2)

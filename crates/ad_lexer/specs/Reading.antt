@@ -1,6 +1,6 @@
 -- What the code reads at the front of a text, byte by byte. The definitions to believe stand in `Tokens`.
-use Rattle.std.specs.Prelude.{ℕ, zero, suc, ◌+◌, ◌-◌, ◌*◌, ◌^◌, ◌<◌, ◌≤◌, Bool, true, not, ◌&&◌, ◌||◌, ◌==◌, nat_lt, List, [], ◌∷◌, take, drop, slice_index, Option, Some, None, is_some, if◌then◌else◌}
-use Rattle.std.specs.Char.{is_ascii_digit, is_ascii_hexdigit, is_digit, digit_value}
+use Rattle.std.specs.Prelude.{ℕ, zero, suc, ◌+◌, ◌-◌, ◌<◌, ◌≤◌, Bool, not, ◌&&◌, ◌||◌, ◌==◌, nat_lt, List, [], ◌∷◌, take, drop, slice_index, Option, Some, None, if◌then◌else◌}
+use Rattle.std.specs.Char.{is_ascii_digit, is_ascii_hexdigit}
 use Rattle.std.specs.List.{prefix_len}
 use Rattle.ad_lexer.specs.declared.bytes.Class.{Class}
 use Rattle.ad_lexer.specs.declared.bytes.Class.TheVariants as class
@@ -14,8 +14,9 @@ use Rattle.ad_lexer.specs.declared.quoted.Front.TheVariants as fronts
 use Rattle.ad_lexer.specs.declared.token.TokenKind.{TokenKind}
 use Rattle.ad_lexer.specs.declared.token.TokenKind.TheVariants.{Plain, Reserved, Quoted, Str, Int, Symbol}
 use Rattle.ad_lexer.specs.Blanks.{is_space, is_line_byte}
+use Rattle.ad_lexer.specs.Content.{octal_len, octal_value}
 use Rattle.ad_lexer.specs.Numbers.{is_hexadecimal, is_integer, number_len}
-use Rattle.ad_lexer.specs.Quoted.{escaped, is_octal_digit}
+use Rattle.ad_lexer.specs.Quoted.{escaped, is_octal_digit, is_plain}
 use Rattle.ad_lexer.specs.Symbols.{is_symbol}
 use Rattle.ad_lexer.specs.Words.{begins_word, is_word_byte, is_reserved}
 
@@ -25,6 +26,7 @@ is_in class.Word byte = is_word_byte byte
 is_in class.Decimal byte = is_ascii_digit byte
 is_in class.Hexadecimal byte = is_ascii_hexdigit byte
 is_in class.Line byte = is_line_byte byte
+is_in class.Plain byte = is_plain 34 byte && not (byte == 39)
 
 -- what the first byte of a text begins
 unfoldable pub begin_of : ℕ → Begin
@@ -43,11 +45,6 @@ abbrev pub word : List ℕ → Step
 word text = let len = prefix_len is_word_byte text in steps.Token (if is_reserved (take len text) then Reserved else Plain) len
 
 -- ---- numbers
-
--- whether further digits behind those of n keep the number below 2^63
-abbrev pub has_value : ℕ → ℕ → List ℕ → Bool
-has_value base n [] = true
-has_value base n (c ∷ cs) = (is_digit c base && nat_lt (n * base + digit_value c) (2 ^ 63)) && has_value base (n * base + digit_value c) cs
 
 -- `.`, `e` or `E`, of a decimal or an exponent
 abbrev pub is_decimal_mark : ℕ → Bool
@@ -99,20 +96,20 @@ slash text =
 
 -- ---- strings and quoted names
 
-abbrev pub octal_of : ℕ → ℕ → Front
-octal_of len value = if value == 0 || nat_lt 127 value then fronts.Backslash else fronts.Letter len
-
+-- octal digits of a value in range
 unfoldable pub octal : ℕ → ℕ → ℕ → Front
 octal first second third =
-    if not (is_octal_digit first) then fronts.Backslash
-    else (if not (is_octal_digit second) then octal_of 2 (first - 48)
-    else (if not (is_octal_digit third) then octal_of 3 ((first - 48) * 8 + (second - 48))
-    else octal_of 4 (((first - 48) * 8 + (second - 48)) * 8 + (third - 48))))
+    if is_octal_digit first && nat_lt 0 (octal_value first second third) && nat_lt (octal_value first second third) 128 then fronts.Letter (octal_len second third) (octal_value first second third)
+    else fronts.Backslash
+
+abbrev pub escape_or : Option ℕ → Front → Front
+escape_or None other = other
+escape_or (Some meant) other = fronts.Letter 2 meant
 
 -- what a backslash before the bytes begins
 unfoldable pub escape : List ℕ → Front
 escape [] = fronts.LineEnd
-escape (byte ∷ bytes) = if is_some (escaped byte) then fronts.Letter 2 else octal byte (slice_index bytes 0) (slice_index bytes 1)
+escape (byte ∷ bytes) = escape_or (escaped byte) (octal byte (slice_index bytes 0) (slice_index bytes 1))
 
 -- what stands at the front of the rest of a string
 unfoldable pub front : ℕ → List ℕ → Front
@@ -122,11 +119,11 @@ front quote (byte ∷ bytes) =
     else (if byte == 10 then fronts.LineEnd
     else (if byte == 0 then fronts.Nul
     else (if byte == 92 then escape bytes
-    else fronts.Letter 1)))
+    else fronts.Letter 1 byte)))
 
 -- one turn: what more gives behind a letter, and else the token or the fault
 abbrev pub quoted_by : TokenKind → ℕ → Front → (ℕ → Step) → Step
-quoted_by kind at (fronts.Letter len) more = more len
+quoted_by kind at (fronts.Letter len meant) more = more len
 quoted_by kind at fronts.Close more = steps.Token kind (at + 1)
 quoted_by kind at fronts.LineEnd more = steps.Fault kinds.StringEnd 0
 quoted_by kind at fronts.Nul more = steps.Fault kinds.Character at
@@ -171,7 +168,7 @@ IsWithin len (steps.Fault kind place) = place ≤ len
 
 -- the same of a letter, behind `least` bytes of it that were read
 abbrev pub IsLetterWithin : ℕ → ℕ → Front → Type 0
-IsLetterWithin least len (fronts.Letter n) = (least < n) × (n ≤ least + len)
+IsLetterWithin least len (fronts.Letter n meant) = (least < n) × (n ≤ least + len)
 IsLetterWithin least len fronts.Close = 0 < len
 IsLetterWithin least len fronts.LineEnd = Unit {0}
 IsLetterWithin least len fronts.Nul = 0 < len
@@ -179,5 +176,5 @@ IsLetterWithin least len fronts.Backslash = 0 < least + len
 
 -- the octal digits of a letter stand there
 abbrev pub HasOctal : ℕ → ℕ → Front → Type 0
-HasOctal second third (fronts.Letter n) = (2 ≤ n) × (n ≤ 4) × (3 ≤ n → 0 < second) × (4 ≤ n → 0 < third)
+HasOctal second third (fronts.Letter n meant) = (2 ≤ n) × (n ≤ 4) × (3 ≤ n → 0 < second) × (4 ≤ n → 0 < third)
 HasOctal second third other = Unit {0}

@@ -10,6 +10,7 @@ pub enum Class {
     Decimal,
     Hexadecimal,
     Line,
+    Plain,
 }
 
 /// Whether each byte is a letter, a digit or `_`. One look is quicker than three tests.
@@ -43,6 +44,7 @@ pub fn is_in(class: Class, byte: u8) -> bool
         Class::Decimal => byte.is_ascii_digit(),
         Class::Hexadecimal => byte.is_ascii_hexdigit(),
         Class::Line => byte != b'\n',
+        Class::Plain => !matches!(byte, b'"' | b'\'' | b'\\' | b'\n' | 0),
     }
 }
 

@@ -1,63 +1,78 @@
 // What strings, quoted names and integers mean.
-ghost use Rattle.std.specs.Prelude.{◌≡◌, ◌<◌, ◌≤◌, ◌^◌, pos, true, length, IfOk};
-ghost use Rattle.ad_lexer.specs.Content.{content};
-ghost use Rattle.ad_lexer.specs.Quoted.{IsQuotation};
-ghost use Rattle.std.specs.Char.{digit_value};
+ghost use Rattle.std.specs.Prelude.{◌≡◌, ◌-◌, ◌<◌, ◌≤◌, ◌^◌, pos, drop, length, take, IfOk, IfSome};
 ghost use Rattle.std.specs.Str.Parse.{digits_value};
-ghost use Rattle.ad_lexer.specs.Numbers.{value, is_hexadecimal};
+ghost use Rattle.ad_lexer.specs.Content.{content};
+ghost use Rattle.ad_lexer.specs.Numbers.{value};
+ghost use Rattle.ad_lexer.specs.Quoted.{IsQuotation};
 
+use crate::bytes::{behind, byte_at};
+use crate::number::{digit_value, digits};
+use crate::quoted::{Front, front_of};
 use pool_text::{OutOfMemory, Text};
 use std::alloc::Global;
 
+/// What the letters between the quotes of a string or a quoted name mean, escapes undone.
 pub fn content(alloc: Global, spelling: &[u8]) -> Result<Text, OutOfMemory>
     requires { ∥ IsQuotation spelling.now ∥₁ }
     ensures { IfOk result (λ text. text ≡ content spelling.now) }
 {
-    Err(OutOfMemory)
-}
-
-/// The value of an integer in one of the three bases.
-pub fn integer(text: &[u8]) -> i64
-    requires { value text.now < 2 ^ 63 }
-    ensures { result ≡ pos (value text.now) }
-{
-    if is_hexadecimal(text) {
-        return digits(16, &text[2..]);
+    match verbatim(spelling) {
+        Some(letters) => Text::from_bytes(alloc, letters),
+        None => unescaped(alloc, spelling),
     }
-    if text.len() > 1 && text[0] == b'0' {
-        return digits(8, text);
+}
+
+/// What stands between the quotes, where it has no backslash and so means itself.
+fn verbatim(spelling: &[u8]) -> Option<&[u8]>
+    requires { ∥ IsQuotation spelling.now ∥₁ }
+    ensures { IfSome result (λ letters. letters.now ≡ content spelling.now) }
+{
+    if spelling.contains(&b'\\') {
+        return None;
     }
-    digits(10, text)
+    Some(inside(spelling))
 }
 
-fn is_hexadecimal(text: &[u8]) -> bool
-    ensures value { result ≡ is_hexadecimal text.now }
-    ensures within { result ≡ true → 2 ≤ length text.now }
+/// What stands between the first byte and the last.
+fn inside(spelling: &[u8]) -> &[u8]
+    requires { 2 ≤ length spelling.now }
+    ensures { result.now ≡ take (length spelling.now - 1 - 1) (drop 1 spelling.now) }
 {
-    let [first, second, ..] = text else {
-        return false;
-    };
-    *first == b'0' && (*second == b'x' || *second == b'X')
+    &spelling[1..spelling.len() - 1]
 }
 
-fn digits(base: u32, text: &[u8]) -> i64
-    requires base { 1 ≤ base }
-    requires small { base ≤ 16 }
-    requires fits { digits_value base text.now < 2 ^ 63 }
-    ensures { result ≡ pos (digits_value base text.now) }
+fn unescaped(alloc: Global, spelling: &[u8]) -> Result<Text, OutOfMemory>
+    requires { ∥ IsQuotation spelling.now ∥₁ }
+    ensures { IfOk result (λ text. text ≡ content spelling.now) }
 {
-    let mut value: u64 = 0;
-    let mut rest = text;
-    while let [byte, more @ ..] = rest {
-        value = value * u64::from(base) + u64::from(digit(*byte));
-        rest = more;
+    let quote = byte_at(spelling, 0);
+    let mut rest = behind(spelling, 1);
+    let mut text = Text::new(alloc);
+    while let Front::Letter(len, byte) = front_of(quote, rest) {
+        text.append(&[byte])?;
+        rest = behind(rest, len);
     }
-    value as i64
+    Ok(text)
 }
 
-fn digit(byte: u8) -> u32
-    ensures value { result ≡ digit_value byte }
-    ensures small { result ≤ 36 }
+/// The value that the bytes of an integer spell, in one of the three bases.
+pub fn integer(spelling: &[u8]) -> i64
+    requires { value spelling.now < 2 ^ 63 }
+    ensures { result ≡ pos (value spelling.now) }
 {
-    char::from(byte).to_digit(36).unwrap_or(36)
+    let (base, digits) = digits(spelling);
+    digits_value(base, digits) as i64
+}
+
+fn digits_value(base: u64, digits: &[u8]) -> u64
+    requires some { 1 ≤ base }
+    requires high { base ≤ 16 }
+    requires fits { digits_value base digits.now < 2 ^ 63 }
+    ensures { result ≡ digits_value base digits.now }
+{
+    let mut value = 0;
+    for byte in digits {
+        value = value * base + digit_value(*byte);
+    }
+    value
 }

@@ -21,17 +21,20 @@ pub fn one_answer(text: &[u8])
 {}
 
 /// The tokens of a text are parts of it, in order, and each is spelled by its kind.
+#[tactic(auto, using(crate::proofs::SliceLemmas::tokens_slices))]
 pub fn tokens_are_slices(text: &[u8])
     ensures { (list : List Lexeme) → Tokens text.now list → AreTokensOf text.now 0 list }
 {}
 
 /// What is spelled as a token of a kind is one, whatever follows a string or a quoted name, and before a byte that
 /// doesn't go on with a word, an integer or a symbol.
+#[tactic(auto, using(crate::proofs::AloneLemmas::alone_token))]
 pub fn spelling_stands(spelling: &[u8], after: &[u8])
     ensures { (kind : TokenKind) → Spells kind spelling.now → Ends kind spelling.now (slice_index after.now 0) → IsToken kind spelling.now after.now }
 {}
 
 /// Bytes spell one kind of token only.
+#[tactic(auto, using(crate::proofs::ItemLemmas::same_kind))]
 pub fn one_kind(spelling: &[u8])
     ensures { (kind other : TokenKind) → Spells kind spelling.now → Spells other spelling.now → kind ≡ other }
 {}

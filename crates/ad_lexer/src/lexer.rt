@@ -10,8 +10,8 @@ use crate::next::{Step, next};
 use crate::token::{Span, Tokens};
 use std::alloc::Global;
 
-/// How many bytes an ordinary token takes with the blanks around it.
-const BYTES_A_TOKEN: usize = 4;
+/// How many bytes a token takes at the least in ordinary texts, with the blanks around it.
+const BYTES_A_TOKEN: usize = 3;
 
 /// The tokens of a text, in order, or its first fault from the left.
 ///

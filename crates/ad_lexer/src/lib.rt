@@ -3,6 +3,7 @@
 
 mod bytes;
 mod decode;
+mod escape;
 mod fault;
 mod laws;
 mod lexer;

@@ -3,7 +3,7 @@ ghost use Rattle.std.specs.Prelude.{◌≡◌, ◌<◌, ◌≤◌, ◌^◌, leng
 ghost use Rattle.ad_lexer.specs.Reading as spec;
 ghost use Rattle.ad_lexer.specs.Words as words;
 
-use crate::bytes::{Class, behind, byte_at, run_len};
+use crate::bytes::{Class, behind, byte_at, is_in, run_len};
 use crate::fault::LexKind;
 use crate::number::number;
 use crate::quoted::{name, string};
@@ -37,18 +37,19 @@ fn begin_of(byte: u8) -> Begin
 {
     if byte == b' ' || byte == b'\t' || byte == b'\n' || byte == b'\r' || byte == 12 {
         Begin::Space
-    } else if byte.is_ascii_alphabetic() || byte == b'_' {
-        Begin::Word
-    } else if byte.is_ascii_digit() {
-        Begin::Number
-    } else if byte == b'\'' {
-        Begin::Name
-    } else if byte == b'"' {
-        Begin::String
-    } else if byte == b'/' {
-        Begin::Slash
+    } else if is_in(Class::Word, byte) {
+        if byte.is_ascii_digit() {
+            Begin::Number
+        } else {
+            Begin::Word
+        }
     } else {
-        Begin::Symbol
+        match byte {
+            b'\'' => Begin::Name,
+            b'"' => Begin::String,
+            b'/' => Begin::Slash,
+            _ => Begin::Symbol,
+        }
     }
 }
 

@@ -1,5 +1,8 @@
 // Integers, and the numbers that are none.
-ghost use Rattle.std.specs.Prelude.{◌≡◌, ◌<◌, ◌≤◌, length, slice_index};
+ghost use Rattle.std.specs.Prelude.{◌≡◌, ◌<◌, ◌≤◌, ◌^◌, ◌&&◌, nat_lt, length, slice_index, take, true};
+ghost use Rattle.std.specs.Char.{digit_value, is_digit};
+ghost use Rattle.std.specs.List.{list_all};
+ghost use Rattle.std.specs.Str.Parse.{digits_value};
 ghost use Rattle.ad_lexer.specs.Numbers as numbers;
 ghost use Rattle.ad_lexer.specs.Reading as spec;
 
@@ -7,6 +10,9 @@ use crate::bytes::{Class, behind, byte_at, front, is_in, run_len};
 use crate::fault::LexKind;
 use crate::next::{Begin, Step};
 use crate::token::TokenKind;
+
+/// Numbers of at most so many decimal digits are below 2^63.
+const SHORT_DIGITS: usize = 18;
 
 fn is_hexadecimal(text: &[u8]) -> bool
     ensures { result ≡ numbers.is_hexadecimal text.now }
@@ -28,7 +34,7 @@ fn number_len(text: &[u8]) -> usize
 }
 
 /// The integer that the text begins with, or its fault.
-#[tactic(auto, unfolding(crate::specs::Reading::number))]
+#[tactic(auto, using(crate::proofs::Begins::number_some), unfolding(crate::specs::Reading::number))]
 pub fn number(text: &[u8]) -> Step
     requires some { 0 < length text.now }
     requires digit { spec.begin_of (slice_index text.now 0) ≡ Begin.Number }
@@ -50,43 +56,74 @@ pub fn number(text: &[u8]) -> Step
 /// Whether the first `len` bytes are an integer with no letter, digit or `_` behind it.
 #[tactic(auto, unfolding(crate::specs::Reading::is_whole))]
 fn is_whole(text: &[u8], len: usize) -> bool
-    requires { len ≤ length text.now }
+    requires some { 0 < len }
+    requires within { len ≤ length text.now }
+    requires number { len ≡ numbers.number_len text.now }
     ensures { result ≡ spec.is_whole text.now len }
 {
-    !is_in(Class::Word, byte_at(text, len)) && is_integer(front(text, len))
+    !is_in(Class::Word, byte_at(text, len)) && (is_short(text, len) || is_integer(front(text, len)))
+}
+
+/// Whether the number has decimal digits of which the first isn't 0, and so few that their value fits.
+fn is_short(text: &[u8], len: usize) -> bool
+    requires some { 0 < len }
+    requires number { len ≡ numbers.number_len text.now }
+    ensures { result ≡ true → numbers.is_integer (take len text.now) ≡ true }
+{
+    len <= SHORT_DIGITS && byte_at(text, 0) > b'0'
 }
 
 fn is_integer(number: &[u8]) -> bool
     ensures { result ≡ numbers.is_integer number.now }
 {
+    let (base, digits) = digits(number);
+    digits.len() > 0 && has_value(base, digits)
+}
+
+/// The base of an integer, and its digits.
+pub fn digits(number: &[u8]) -> (u64, &[u8])
+    ensures base { result.0 ≡ numbers.base number.now }
+    ensures low { 8 ≤ result.0 }
+    ensures high { result.0 ≤ 16 }
+    ensures digits { result.1.now ≡ numbers.digits number.now }
+{
     if is_hexadecimal(number) {
-        let digits = behind(number, 2);
-        digits.len() > 0 && has_value(16, digits)
+        (16, behind(number, 2))
     } else if byte_at(number, 0) == b'0' && number.len() > 1 {
-        has_value(8, number)
+        (8, number)
     } else {
-        number.len() > 0 && has_value(10, number)
+        (10, number)
     }
 }
 
 /// Whether the bytes are digits of the base, and their value is below 2^63.
-fn has_value(base: u32, digits: &[u8]) -> bool
+fn has_value(base: u64, digits: &[u8]) -> bool
     requires low { 2 ≤ base }
     requires high { base ≤ 16 }
-    ensures { result ≡ spec.has_value base 0 digits.now }
+    ensures { result ≡ (list_all (λ c. is_digit c base) digits.now && nat_lt (digits_value base digits.now) (2 ^ 63)) }
 {
     let mut value: u64 = 0;
-    let mut rest = digits;
-    while let [byte, more @ ..] = rest {
-        let Some(digit) = char::from(*byte).to_digit(base) else {
+    for byte in digits {
+        let digit = digit_value(*byte);
+        if base <= digit {
             return false;
-        };
+        }
         let next = u128::from(value) * u128::from(base) + u128::from(digit);
         if next >= 1 << 63 {
             return false;
         }
         value = next as u64;
-        rest = more;
     }
     true
+}
+
+/// The value of a digit or a letter in the bases up to 36, or 36 where the byte is neither.
+pub fn digit_value(byte: u8) -> u64
+    ensures { result ≡ digit_value byte }
+{
+    if byte.is_ascii_digit() {
+        u64::from(byte - b'0')
+    } else {
+        u64::from(char::from(byte).to_digit(36).unwrap_or(36))
+    }
 }

@@ -1,18 +1,18 @@
 // Strings and quoted names.
-ghost use Rattle.std.specs.Prelude.{◌≡◌, ◌+◌, ◌<◌, ◌≤◌, ◌^◌, length, is_some};
-ghost use Rattle.ad_lexer.specs.Quoted as letters;
+ghost use Rattle.std.specs.Prelude.{◌==◌, ◌||◌, true, ◌≡◌, ◌+◌, ◌<◌, ◌≤◌, ◌^◌, length, is_some};
 ghost use Rattle.ad_lexer.specs.Reading as spec;
 
-use crate::bytes::{behind, byte_at};
+use crate::bytes::{Class, behind, byte_at, run_len};
+use crate::escape::{escaped, is_octal_digit, octal_len, octal_value};
 use crate::fault::LexKind;
 use crate::next::Step;
 use crate::token::TokenKind;
 
-/// What stands at the front of the rest of a string: a letter with its length, the closing quote, the line's or the
-/// text's end, byte 0, or a backslash that no escape follows.
+/// What stands at the front of the rest of a string: a letter with its length and the byte that it means, the closing
+/// quote, the line's or the text's end, byte 0, or a backslash that no escape follows.
 #[derive(Clone, Copy, Debug)]
 pub enum Front {
-    Letter(usize),
+    Letter(usize, u8),
     Close,
     LineEnd,
     Nul,
@@ -47,15 +47,17 @@ pub fn string(text: &[u8]) -> Step
 
 /// The quoted text whose opening quote stands before these bytes, or its fault, with places from that quote.
 fn quoted(kind: TokenKind, quote: u8, text: &[u8]) -> Step
-    requires { length text.now + 1 < 2 ^ 32 }
+    requires quoted { (quote == 34 || quote == 39) ≡ true }
+    requires room { length text.now + 1 < 2 ^ 32 }
     ensures value { result ≡ spec.quoted kind quote 1 0 text.now }
     ensures within { spec.IsWithin (1 + length text.now) result }
 {
-    let mut at = 1;
-    let mut rest = text;
+    let plain = run_len(Class::Plain, text);
+    let mut at = 1 + plain;
+    let mut rest = behind(text, plain);
     loop {
         match front_of(quote, rest) {
-            Front::Letter(len) => {
+            Front::Letter(len, _) => {
                 at += len;
                 rest = behind(rest, len);
             }
@@ -68,7 +70,7 @@ fn quoted(kind: TokenKind, quote: u8, text: &[u8]) -> Step
 }
 
 #[tactic(auto, unfolding(crate::specs::Reading::front))]
-fn front_of(quote: u8, text: &[u8]) -> Front
+pub fn front_of(quote: u8, text: &[u8]) -> Front
     ensures value { result ≡ spec.front quote text.now }
     ensures within { spec.IsLetterWithin 0 (length text.now) result }
 {
@@ -82,7 +84,7 @@ fn front_of(quote: u8, text: &[u8]) -> Front
         b'\n' => Front::LineEnd,
         0 => Front::Nul,
         b'\\' => escape(rest),
-        _ => Front::Letter(1),
+        _ => Front::Letter(1, *byte),
     }
 }
 
@@ -95,20 +97,10 @@ fn escape(text: &[u8]) -> Front
     let [byte, ..] = text else {
         return Front::LineEnd;
     };
-    if is_escape(*byte) {
-        Front::Letter(2)
-    } else {
-        octal(*byte, byte_at(text, 1), byte_at(text, 2))
+    match escaped(*byte) {
+        Some(meant) => Front::Letter(2, meant),
+        None => octal(*byte, byte_at(text, 1), byte_at(text, 2)),
     }
-}
-
-fn is_escape(byte: u8) -> bool
-    ensures { result ≡ is_some (letters.escaped byte) }
-{
-    matches!(
-        byte,
-        b'b' | b't' | b'n' | b'f' | b'r' | b'\\' | b'"' | b'\''
-    )
 }
 
 #[tactic(auto, unfolding(crate::specs::Reading::octal))]
@@ -116,33 +108,10 @@ fn octal(first: u8, second: u8, third: u8) -> Front
     ensures value { result ≡ spec.octal first second third }
     ensures within { spec.HasOctal second third result }
 {
-    if !is_octal_digit(first) {
-        return Front::Backslash;
-    }
-    let one = u32::from(first - b'0');
-    if !is_octal_digit(second) {
-        return octal_of(2, one);
-    }
-    let two = one * 8 + u32::from(second - b'0');
-    if !is_octal_digit(third) {
-        return octal_of(3, two);
-    }
-    octal_of(4, two * 8 + u32::from(third - b'0'))
-}
-
-fn is_octal_digit(byte: u8) -> bool
-    ensures { result ≡ letters.is_octal_digit byte }
-{
-    b'0' <= byte && byte <= b'7'
-}
-
-/// The letter of this length, where its value is from 1 to 127.
-fn octal_of(len: usize, value: u32) -> Front
-    ensures { result ≡ spec.octal_of len value }
-{
-    if value == 0 || value > 127 {
-        Front::Backslash
+    let value = octal_value(first, second, third);
+    if is_octal_digit(first) && 0 < value && value < 128 {
+        Front::Letter(octal_len(second, third), value as u8)
     } else {
-        Front::Letter(len)
+        Front::Backslash
     }
 }

@@ -1,5 +1,5 @@
 // Symbols.
-ghost use Rattle.std.specs.Prelude.{◌≡◌, ◌<◌, ◌≤◌, ◌∷◌, [], length, true};
+ghost use Rattle.std.specs.Prelude.{◌≡◌, ◌<◌, ◌≤◌, ◌∷◌, [], length};
 ghost use Rattle.ad_lexer.specs.Reading as spec;
 ghost use Rattle.ad_lexer.specs.Symbols.{is_symbol};
 
@@ -31,66 +31,48 @@ fn symbol_len(first: u8, second: u8, third: u8) -> usize
     ensures value { result ≡ spec.symbol_len first second third }
     ensures within { (result ≤ 3) × (2 ≤ result → 0 < second) × (3 ≤ result → 0 < third) }
 {
-    if is_triple(first, second, third) {
-        3
-    } else if is_double(first, second) {
-        2
-    } else if is_single(first) {
-        1
-    } else {
-        0
-    }
-}
-
-fn is_triple(first: u8, second: u8, third: u8) -> bool
-    ensures value { result ≡ is_symbol (first ∷ second ∷ third ∷ []) }
-    ensures within { result ≡ true → (0 < second) × (0 < third) }
-{
     match first {
-        b'=' => (second == b'?' || second == b'!') && third == b'=',
-        b'>' => second == b'>' && third == b'>',
-        _ => false,
+        b'=' => equals_len(second, third),
+        b'>' => greater_len(second, third),
+        b'<' if second == b'<' || second == b'=' => 2,
+        b'!' if second == b'=' => 2,
+        b'&' | b'|' if second == first => 2,
+        _ if is_single(first) => 1,
+        _ => 0,
     }
 }
 
-fn is_double(first: u8, second: u8) -> bool
-    ensures value { result ≡ is_symbol (first ∷ second ∷ []) }
-    ensures within { result ≡ true → 0 < second }
+#[tactic(auto, unfolding(crate::specs::Reading::symbol_len))]
+fn equals_len(second: u8, third: u8) -> usize
+    ensures value { result ≡ spec.symbol_len 61 second third }
+    ensures within { (result ≤ 3) × (2 ≤ result → 0 < second) × (3 ≤ result → 0 < third) }
 {
     match second {
-        b'=' => first == b'=' || first == b'!' || first == b'<' || first == b'>',
-        b'|' | b'&' | b'<' | b'>' => first == second,
-        _ => false,
+        b'=' => 2,
+        b'?' | b'!' if third == b'=' => 3,
+        _ => 1,
+    }
+}
+
+#[tactic(auto, unfolding(crate::specs::Reading::symbol_len))]
+fn greater_len(second: u8, third: u8) -> usize
+    ensures value { result ≡ spec.symbol_len 62 second third }
+    ensures within { (result ≤ 3) × (2 ≤ result → 0 < second) × (3 ≤ result → 0 < third) }
+{
+    match second {
+        b'>' if third == b'>' => 3,
+        b'>' | b'=' => 2,
+        _ => 1,
     }
 }
 
 fn is_single(byte: u8) -> bool
     ensures { result ≡ is_symbol (byte ∷ []) }
 {
-    matches!(
-        byte,
-        b'(' | b')'
-            | b'['
-            | b']'
-            | b'{'
-            | b'}'
-            | b','
-            | b';'
-            | b'.'
-            | b'='
-            | b'?'
-            | b':'
-            | b'|'
-            | b'^'
-            | b'&'
-            | b'<'
-            | b'>'
-            | b'+'
-            | b'-'
-            | b'*'
-            | b'/'
-            | b'%'
-            | b'!'
-            | b'~'
-    )
+    match byte {
+        b'(' | b')' | b'[' | b']' | b'{' | b'}' | b',' | b';' | b'.' | b':' | b'?' => true,
+        b'+' | b'-' | b'*' | b'/' | b'%' | b'<' | b'>' | b'=' | b'!' => true,
+        b'|' | b'^' | b'&' | b'~' => true,
+        _ => false,
+    }
 }

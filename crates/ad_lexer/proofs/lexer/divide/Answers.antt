@@ -2,7 +2,7 @@ use Rattle.std.proofs.Common.{◌≡◌, ℕ, ◌+◌, ◌-◌, true, List, ◌�
 use Rattle.ad_lexer.specs.declared.token.Span.{Span}
 use Rattle.ad_lexer.specs.Spans.{lexemes_of, are_within}
 use Rattle.ad_lexer.specs.Tokens.{Tokens, Answers}
-use Rattle.ad_lexer.proofs.Reached.{Reached, span_at, reached_blank, reached_span, within_push, reached_end, reached_fault}
+use Rattle.ad_lexer.proofs.Texts.{Reached, span_at, reached_blank, reached_span, within_push, reached_end, reached_fault}
 use Rattle.ad_lexer.proofs.lexer.divide.Goals as goal
 
 pub returns-in-End : goal.returns-in-End

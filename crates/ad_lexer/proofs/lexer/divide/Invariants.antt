@@ -1,6 +1,6 @@
 use Rattle.std.proofs.Common.{◌≡◌, ◌+◌, length, true}
 use Rattle.ad_lexer.specs.Spans.{lexemes_of, are_within}
-use Rattle.ad_lexer.proofs.Reached.{Reached}
+use Rattle.ad_lexer.proofs.Texts.{Reached}
 use Rattle.ad_lexer.proofs.lexer.divide.Given as goal
 
 abbrev pub invariant-loop-spans : goal.invariant-loop-spans

@@ -1,7 +1,7 @@
 use Rattle.std.proofs.Common.{sym, subst, refl, inl, Err}
 use Rattle.std.specs.Str.{IsValidUpTo}
 use Rattle.ad_lexer.specs.Tokens.{Answers}
-use Rattle.ad_lexer.proofs.Reached.{answers_tokens, answers_fault}
+use Rattle.ad_lexer.proofs.Texts.{answers_tokens, answers_fault}
 use Rattle.ad_lexer.proofs.lexer.lex.Goals as goal
 
 pub returns-in-Ok-clause-tokens : goal.returns-in-Ok-clause-tokens

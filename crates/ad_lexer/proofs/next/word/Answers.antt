@@ -1,4 +1,3 @@
-use Rattle.std.proofs.Common.{sym}
 use Rattle.std.proofs.Common.{◌<◌, subst, sym}
 use Rattle.ad_lexer.proofs.Begins.{word_some}
 use Rattle.ad_lexer.proofs.next.word.Goals as goal

@@ -8,17 +8,17 @@ use Rattle.ad_grammar.specs.declared.mark.Mark.TheVariants.{OpenParen, OpenBrack
 use Rattle.ad_grammar.specs.declared.program.Infix.{Infix}
 use Rattle.ad_grammar.specs.declared.program.Infix.TheVariants as infixes
 use Rattle.ad_grammar.specs.Grammar.{IsNoScope}
-use Rattle.ad_grammar.specs.Shapes.{looseness, infix_of}
+use Rattle.ad_grammar.specs.Shapes.{precedence, infix_of}
 use Rattle.ad_grammar.specs.Words.{Word, mark}
-use Rattle.ad_grammar.specs.Rules.{Reading, Rule, several_behind, suffixes, postfix, prefix_word, prefixed_or, prefixes, at_looseness, infix_at, operation_or, operations, choice_behind}
+use Rattle.ad_grammar.specs.Rules.{Reading, Rule, several_behind, suffixes, postfix, prefix_word, prefixed_or, prefixes, at_precedence, infix_at, operation_or, operations, choice_behind}
 
--- the lowest level at which such a word goes on: 0 behind an operand, then the looseness of an operator, 11 for a
+-- the lowest level at which such a word goes on: 0 behind an operand, then the precedence of an operator, 11 for a
 -- conditional, 12 for one more expression; 13 is none of these
 abbrev pub level_of : Mark → ℕ
 level_of Dot = 0
 level_of OpenBracket = 0
 level_of OpenParen = 0
-level_of (Binary op) = looseness op
+level_of (Binary op) = precedence op
 level_of And = 9
 level_of Or = 10
 level_of Question = 11
@@ -58,27 +58,27 @@ several-stop more x (mark Comma ∷ rest) h = absurd (omega arith)
 several-stop more x rest h = refl
 
 -- operators
-at_looseness-none : (k : ℕ) (found : ℕ × Infix) (ws : List Word) → k < found.0 → at_looseness k (Some found) ws ≡ None
-at_looseness-none k found ws h = grind (arith, nat_tests)
+at_precedence-none : (k : ℕ) (found : ℕ × Infix) (ws : List Word) → k < found.0 → at_precedence k (Some found) ws ≡ None
+at_precedence-none k found ws h = grind (arith, nat_tests)
 
 infix_at-none : (k : ℕ) (rest : List Word) → k < level_behind rest → infix_at k rest ≡ None
-infix_at-none k (mark (Binary op) ∷ rest) h = at_looseness-none k (looseness op, infixes.Binary op) rest h
-infix_at-none k (mark And ∷ rest) h = at_looseness-none k (9, infixes.And) rest h
-infix_at-none k (mark Or ∷ rest) h = at_looseness-none k (10, infixes.Or) rest h
+infix_at-none k (mark (Binary op) ∷ rest) h = at_precedence-none k (precedence op, infixes.Binary op) rest h
+infix_at-none k (mark And ∷ rest) h = at_precedence-none k (9, infixes.And) rest h
+infix_at-none k (mark Or ∷ rest) h = at_precedence-none k (10, infixes.Or) rest h
 infix_at-none k rest h = refl
 
 pub infix_at-is : (k : ℕ) (m : Mark) (op : Infix) (rest : List Word)
     → infix_of m ≡ Some (k, op) → infix_at k (mark m ∷ rest) ≡ Some (op, rest)
 infix_at-is k m op rest e = rw e (grind (arith, nat_tests))
 
-abbrev looseness_in : Option (ℕ × Infix) → ℕ
-looseness_in None = 0
-looseness_in (Some found) = found.0
+abbrev precedence_in : Option (ℕ × Infix) → ℕ
+precedence_in None = 0
+precedence_in (Some found) = found.0
 
 pub level_of-infix : (k : ℕ) (m : Mark) (op : Infix) → infix_of m ≡ Some (k, op) → level_of m ≡ k
-level_of-infix k (Binary op) other e = ap looseness_in e
-level_of-infix k And op e = ap looseness_in e
-level_of-infix k Or op e = ap looseness_in e
+level_of-infix k (Binary op) other e = ap precedence_in e
+level_of-infix k And op e = ap precedence_in e
+level_of-infix k Or op e = ap precedence_in e
 level_of-infix k m op e = absurd cc
 
 pub operations-stop : (tight : Rule) (k n : ℕ) (x : Inline) (rest : List Word)

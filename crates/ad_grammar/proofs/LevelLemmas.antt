@@ -3,8 +3,8 @@ use Rattle.std.proofs.Common.{refl, arith, ◌≡◌, ℕ, zero, suc, ◌+◌, �
 use Rattle.std.proofs.lemmas.Bool.Decides.{nat_tests}
 use Rattle.ad_tree.specs.Inline.{Inline}
 use Rattle.ad_grammar.specs.declared.program.Infix.{Infix}
-use Rattle.ad_grammar.specs.Levels.{looseness_at, climb}
-use Rattle.ad_grammar.specs.Rules.{Rule, Reading, and_then, prefixes, at_looseness, infix_at, operation_or, operations, level_at}
+use Rattle.ad_grammar.specs.Levels.{precedence_at, climb}
+use Rattle.ad_grammar.specs.Rules.{Rule, Reading, and_then, prefixes, at_precedence, infix_at, operation_or, operations, level_at}
 use Rattle.ad_grammar.specs.Shapes.{infix_of}
 use Rattle.ad_grammar.specs.Words.{Word, plain, quoted, constant, mark}
 
@@ -43,41 +43,41 @@ level-none e k ws none =
     ap (λ j. level_at e j ws) same ∙ level-climbs e 0 k ws ∙ ap (λ r. and_then r (climb e 0 k)) none
 
 -- an operator of another level isn't taken
-other-than : (k : ℕ) (found : ℕ × Infix) (ws : List Word) → (k ≡ found.0 → ⊥) → at_looseness k (Some found) ws ≡ None
+other-than : (k : ℕ) (found : ℕ × Infix) (ws : List Word) → (k ≡ found.0 → ⊥) → at_precedence k (Some found) ws ≡ None
 other-than k found ws other = by (found.0 == k) refl
   where
     by : (b : Bool) → (found.0 == k) ≡ b → if◌then◌else◌ {A = Reading Infix} b (Some (found.1, ws)) None ≡ None
     by true is = let same : k ≡ found.0 = grind (arith, nat_tests) in absurd (other same)
     by false is = refl
 
-at_looseness-none : (k : ℕ) (found : Option (ℕ × Infix)) (ws : List Word) → ((j : ℕ) → option_map (λ f. f.0) found ≡ Some j → (k ≡ j → ⊥)) → at_looseness k found ws ≡ None
-at_looseness-none k None ws other = refl
-at_looseness-none k (Some found) ws other = other-than k found ws (other found.0 refl)
+at_precedence-none : (k : ℕ) (found : Option (ℕ × Infix)) (ws : List Word) → ((j : ℕ) → option_map (λ f. f.0) found ≡ Some j → (k ≡ j → ⊥)) → at_precedence k found ws ≡ None
+at_precedence-none k None ws other = refl
+at_precedence-none k (Some found) ws other = other-than k found ws (other found.0 refl)
 
-infix-none : (k : ℕ) (ws : List Word) → ((j : ℕ) → looseness_at ws ≡ Some j → k ≡ j → ⊥) → infix_at k ws ≡ None
+infix-none : (k : ℕ) (ws : List Word) → ((j : ℕ) → precedence_at ws ≡ Some j → k ≡ j → ⊥) → infix_at k ws ≡ None
 infix-none k [] other = refl
 infix-none k (plain t ∷ ws) other = refl
 infix-none k (quoted t ∷ ws) other = refl
 infix-none k (constant l ∷ ws) other = refl
-infix-none k (mark m ∷ ws) other = at_looseness-none k (infix_of m) ws other
+infix-none k (mark m ∷ ws) other = at_precedence-none k (infix_of m) ws other
 
 operations-none : (tight : Rule) (k n : ℕ) (x : Inline) (ws : List Word) → infix_at k ws ≡ None → operations tight k n x ws ≡ Some (x, ws)
 operations-none tight k zero x ws none = refl
 operations-none tight k (suc n) x ws none = ap (operation_or tight (operations tight k n) x ws) none
 
-pass : (e : Rule) (k n : ℕ) (x : Inline) (ws : List Word) → ((j : ℕ) → looseness_at ws ≡ Some j → suc k ≡ j → ⊥) → climb e k (suc n) x ws ≡ climb e (suc k) n x ws
+pass : (e : Rule) (k n : ℕ) (x : Inline) (ws : List Word) → ((j : ℕ) → precedence_at ws ≡ Some j → suc k ≡ j → ⊥) → climb e k (suc n) x ws ≡ climb e (suc k) n x ws
 pass e k n x ws other =
     ap (λ r. and_then r (climb e (suc k) n)) (operations-none (level_at e k) (suc k) (length ws) x ws (infix-none (suc k) ws other))
 
 -- no level's operator stands next
-passes : (e : Rule) (k n : ℕ) (x : Inline) (ws : List Word) → ((j : ℕ) → looseness_at ws ≡ Some j → k < j → j ≤ k + n → ⊥) → climb e k n x ws ≡ Some (x, ws)
+passes : (e : Rule) (k n : ℕ) (x : Inline) (ws : List Word) → ((j : ℕ) → precedence_at ws ≡ Some j → k < j → j ≤ k + n → ⊥) → climb e k n x ws ≡ Some (x, ws)
 passes e k zero x ws other = refl
 passes e k (suc n) x ws other =
     pass e k n x ws (λ j stands is. other j stands (omega arith) (omega arith))
     ∙ passes e (suc k) n x ws (λ j stands above within. other j stands (omega arith) (omega arith))
 
 -- the operator that stands next is of a later level
-reaches : (e : Rule) (k d m : ℕ) (x : Inline) (ws : List Word) → looseness_at ws ≡ Some (suc (k + d))
+reaches : (e : Rule) (k d m : ℕ) (x : Inline) (ws : List Word) → precedence_at ws ≡ Some (suc (k + d))
     → climb e k (d + suc m) x ws ≡ and_then (operations (level_at e (k + d)) (suc (k + d)) (length ws) x ws) (climb e (suc (k + d)) m)
 reaches e k zero m x ws stands =
     let same : k ≡ k + zero = omega arith in
@@ -95,10 +95,10 @@ reaches e k (suc d) m x ws stands =
 -- ---- the turns of the climb ----
 
 module _ (e : Rule) (w : Reading (Inline)) (k l : ℕ) (x : Inline) (ws : List Word) (inv : w ≡ climb e k (l - k) x ws) where
-  pub climb-end : (k ≤ l) → ((j : ℕ) → looseness_at ws ≡ Some j → k < j → j ≤ l → ⊥) → w ≡ Some (x, ws)
+  pub climb-end : (k ≤ l) → ((j : ℕ) → precedence_at ws ≡ Some j → k < j → j ≤ l → ⊥) → w ≡ Some (x, ws)
   climb-end below other = inv ∙ passes e k (l - k) x ws (λ j stands above within. other j stands above (omega arith))
 
-  module _ (j : ℕ) (above : k < j) (within : j ≤ l) (stands : looseness_at ws ≡ Some j) where
+  module _ (j : ℕ) (above : k < j) (within : j ≤ l) (stands : precedence_at ws ≡ Some j) where
     reached : climb e k (l - k) x ws ≡ and_then (operations (level_at e (j - 1)) j (length ws) x ws) (climb e j (l - j))
     reached =
         let d : ℕ = j - k - 1 in

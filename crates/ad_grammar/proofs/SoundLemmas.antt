@@ -12,7 +12,7 @@ use Rattle.ad_grammar.specs.declared.program.Infix.{Infix}
 use Rattle.ad_grammar.specs.Shapes.{over_one, over_two, joined, infix_of}
 use Rattle.ad_grammar.specs.Words.{Word, plain, quoted, constant, mark, scope_of}
 use Rattle.ad_grammar.specs.Grammar.{IsName, plain_name, quoted_name, IsNoScope, IsExpr, conditional, level, IsLevel, operation, tighter, single, IsUnary, prefixed, bare, IsPostfix, selection, subscripted, operand, IsPrimary, constant_operand, scoped, own, called, named, listed, ad_literal, grouped, IsList, nothing, something, IsSeveral, last_one, one_more, IsAd, empty_ad, full_ad, IsDefs, last_def, closed_def, more_defs}
-use Rattle.ad_grammar.specs.Rules.{Reading, Rule, several_behind, several, arguments, elements, definitions_behind, definitions_at, ad_behind, named_in, plain_at, primary, suffixes, postfix, prefix_word, prefixed_or, prefixes, at_looseness, infix_at, operation_or, operations, level_at, choice_behind, conditionals, expression, whole}
+use Rattle.ad_grammar.specs.Rules.{Reading, Rule, several_behind, several, arguments, elements, definitions_behind, definitions_at, ad_behind, named_in, plain_at, primary, suffixes, postfix, prefix_word, prefixed_or, prefixes, at_precedence, infix_at, operation_or, operations, level_at, choice_behind, conditionals, expression, whole}
 use Rattle.ad_grammar.proofs.Readings.{Holds, none, gives, and_then-holds, holds-more, name_at-holds, Before, close_paren-holds, close_bracket-holds, close_brace-holds, colon-holds, assigned-holds, prefix_word-mark}
 
 -- words in front are of a relation, by the value that is read
@@ -81,17 +81,17 @@ start front rest split of h = gives _ rest (part front split (of, ready front re
 abbrev ReadsInfix : ℕ → List Word → Infix → List Word → Type 0
 ReadsInfix k ws op rest = (m : Mark) × (ws ≡ mark m ∷ rest) × (infix_of m ≡ Some (k, op))
 
-at_looseness-holds : (k : ℕ) (m : Mark) (known : Option (ℕ × Infix)) → infix_of m ≡ known
-    → (ws : List Word) → Holds (ReadsInfix k (mark m ∷ ws)) (at_looseness k known ws)
-at_looseness-holds k m None is ws = none
-at_looseness-holds k m (Some (j, op)) is ws = by (j == k) refl
+at_precedence-holds : (k : ℕ) (m : Mark) (known : Option (ℕ × Infix)) → infix_of m ≡ known
+    → (ws : List Word) → Holds (ReadsInfix k (mark m ∷ ws)) (at_precedence k known ws)
+at_precedence-holds k m None is ws = none
+at_precedence-holds k m (Some (j, op)) is ws = by (j == k) refl
   where
     by : (b : Bool) → (j == k) ≡ b → Holds (ReadsInfix k (mark m ∷ ws)) (if b then Some (op, ws) else None)
     by true e = let same : j ≡ k = grind (arith, nat_tests) in gives _ _ (m, refl, is ∙ ap (λ i. Some (i, op)) same)
     by false e = none
 
 infix_at-holds : (k : ℕ) (ws : List Word) → Holds (ReadsInfix k ws) (infix_at k ws)
-infix_at-holds k (mark m ∷ ws) = at_looseness-holds k m (infix_of m) refl ws
+infix_at-holds k (mark m ∷ ws) = at_precedence-holds k m (infix_of m) refl ws
 infix_at-holds k ws = none
 
 module _ (e : Rule) (inner_sound : IsSound IsExpr e) where

@@ -8,8 +8,8 @@ use Rattle.ad_grammar.specs.HeldMarks.{front_mark}
 use Rattle.ad_grammar.specs.Words.{Word}
 
 -- how loosely the operator between operands binds that is the first word
-abbrev pub looseness_at : List Word → Option ℕ
-looseness_at ws = option_and_then (λ m. option_map (λ found. found.0) (infix_of m)) (front_mark ws)
+abbrev pub precedence_at : List Word → Option ℕ
+precedence_at ws = option_and_then (λ m. option_map (λ found. found.0) (infix_of m)) (front_mark ws)
 
 -- behind an operand that binds as tightly as k, the operators of the next n levels, one level after another
 abbrev pub climb : Rule → ℕ → ℕ → Inline → List Word → Reading Inline

@@ -123,15 +123,15 @@ prefixes e [] = None
 prefixes e (w ∷ ws) = prefixed_or (prefix_word w) (prefixes e ws) (postfix e (w ∷ ws))
 
 -- the operator that binds this loosely at the front
-abbrev pub at_looseness : ℕ → Option (ℕ × Infix) → List Word → Reading Infix
-at_looseness k None ws = None
-at_looseness k (Some found) ws = if found.0 == k then Some (found.1, ws) else None
+abbrev pub at_precedence : ℕ → Option (ℕ × Infix) → List Word → Reading Infix
+at_precedence k None ws = None
+at_precedence k (Some found) ws = if found.0 == k then Some (found.1, ws) else None
 
 abbrev pub infix_at : ℕ → List Word → Reading Infix
-infix_at k (mark m ∷ ws) = at_looseness k (infix_of m) ws
+infix_at k (mark m ∷ ws) = at_precedence k (infix_of m) ws
 infix_at k ws = None
 
--- operators of one looseness behind an operand, each with its right operand
+-- operators of one precedence behind an operand, each with its right operand
 abbrev pub operation_or : Rule → (Inline → List Word → Reading Inline) → Inline → List Word → Reading Infix → Reading Inline
 operation_or tight more x ws None = Some (x, ws)
 operation_or tight more x ws (Some found) = and_then (tight found.1) (λ y. more (joined found.0 x y))

@@ -37,31 +37,31 @@ joined infixes.Or (shape any xs) y = shape any (followed_by xs y)
 joined infixes.Or x y = over_two any x y
 joined (infixes.Binary op) x y = over_two (binary op) x y
 
--- how loosely an operator binds, from 1 for `*` to 8 for `|`
-abbrev pub looseness : BinOp → ℕ
-looseness Mul = 1
-looseness Div = 1
-looseness Rem = 1
-looseness Add = 2
-looseness Sub = 2
-looseness ShiftLeft = 3
-looseness ShiftRight = 3
-looseness ShiftZero = 3
-looseness Less = 4
-looseness AtMost = 4
-looseness Greater = 4
-looseness AtLeast = 4
-looseness Equal = 5
-looseness Unequal = 5
-looseness Same = 5
-looseness NotSame = 5
-looseness BitAnd = 6
-looseness BitXor = 7
-looseness BitOr = 8
+-- the precedence of an operator: how loosely it binds, from 1 for `*` to 8 for `|`
+abbrev pub precedence : BinOp → ℕ
+precedence Mul = 1
+precedence Div = 1
+precedence Rem = 1
+precedence Add = 2
+precedence Sub = 2
+precedence ShiftLeft = 3
+precedence ShiftRight = 3
+precedence ShiftZero = 3
+precedence Less = 4
+precedence AtMost = 4
+precedence Greater = 4
+precedence AtLeast = 4
+precedence Equal = 5
+precedence Unequal = 5
+precedence Same = 5
+precedence NotSame = 5
+precedence BitAnd = 6
+precedence BitXor = 7
+precedence BitOr = 8
 
--- the operator that a mark is between two operands, and how loosely it binds: 9 for `&&`, 10 for `||`
+-- the operator that a mark is between two operands, and its precedence: 9 for `&&`, 10 for `||`
 abbrev pub infix_of : Mark → Option (ℕ × Infix)
-infix_of (Binary op) = Some (looseness op, infixes.Binary op)
+infix_of (Binary op) = Some (precedence op, infixes.Binary op)
 infix_of And = Some (9, infixes.And)
 infix_of Or = Some (10, infixes.Or)
 infix_of m = None

@@ -19,8 +19,8 @@ use ad_tree::Scope;
 use pool_text::{OutOfMemory, Text, UnOp};
 use std::alloc::Global;
 
-/// How loosely `||` binds, the loosest of the operators between two operands.
-const LOOSEST: usize = 10;
+/// The precedence of `||`, which binds least tightly of the operators between two operands.
+const LAST_PRECEDENCE: usize = 10;
 
 /// An expression. A literal alone, as most definitions have, is told by the mark behind it, and read at once.
 #[cycle(grammar)]
@@ -56,7 +56,7 @@ fn conditionals(
     let mut turns = reader.count() + 1;
     while turns > 0 {
         turns -= 1;
-        level(alloc, reader, program, fuel, LOOSEST)?;
+        level(alloc, reader, program, fuel, LAST_PRECEDENCE)?;
         if !reader.takes(Mark::Question) {
             return Ok(program.choose(pending)?);
         }
@@ -74,13 +74,13 @@ fn level(
     reader: &mut Reader<'_>,
     program: &mut Program,
     fuel: usize,
-    looseness: usize,
+    precedence: usize,
 ) -> Result<(), Stop>
-    ensures { Puts (rules.level_at (rules.expression fuel) looseness (left reader.old))
+    ensures { Puts (rules.level_at (rules.expression fuel) precedence (left reader.old))
         result (left reader.new) (stack program.old) (stack program.new) }
 {
     prefixes(alloc, reader, program, fuel)?;
-    climb(alloc, reader, program, fuel, looseness)
+    climb(alloc, reader, program, fuel, precedence)
 }
 
 /// Operators that bind at most this loosely behind an operand, level by level from the tightest. Levels whose operators
@@ -91,40 +91,40 @@ fn climb(
     reader: &mut Reader<'_>,
     program: &mut Program,
     fuel: usize,
-    looseness: usize,
+    precedence: usize,
 ) -> Result<(), Stop>
-    ensures { Puts (climb (rules.expression fuel) 0 looseness (top (stack program.old)) (left reader.old))
+    ensures { Puts (climb (rules.expression fuel) 0 precedence (top (stack program.old)) (left reader.old))
         result (left reader.new) (below (stack program.old)) (stack program.new) }
 {
     let mut reached = 0;
-    while let Some(next) = reader.looseness(reached, looseness) {
+    while let Some(next) = reader.precedence(reached, precedence) {
         operations(alloc, reader, program, fuel, next)?;
         reached = next;
     }
     Ok(())
 }
 
-/// Operators of one looseness behind an operand, each with its right operand.
+/// Operators of one precedence behind an operand, each with its right operand.
 #[cycle(grammar)]
 fn operations(
     alloc: Global,
     reader: &mut Reader<'_>,
     program: &mut Program,
     fuel: usize,
-    looseness: usize,
+    precedence: usize,
 ) -> Result<(), Stop>
-    requires { 1 ≤ looseness }
-    ensures { Puts (rules.operations (rules.level_at (rules.expression fuel) (looseness - 1)) looseness
+    requires { 1 ≤ precedence }
+    ensures { Puts (rules.operations (rules.level_at (rules.expression fuel) (precedence - 1)) precedence
         (length (left reader.old)) (top (stack program.old)) (left reader.old))
         result (left reader.new) (below (stack program.old)) (stack program.new) }
 {
     let mut turns = reader.count();
     while turns > 0 {
         turns -= 1;
-        let Some(operator) = reader.infix(looseness) else {
+        let Some(operator) = reader.infix(precedence) else {
             return Ok(());
         };
-        level(alloc, reader, program, fuel, looseness - 1)?;
+        level(alloc, reader, program, fuel, precedence - 1)?;
         program.push(Instruction::Infix(operator))?;
     }
     Ok(())

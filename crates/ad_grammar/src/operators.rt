@@ -1,26 +1,26 @@
 // The tables of operators.
 ghost use Rattle.std.specs.Prelude.{◌≡◌};
-ghost use Rattle.ad_grammar.specs.Shapes.{infix_of, looseness, prefix_of};
+ghost use Rattle.ad_grammar.specs.Shapes.{infix_of, precedence, prefix_of};
 ghost use Rattle.ad_grammar.specs.HeldMarks.{ends};
 
 use crate::mark::Mark;
 use crate::program::Infix;
 use pool_text::{BinOp, UnOp};
 
-/// The operator that a mark is between two operands, and how loosely it binds.
+/// The operator that a mark is between two operands, and its precedence.
 pub fn infix_of(mark: Mark) -> Option<(usize, Infix)>
     ensures { result ≡ infix_of mark }
 {
     match mark {
-        Mark::Binary(op) => Some((looseness(op), Infix::Binary(op))),
+        Mark::Binary(op) => Some((precedence(op), Infix::Binary(op))),
         Mark::And => Some((9, Infix::And)),
         Mark::Or => Some((10, Infix::Or)),
         _ => None,
     }
 }
 
-fn looseness(op: BinOp) -> usize
-    ensures { result ≡ looseness op }
+fn precedence(op: BinOp) -> usize
+    ensures { result ≡ precedence op }
 {
     match op {
         BinOp::Mul | BinOp::Div | BinOp::Rem => 1,

@@ -27,7 +27,7 @@ pub struct Reader<'a> {
 impl<'a> Reader<'a> {
     ghost use Rattle.std.specs.Prelude.{◌<◌, ◌∷◌, ◌^◌, ℕ, List, drop, map, option_map, Some, None, Ok, Err, IfOk, OnOk};
     ghost use Rattle.std.specs.Bool.{Decides};
-    ghost use Rattle.ad_grammar.specs.Levels.{looseness_at};
+    ghost use Rattle.ad_grammar.specs.Levels.{precedence_at};
     ghost use Rattle.ad_grammar.specs.Meaning.{meaning};
     ghost use Rattle.ad_grammar.specs.Nesting.{nests_too_deep};
     ghost use Rattle.ad_grammar.specs.Rules.{name_at, infix_at};
@@ -182,14 +182,13 @@ impl<'a> Reader<'a> {
         }
     }
 
-    /// How loosely the operator between operands binds that stands next, where it binds more loosely than `tighter` and at
-    /// most as loosely as `loosest`.
-    pub(crate) fn looseness(&self, tighter: usize, loosest: usize) -> Option<usize>
-        ensures some { (n : ℕ) → result ≡ Some n → (looseness_at (left self.now) ≡ Some n) × (tighter < n) × (n ≤ loosest) }
-        ensures none { result ≡ None → (n : ℕ) → looseness_at (left self.now) ≡ Some n → tighter < n → n ≤ loosest → ⊥ }
+    /// The precedence of the operator between operands that stands next, where it is above `tighter` and at most `last`.
+    pub(crate) fn precedence(&self, tighter: usize, last: usize) -> Option<usize>
+        ensures some { (n : ℕ) → result ≡ Some n → (precedence_at (left self.now) ≡ Some n) × (tighter < n) × (n ≤ last) }
+        ensures none { result ≡ None → (n : ℕ) → precedence_at (left self.now) ≡ Some n → tighter < n → n ≤ last → ⊥ }
     {
         let (found, _) = infix_of(self.mark()?)?;
-        if tighter < found && found <= loosest {
+        if tighter < found && found <= last {
             Some(found)
         } else {
             None
@@ -197,12 +196,12 @@ impl<'a> Reader<'a> {
     }
 
     /// Takes an operator that binds so loosely between two operands.
-    pub(crate) fn infix(&mut self, looseness: usize) -> Option<Infix>
-        ensures { Finds (λ (op : Infix). op) (infix_at looseness (left self.old)) result (left self.old) (left self.new) }
+    pub(crate) fn infix(&mut self, precedence: usize) -> Option<Infix>
+        ensures { Finds (λ (op : Infix). op) (infix_at precedence (left self.old)) result (left self.old) (left self.new) }
     {
         let mark = self.mark()?;
         let (found, operator) = infix_of(mark)?;
-        if found != looseness {
+        if found != precedence {
             return None;
         }
         self.skip();

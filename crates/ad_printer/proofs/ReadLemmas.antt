@@ -14,7 +14,7 @@ use Rattle.ad_grammar.specs.Grammar.{IsExpr, IsLevel, IsUnary, IsPostfix, IsPrim
 use Rattle.ad_grammar.specs.declared.program.Infix.{Infix}
 use Rattle.ad_grammar.specs.declared.program.Infix.TheVariants as infixes
 use Rattle.ad_grammar.specs.Made.{begins_with_all, begins_with_any}
-use Rattle.ad_grammar.specs.Shapes.{over_one, over_two, followed_by, joined, looseness, infix_of, prefix_of}
+use Rattle.ad_grammar.specs.Shapes.{over_one, over_two, followed_by, joined, precedence, infix_of, prefix_of}
 use Rattle.ad_grammar.specs.Words.{Word, plain, quoted, constant, mark, word_of_kind}
 use Rattle.ad_grammar.specs.declared.mark.Mark.{Mark}
 use Rattle.ad_grammar.specs.declared.mark.Mark.TheVariants as marks
@@ -130,43 +130,43 @@ unary_reads before.Minus a x r = from_unary (mark (marks.Binary between.Sub) ∷
 unary_reads before.Not a x r = from_unary (mark marks.Not ∷ words_of a) (over_one (unary before.Not) x) (grammar.prefixed (words_of a) marks.Not before.Not x refl (r.as_unary (omega arith)))
 unary_reads before.Complement a x r = from_unary (mark marks.Complement ∷ words_of a) (over_one (unary before.Complement) x) (grammar.prefixed (words_of a) marks.Complement before.Complement x refl (r.as_unary (omega arith)))
 
-looseness-within : (op : BinOp) → (1 ≤ looseness op) × (looseness op ≤ 8)
-looseness-within between.BitOr = (omega arith, omega arith)
-looseness-within between.BitXor = (omega arith, omega arith)
-looseness-within between.BitAnd = (omega arith, omega arith)
-looseness-within between.Equal = (omega arith, omega arith)
-looseness-within between.Unequal = (omega arith, omega arith)
-looseness-within between.Same = (omega arith, omega arith)
-looseness-within between.NotSame = (omega arith, omega arith)
-looseness-within between.Less = (omega arith, omega arith)
-looseness-within between.AtMost = (omega arith, omega arith)
-looseness-within between.Greater = (omega arith, omega arith)
-looseness-within between.AtLeast = (omega arith, omega arith)
-looseness-within between.ShiftLeft = (omega arith, omega arith)
-looseness-within between.ShiftRight = (omega arith, omega arith)
-looseness-within between.ShiftZero = (omega arith, omega arith)
-looseness-within between.Add = (omega arith, omega arith)
-looseness-within between.Sub = (omega arith, omega arith)
-looseness-within between.Mul = (omega arith, omega arith)
-looseness-within between.Div = (omega arith, omega arith)
-looseness-within between.Rem = (omega arith, omega arith)
+precedence-within : (op : BinOp) → (1 ≤ precedence op) × (precedence op ≤ 8)
+precedence-within between.BitOr = (omega arith, omega arith)
+precedence-within between.BitXor = (omega arith, omega arith)
+precedence-within between.BitAnd = (omega arith, omega arith)
+precedence-within between.Equal = (omega arith, omega arith)
+precedence-within between.Unequal = (omega arith, omega arith)
+precedence-within between.Same = (omega arith, omega arith)
+precedence-within between.NotSame = (omega arith, omega arith)
+precedence-within between.Less = (omega arith, omega arith)
+precedence-within between.AtMost = (omega arith, omega arith)
+precedence-within between.Greater = (omega arith, omega arith)
+precedence-within between.AtLeast = (omega arith, omega arith)
+precedence-within between.ShiftLeft = (omega arith, omega arith)
+precedence-within between.ShiftRight = (omega arith, omega arith)
+precedence-within between.ShiftZero = (omega arith, omega arith)
+precedence-within between.Add = (omega arith, omega arith)
+precedence-within between.Sub = (omega arith, omega arith)
+precedence-within between.Mul = (omega arith, omega arith)
+precedence-within between.Div = (omega arith, omega arith)
+precedence-within between.Rem = (omega arith, omega arith)
 
 -- words with a spaced symbol between them
 pub spaced-words : (bytes : List ℕ) (m : Mark) (a b : List Item) → word_of_kind kinds.Symbol bytes ≡ mark m → words_of (a ++ (spaced bytes ++ b)) ≡ words_of a ++ mark m ∷ words_of b
 spaced-words bytes m a b is = words_of-append a (spaced bytes ++ b) ∙ ap (λ w. words_of a ++ w ∷ words_of b) is
 
-pub binary_reads : (op : BinOp) (a b : List Item) (x y : Inline) → ReadsAs (2 + looseness op) (words_of a) x → ReadsAs (1 + looseness op) (words_of b) y → ReadsAs (2 + looseness op) (words_of (a ++ (spaced (infix_bytes op) ++ b))) (over_two (binary op) x y)
+pub binary_reads : (op : BinOp) (a b : List Item) (x y : Inline) → ReadsAs (2 + precedence op) (words_of a) x → ReadsAs (1 + precedence op) (words_of b) y → ReadsAs (2 + precedence op) (words_of (a ++ (spaced (infix_bytes op) ++ b))) (over_two (binary op) x y)
 binary_reads op a b x y r s =
-    let low = looseness-within op in
-    let k : ℕ = looseness op - 1 in
-    let e : looseness op ≡ suc k = omega arith in
+    let low = precedence-within op in
+    let k : ℕ = precedence op - 1 in
+    let e : precedence op ≡ suc k = omega arith in
     let ws : List Word = words_of a ++ mark (marks.Binary op) ∷ words_of b in
     let left : IsLevel (suc k) (words_of a) x = r.at_level (suc k) (omega arith) (omega arith) in
     let right : IsLevel k (words_of b) y = s.at_level k (omega arith) (omega arith) in
     let both : IsLevel (suc k) ws (over_two (binary op) x y) =
     grammar.operation k ws (words_of a) (words_of b) (marks.Binary op) (infixes.Binary op) x y refl (ap (λ (n : ℕ). Some (n, infixes.Binary op)) e) left right
     in
-    reads-by (2 + looseness op) _ ws (over_two (binary op) x y) (spaced-words (infix_bytes op) (marks.Binary op) a b (infix_word op))
+    reads-by (2 + precedence op) _ ws (over_two (binary op) x y) (spaced-words (infix_bytes op) (marks.Binary op) a b (infix_word op))
     (subst (λ (n : ℕ). ReadsAs (2 + n) ws (over_two (binary op) x y)) (sym e) (from_level (suc k) ws (over_two (binary op) x y) (omega arith) (omega arith) both))
 
 -- ---- chains

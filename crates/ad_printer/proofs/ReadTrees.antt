@@ -11,20 +11,20 @@ use Rattle.pool_text.specs.declared.language.Lit.{Lit}
 use Rattle.ad_grammar.specs.Grammar as grammar
 use Rattle.ad_grammar.specs.Grammar.{IsExpr, IsPostfix, IsPrimary, IsList, IsSeveral, IsAd, IsDefs}
 use Rattle.ad_grammar.specs.Made.{IsNameText, IsWritten, IsNode, IsMade, AllMade, DefsMade}
-use Rattle.ad_grammar.specs.Shapes.{leaf, over_one, over_two, over_three, looseness}
+use Rattle.ad_grammar.specs.Shapes.{leaf, over_one, over_two, over_three, precedence}
 use Rattle.ad_grammar.specs.Words.{Word, plain, constant, mark, word_of_kind}
 use Rattle.ad_grammar.specs.declared.mark.Mark.TheVariants as marks
 use Rattle.ad_printer.specs.Pieces.{space, symbol, spaced, then_space, name_piece, scoped, literal_piece, infix_bytes, behind, divided, enclosed}
-use Rattle.ad_printer.specs.Printed.{label_looseness, loose, first_bound, other_bound, grouped, around, pieces, operands, definition_pieces}
+use Rattle.ad_printer.specs.Printed.{label_precedence, loose, first_bound, other_bound, grouped, around, pieces, operands, definition_pieces}
 use Rattle.ad_printer.proofs.WordLemmas.{word_in, words_of, words_of-append, name_word, literal_word}
 use Rattle.ad_printer.proofs.ReadLemmas.{ReadsAs, from_postfix, from_primary, from_expr, reads-by, no_scope-with, closed-words, part_reads, EachReads, unary_reads, spaced-words, binary_reads, all_reads, any_reads}
 
 -- ---- leaves
 
-literal_reads : (lit : Lit) → IsWritten lit → ReadsAs (label_looseness (literal lit)) (words_of (literal_piece lit ∷ [])) (leaf (literal lit))
+literal_reads : (lit : Lit) → IsWritten lit → ReadsAs (label_precedence (literal lit)) (words_of (literal_piece lit ∷ [])) (leaf (literal lit))
 literal_reads lit made =
-    reads-by (label_looseness (literal lit)) (words_of (literal_piece lit ∷ [])) (constant lit ∷ []) (leaf (literal lit)) (ap (λ ws. ws ++ []) (literal_word lit made))
-    (from_primary (label_looseness (literal lit)) (constant lit ∷ []) (leaf (literal lit)) (grammar.constant_operand lit) tt)
+    reads-by (label_precedence (literal lit)) (words_of (literal_piece lit ∷ [])) (constant lit ∷ []) (leaf (literal lit)) (ap (λ ws. ws ++ []) (literal_word lit made))
+    (from_primary (label_precedence (literal lit)) (constant lit ∷ []) (leaf (literal lit)) (grammar.constant_operand lit) tt)
 
 scoped_reads : (scope : Scope) (text : List ℕ) → IsNameText text → ReadsAs 0 (words_of (scoped scope text)) (leaf (name scope text))
 scoped_reads scopes.Bare text made =
@@ -109,7 +109,7 @@ list_reads is each =
     reads-by 0 (words_of (enclosed (codes "{") (codes "}") (then_space (codes ",")) ps)) ws (shape list is) (enclosed-words (codes "{") (codes "}") (then_space (codes ",")) ps)
     (from_primary 0 ws (shape list is) (grammar.listed row ws is refl (row_reads is each)) tt)
 
-node_reads : (label : Label) (is : Inlines) → IsNode label is → EachReads is → ReadsAs (label_looseness label) (words_of (around label (operands (first_bound label) (other_bound label) is))) (shape label is)
+node_reads : (label : Label) (is : Inlines) → IsNode label is → EachReads is → ReadsAs (label_precedence label) (words_of (around label (operands (first_bound label) (other_bound label) is))) (shape label is)
 node_reads (literal lit) end node each = literal_reads lit node.0
 node_reads (literal lit) (next x xs) node each = absurd (omega (arith, node.1))
 node_reads (name scope text) end node each = scoped_reads scope text node.0
@@ -120,8 +120,8 @@ node_reads (unary op) (next x (next y ys)) node each = absurd (omega (arith, nod
 node_reads (binary op) end node each = absurd (omega (arith, node))
 node_reads (binary op) (next x end) node each = absurd (omega (arith, node))
 node_reads (binary op) (next x (next y end)) node each =
-    let first : ℕ = 2 + looseness op in
-    let other : ℕ = 1 + looseness op in
+    let first : ℕ = 2 + precedence op in
+    let other : ℕ = 1 + precedence op in
     binary_reads op (grouped (leb (loose x) first) (pieces x)) (grouped (leb (loose y) other) (pieces y)) x y (part_reads first x each.0) (part_reads other y each.1.0)
 node_reads (binary op) (next x (next y (next z zs))) node each = absurd (omega (arith, node))
 node_reads all end node each = absurd (omega (arith, node.0))

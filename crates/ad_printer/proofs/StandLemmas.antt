@@ -28,7 +28,7 @@ use Rattle.ad_tree.specs.declared.tree.Scope.{Scope}
 use Rattle.ad_tree.specs.declared.tree.Scope.TheVariants as scopes
 use Rattle.ad_grammar.specs.Made.{IsNameText, IsWritten}
 use Rattle.ad_printer.specs.Pieces.{text_of, space, symbol, spaced, then_space, is_plain_name, name_piece, scoped, literal_piece, infix_bytes, behind}
-use Rattle.ad_printer.specs.Printed.{label_looseness}
+use Rattle.ad_printer.specs.Printed.{label_precedence}
 use Rattle.ad_printer.specs.Quotes.{in_quotes}
 use Rattle.ad_printer.proofs.QuoteLemmas.{quotes_stand}
 
@@ -161,7 +161,7 @@ reserved_stands bytes spells utf8 begins = record {
   begins = begins;
 }
 
-pub literal_stands : (lit : Lit) → IsWritten lit → Stands (label_looseness (literal lit)) (literal_piece lit ∷ [])
+pub literal_stands : (lit : Lit) → IsWritten lit → Stands (label_precedence (literal lit)) (literal_piece lit ∷ [])
 literal_stands literals.Undefined made = reserved_stands (codes "undefined") (refl, refl) (ascii_utf8 (codes "undefined") refl) (λ after. refl)
 literal_stands literals.Error made = reserved_stands (codes "error") (refl, refl) (ascii_utf8 (codes "error") refl) (λ after. refl)
 literal_stands (literals.Boolean true) made = reserved_stands (codes "true") (refl, refl) (ascii_utf8 (codes "true") refl) (λ after. refl)

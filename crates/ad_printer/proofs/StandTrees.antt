@@ -16,9 +16,9 @@ use Rattle.ad_lexer.proofs.WordLemmas.{word_bytes}
 use Rattle.ad_tree.specs.Inline.{Inline, shape, inner, Inlines, end, next, Defs, no_defs, def}
 use Rattle.ad_tree.specs.Tree.{Label, literal, name, unary, binary, all, any, choice, select, subscript, call, list}
 use Rattle.ad_grammar.specs.Made.{IsNameText, IsNode, IsMade, AllMade, DefsMade}
-use Rattle.ad_grammar.specs.Shapes.{looseness}
+use Rattle.ad_grammar.specs.Shapes.{precedence}
 use Rattle.ad_printer.specs.Pieces.{text_of, space, symbol, spaced, then_space, name_piece, prefix_bytes, infix_bytes, behind, divided, enclosed}
-use Rattle.ad_printer.specs.Printed.{label_looseness, loose, first_bound, other_bound, grouped, around, pieces, operands, definition_pieces}
+use Rattle.ad_printer.specs.Printed.{label_precedence, loose, first_bound, other_bound, grouped, around, pieces, operands, definition_pieces}
 use Rattle.ad_printer.proofs.StandLemmas.{text-both, Stand, Stand-append, Ahead, ahead-of, ahead-less, ahead-any, Stands, ascii_utf8, put-token, put-space, no_equals, word_first, name_stands, literal_stands, put-selection, scoped_stands, Divider, spaced-divider, infix-divider, comma-divider, semicolon-divider, put-divided, begins-append, AllStand, row-stands}
 
 stands-less : (j k : ℕ) (items : List Item) → j ≤ k → Stands j items → Stands k items
@@ -179,7 +179,7 @@ call_stands text ps spells s =
       begins = λ after. rw (append_assoc text (text_of (symbol (codes "(") ∷ rest)) after) (no_equals (slice_index (text ++ (text_of (symbol (codes "(") ∷ rest) ++ after)) 0) (word_first text (text_of (symbol (codes "(") ∷ rest) ++ after) spells.0));
     }
 
-node_stands : (label : Label) (is : Inlines) → IsNode label is → EachStands is → Stands (label_looseness label) (around label (operands (first_bound label) (other_bound label) is))
+node_stands : (label : Label) (is : Inlines) → IsNode label is → EachStands is → Stands (label_precedence label) (around label (operands (first_bound label) (other_bound label) is))
 node_stands (literal lit) end node each = literal_stands lit node.0
 node_stands (literal lit) (next x xs) node each = absurd (omega (arith, node.1))
 node_stands (name scope text) end node each = scoped_stands scope text node.0
@@ -190,8 +190,8 @@ node_stands (unary op) (next x (next y ys)) node each = absurd (omega (arith, no
 node_stands (binary op) end node each = absurd (omega (arith, node))
 node_stands (binary op) (next x end) node each = absurd (omega (arith, node))
 node_stands (binary op) (next x (next y end)) node each =
-    let first : ℕ = 2 + looseness op in
-    let other : ℕ = 1 + looseness op in
+    let first : ℕ = 2 + precedence op in
+    let other : ℕ = 1 + precedence op in
     divided_stands first other (spaced (infix_bytes op)) (grouped (leb (loose x) first) (pieces x)) (grouped (leb (loose y) other) (pieces y)) (omega arith) (infix-divider op) (part_stands first x each.0) (part_stands other y each.1.0)
 node_stands (binary op) (next x (next y (next z zs))) node each = absurd (omega (arith, node))
 node_stands all end node each = absurd (omega (arith, node.0))

@@ -6,28 +6,28 @@ use Rattle.ad_lexer.specs.Tokens.{Item, token}
 use Rattle.ad_lexer.specs.declared.token.TokenKind.TheVariants as kinds
 use Rattle.ad_tree.specs.Inline.{Inline, shape, inner, Inlines, end, next, Defs, no_defs, def}
 use Rattle.ad_tree.specs.Tree.{Label, literal, name, unary, binary, all, any, choice, select, subscript, call, list}
-use Rattle.ad_grammar.specs.Shapes.{looseness}
+use Rattle.ad_grammar.specs.Shapes.{precedence}
 use Rattle.ad_printer.specs.Pieces.{text_of, space, symbol, spaced, then_space, name_piece, scoped, literal_piece, prefix_bytes, infix_bytes, divided, enclosed}
 
 -- how loosely a node binds: 0 before a dot and all, 1 an integer, 2 an operator before its operand, then the operators
 -- between two operands, then `&&`, `||` and last `? :`
-abbrev pub label_looseness : Label → ℕ
-label_looseness (literal (Integer n)) = 1
-label_looseness (unary op) = 2
-label_looseness (binary op) = 2 + looseness op
-label_looseness all = 11
-label_looseness any = 12
-label_looseness choice = 13
-label_looseness label = 0
+abbrev pub label_precedence : Label → ℕ
+label_precedence (literal (Integer n)) = 1
+label_precedence (unary op) = 2
+label_precedence (binary op) = 2 + precedence op
+label_precedence all = 11
+label_precedence any = 12
+label_precedence choice = 13
+label_precedence label = 0
 
 abbrev pub loose : Inline → ℕ
-loose (shape label is) = label_looseness label
+loose (shape label is) = label_precedence label
 loose (inner ds) = 0
 
 -- how loosely the first tree below a node may bind without parentheses, and how loosely the others
 abbrev pub first_bound : Label → ℕ
 first_bound (unary op) = 2
-first_bound (binary op) = 2 + looseness op
+first_bound (binary op) = 2 + precedence op
 first_bound all = 11
 first_bound any = 12
 first_bound choice = 12
@@ -36,7 +36,7 @@ first_bound subscript = 1
 first_bound label = 13
 
 abbrev pub other_bound : Label → ℕ
-other_bound (binary op) = 1 + looseness op
+other_bound (binary op) = 1 + precedence op
 other_bound all = 10
 other_bound any = 11
 other_bound label = 13

@@ -1,6 +1,6 @@
 // Operators: their bytes and how loosely they bind.
 ghost use Rattle.std.specs.Prelude.{◌≡◌, ℕ};
-ghost use Rattle.ad_grammar.specs.Shapes.{looseness};
+ghost use Rattle.ad_grammar.specs.Shapes.{precedence};
 ghost use Rattle.ad_tree.specs.Inline.{Defs, inlined};
 ghost use Rattle.ad_tree.specs.Tree.{tree};
 ghost use Rattle.ad_printer.specs.Pieces.{infix_bytes, prefix_bytes, spaced, text_of};
@@ -49,8 +49,8 @@ pub fn infix_text(op: BinOp) -> &'static [u8]
 }
 
 /// How loosely an operator between two operands binds, from 1 for `*` to 8 for `|`.
-pub fn looseness(op: BinOp) -> u8
-    ensures { result ≡ looseness op }
+pub fn precedence(op: BinOp) -> u8
+    ensures { result ≡ precedence op }
 {
     match op {
         BinOp::Mul | BinOp::Div | BinOp::Rem => 1,
@@ -71,7 +71,7 @@ pub fn loose(expr: &Expr) -> u8
     match expr {
         Expr::Literal(Lit::Integer(_)) => 1,
         Expr::Unary(..) => 2,
-        Expr::Binary(op, _, _) => 2 + looseness(*op),
+        Expr::Binary(op, _, _) => 2 + precedence(*op),
         Expr::And(_) => 11,
         Expr::Or(_) => 12,
         Expr::Cond(..) => 13,

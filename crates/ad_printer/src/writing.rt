@@ -9,7 +9,7 @@ ghost use Rattle.ad_tree.specs.Tree.{binary, call as call_label, choice, list as
 ghost use Rattle.ad_printer.specs.Printed.{pieces};
 ghost use Rattle.ad_printer.specs.Writing.{Adds, definition_in, definitions_in, part_in, pieces_in, row_in};
 
-use crate::operators::{infix_text, loose, looseness, prefix_text};
+use crate::operators::{infix_text, loose, precedence, prefix_text};
 use crate::quoting::{write_literal, write_name, write_reference};
 use ad_tree::{Ad, Expr, Exprs};
 use pool_text::{BinOp, OutOfMemory, Text, UnOp};
@@ -19,7 +19,7 @@ const OPERAND: u8 = 2;
 
 const CONDITION: u8 = 12;
 
-const LOOSEST: u8 = 13;
+const LAST_PRECEDENCE: u8 = 13;
 
 /// An expression that stands in a frame of the ad.
 #[cycle(writing)]
@@ -82,7 +82,7 @@ fn write_binary(
 ) -> Result<(), OutOfMemory>
     ensures { OnOk result (Adds out.old (pieces_in (ad_frames ad.now) turns (node (binary op) (two (tree a.now) (tree b.now)))) out.new) }
 {
-    let level = looseness(op);
+    let level = precedence(op);
     write_part(out, ad, turns, 2 + level, a)?;
     out.append(infix_text(op))?;
     write_part(out, ad, turns, 1 + level, b)?;
@@ -103,9 +103,9 @@ fn write_choice(
 {
     write_part(out, ad, turns, CONDITION, condition)?;
     out.append(b" ? ")?;
-    write_part(out, ad, turns, LOOSEST, first)?;
+    write_part(out, ad, turns, LAST_PRECEDENCE, first)?;
     out.append(b" : ")?;
-    write_part(out, ad, turns, LOOSEST, second)?;
+    write_part(out, ad, turns, LAST_PRECEDENCE, second)?;
     Ok(())
 }
 
@@ -137,7 +137,7 @@ fn write_subscript(
 {
     write_part(out, ad, turns, 1, base)?;
     out.append(b"[")?;
-    write_part(out, ad, turns, LOOSEST, place)?;
+    write_part(out, ad, turns, LAST_PRECEDENCE, place)?;
     out.append(b"]")?;
     Ok(())
 }
@@ -154,7 +154,15 @@ fn write_call(
 {
     out.append(name)?;
     out.append(b"(")?;
-    write_row(out, ad, turns, b", ", LOOSEST, LOOSEST, list)?;
+    write_row(
+        out,
+        ad,
+        turns,
+        b", ",
+        LAST_PRECEDENCE,
+        LAST_PRECEDENCE,
+        list,
+    )?;
     out.append(b")")?;
     Ok(())
 }
@@ -168,7 +176,15 @@ fn write_list(out: &mut Text, ad: &Ad, turns: u32, list: &Exprs) -> Result<(), O
         return Ok(());
     }
     out.append(b"{ ")?;
-    write_row(out, ad, turns, b", ", LOOSEST, LOOSEST, list)?;
+    write_row(
+        out,
+        ad,
+        turns,
+        b", ",
+        LAST_PRECEDENCE,
+        LAST_PRECEDENCE,
+        list,
+    )?;
     out.append(b" }")?;
     Ok(())
 }

@@ -24,7 +24,7 @@ pub level-returns-in_err-prefixes : goal.level-returns-in_err-prefixes
 level-returns-in_err-prefixes t c =
     let e = rules.expression c.args.fuel in
     let ws = left c.args.reader.now in
-    let k = c.args.looseness in
+    let k = c.args.precedence in
     stops-by (rules.level_at e k ws) (left c.prefixes.new.reader) (stack c.args.program.now) (stack c.prefixes.new.program)
     c.from_residual.result c.in_err-prefixes.field-0.0 c.from_residual.ensures.0 c.from_residual.ensures.1
     (λ stop. level-none e k ws (c.in_err-prefixes.ensures.none (ap Err stop)))
@@ -33,7 +33,7 @@ pub level-returns : goal.level-returns
 level-returns t c =
     let e = rules.expression c.args.fuel in
     let ws = left c.args.reader.now in
-    let k = c.args.looseness in
+    let k = c.args.precedence in
     let first = stack c.prefixes.new.program in
     reputs (rules.level_at e k ws) (left c.climb.new.reader) (stack c.args.program.now) (stack c.climb.new.program) c.climb.result
     (climb e 0 k (top first) (left c.prefixes.new.reader)) (below first)
@@ -45,9 +45,9 @@ climb-returns t c =
     let e = rules.expression c.args.fuel in
     let before = stack c.args.program.now in
     let now = stack c.loop-next.program in
-    let w = climb e 0 c.args.looseness (top before) (left c.args.reader.now) in
+    let w = climb e 0 c.args.precedence (top before) (left c.args.reader.now) in
     puts-ok w (left c.loop-next.reader) (below before) now tt
-    (climb-end e w c.loop-next.reached c.args.looseness (top now) (left c.loop-next.reader) c.loop-next.invariant.read c.loop-next.invariant.within
+    (climb-end e w c.loop-next.reached c.args.precedence (top now) (left c.loop-next.reader) c.loop-next.invariant.read c.loop-next.invariant.within
     (c.in_default.ensures.none refl))
     c.loop-next.invariant.rest
 
@@ -56,11 +56,11 @@ climb-returns-in_err-operations t c =
     let e = rules.expression c.args.fuel in
     let before = stack c.args.program.now in
     let now = stack c.loop-next.program in
-    let w = climb e 0 c.args.looseness (top before) (left c.args.reader.now) in
+    let w = climb e 0 c.args.precedence (top before) (left c.args.reader.now) in
     let next = c.in-Some.ensures.some c.in-Some.next refl in
     stops-by w (left c.operations.new.reader) (below before) (stack c.operations.new.program)
     c.from_residual.result c.in_err-operations.field-0.0 c.from_residual.ensures.0 c.from_residual.ensures.1
-    (λ stop. climb-broken e w c.loop-next.reached c.args.looseness (top now) (left c.loop-next.reader) c.loop-next.invariant.read
+    (λ stop. climb-broken e w c.loop-next.reached c.args.precedence (top now) (left c.loop-next.reader) c.loop-next.invariant.read
     c.in-Some.next next.1 next.2 next.0 (c.in_err-operations.ensures.none (ap Err stop)))
 
 pub climb-loop-next-preserved : goal.climb-loop-next-preserved
@@ -68,10 +68,10 @@ climb-loop-next-preserved t c =
     let e = rules.expression c.args.fuel in
     let before = stack c.args.program.now in
     let now = stack c.loop-next.program in
-    let w = climb e 0 c.args.looseness (top before) (left c.args.reader.now) in
+    let w = climb e 0 c.args.precedence (top before) (left c.args.reader.now) in
     let next = c.in-Some.ensures.some c.in-Some.next refl in
     record {
-      read = climb-more e w c.loop-next.reached c.args.looseness (top now) (left c.loop-next.reader) c.loop-next.invariant.read
+      read = climb-more e w c.loop-next.reached c.args.precedence (top now) (left c.loop-next.reader) c.loop-next.invariant.read
           c.in-Some.next next.1 next.2 next.0 (top (stack c.operations.new.program)) (left c.operations.new.reader)
           (c.in_ok-operations.ensures.ok c.in_ok-operations.field-0 refl);
       rest = c.in_ok-operations.ensures.on c.in_ok-operations.field-0 refl ∙ c.loop-next.invariant.rest;
@@ -137,7 +137,7 @@ conditionals-loop-turns-preserved t c =
 
 pub operations-loop-turns-preserved : goal.operations-loop-turns-preserved
 operations-loop-turns-preserved t c =
-    let k = c.args.looseness in
+    let k = c.args.precedence in
     let tight = rules.level_at (rules.expression c.args.fuel) (k - 1) in
     let ws = left c.args.reader.now in
     let start = stack c.args.program.now in

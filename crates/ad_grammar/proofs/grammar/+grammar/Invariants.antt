@@ -14,13 +14,13 @@ abbrev pub decreases-conditionals : goal.decreases-conditionals
 decreases-conditionals l = 60 * l.fuel + 50
 
 abbrev pub decreases-level : goal.decreases-level
-decreases-level l = 60 * l.fuel + 13 + 3 * l.looseness
+decreases-level l = 60 * l.fuel + 13 + 3 * l.precedence
 
 abbrev pub decreases-climb : goal.decreases-climb
-decreases-climb l = 60 * l.fuel + 12 + 3 * l.looseness
+decreases-climb l = 60 * l.fuel + 12 + 3 * l.precedence
 
 abbrev pub decreases-operations : goal.decreases-operations
-decreases-operations l = 60 * l.fuel + 11 + 3 * l.looseness
+decreases-operations l = 60 * l.fuel + 11 + 3 * l.precedence
 
 abbrev pub decreases-prefixes : goal.decreases-prefixes
 decreases-prefixes l = 60 * l.fuel + 10
@@ -70,21 +70,21 @@ decreases-conditionals-loop-turns l = l.turns
 abbrev pub invariant-climb-loop-next : goal.invariant-climb-loop-next
 invariant-climb-loop-next l = record {
   read :
-      climb (rules.expression l.fuel) 0 l.looseness (top (stack l.initial.program)) (left l.initial.reader)
-      ≡ climb (rules.expression l.fuel) l.reached (l.looseness - l.reached) (top (stack l.program)) (left l.reader);
+      climb (rules.expression l.fuel) 0 l.precedence (top (stack l.initial.program)) (left l.initial.reader)
+      ≡ climb (rules.expression l.fuel) l.reached (l.precedence - l.reached) (top (stack l.program)) (left l.reader);
   rest : below (stack l.program) ≡ below (stack l.initial.program);
-  within : l.reached ≤ l.looseness;
+  within : l.reached ≤ l.precedence;
 }
 
 abbrev pub decreases-climb-loop-next : goal.decreases-climb-loop-next
-decreases-climb-loop-next l = l.looseness - l.reached
+decreases-climb-loop-next l = l.precedence - l.reached
 
 abbrev pub invariant-operations-loop-turns : goal.invariant-operations-loop-turns
 invariant-operations-loop-turns l = record {
   read :
-      rules.operations (rules.level_at (rules.expression l.fuel) (l.looseness - 1)) l.looseness
+      rules.operations (rules.level_at (rules.expression l.fuel) (l.precedence - 1)) l.precedence
       (length (left l.initial.reader)) (top (stack l.initial.program)) (left l.initial.reader)
-      ≡ rules.operations (rules.level_at (rules.expression l.fuel) (l.looseness - 1)) l.looseness
+      ≡ rules.operations (rules.level_at (rules.expression l.fuel) (l.precedence - 1)) l.precedence
       l.turns (top (stack l.program)) (left l.reader);
   rest : below (stack l.program) ≡ below (stack l.initial.program);
 }

@@ -42,7 +42,7 @@ pub struct Exprs {
 }
 
 impl Exprs {
-    ghost use Rattle.std.specs.Prelude.{◌≡◌, ◌++◌, ◌∷◌, ◌<◌, [], length, slice_get, Some, OnOk, OnErr};
+    ghost use Rattle.std.specs.Prelude.{◌≡◌, ◌++◌, ◌∷◌, ◌<◌, [], length, slice_get, Some, IfOk, OnOk, OnErr};
     ghost use Rattle.ad_tree.specs.Tree.{tree, trees};
 
     /// The empty list, which takes no memory yet.
@@ -52,6 +52,15 @@ impl Exprs {
         Exprs {
             items: Vec::new(alloc),
         }
+    }
+
+    /// The empty list, with room for so many expressions.
+    pub fn with_capacity(alloc: Global, room: usize) -> Result<Exprs, OutOfMemory>
+        ensures { IfOk result (λ list. trees list ≡ []) }
+    {
+        Ok(Exprs {
+            items: Vec::with_capacity(alloc, room)?,
+        })
     }
 
     /// Adds an expression at the end.

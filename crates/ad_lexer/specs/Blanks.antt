@@ -24,11 +24,14 @@ IsSpace bytes = (byte : ℕ) × (bytes ≡ byte ∷ []) × (is_space byte ≡ tr
 
 -- `//` up to a line feed or the end of the text
 abbrev pub IsLineComment : List ℕ → List ℕ → Type 0
-IsLineComment bytes after = (inner : List ℕ) × (bytes ≡ 47 ∷ 47 ∷ inner) × (list_all is_line_byte inner ≡ true) × (0 < length after → slice_index after 0 ≡ 10)
+IsLineComment bytes after =
+    (inner : List ℕ) × (bytes ≡ 47 ∷ 47 ∷ inner) × (list_all is_line_byte inner ≡ true)
+    × (0 < length after → slice_index after 0 ≡ 10)
 
 -- `/*` up to and with the next `*/`, whose `*` isn't the one of `/*`
 abbrev pub IsBlockComment : List ℕ → Type 0
-IsBlockComment bytes = (inner : List ℕ) × (bytes ≡ 47 ∷ 42 ∷ (inner ++ 42 ∷ 47 ∷ [])) × (has_close (inner ++ 42 ∷ []) ≡ false)
+IsBlockComment bytes =
+    (inner : List ℕ) × (bytes ≡ 47 ∷ 42 ∷ (inner ++ 42 ∷ 47 ∷ [])) × (has_close (inner ++ 42 ∷ []) ≡ false)
 
 -- the bytes are one byte of white space, or a comment, before the bytes that follow
 abbrev pub IsBlank : List ℕ → List ℕ → Type 0

@@ -20,20 +20,24 @@ or_octal (Some meant) value = meant
 -- the byte that the letter at the front means: it stands for itself, or an escape stands there
 unfoldable pub meaning_at : List ℕ → ℕ
 meaning_at bytes =
-    if slice_index bytes 0 == 92 then or_octal (escaped (slice_index bytes 1)) (octal_value (slice_index bytes 1) (slice_index bytes 2) (slice_index bytes 3))
+    if slice_index bytes 0 == 92
+    then or_octal (escaped (slice_index bytes 1)) (octal_value (slice_index bytes 1) (slice_index bytes 2) (slice_index bytes 3))
     else slice_index bytes 0
 
 -- how many bytes that letter takes
 unfoldable pub letter_len : List ℕ → ℕ
 letter_len bytes =
-    if slice_index bytes 0 == 92 then (if is_some (escaped (slice_index bytes 1)) then 2 else octal_len (slice_index bytes 2) (slice_index bytes 3))
+    if slice_index bytes 0 == 92
+    then (if is_some (escaped (slice_index bytes 1)) then 2 else octal_len (slice_index bytes 2) (slice_index bytes 3))
     else 1
 
 -- what the letters up to the quote mean, with bytes to skip first
 abbrev pub content_from : ℕ → ℕ → List ℕ → List ℕ
 content_from quote skip [] = []
 content_from quote (suc skip) (byte ∷ bytes) = content_from quote skip bytes
-content_from quote zero (byte ∷ bytes) = if byte == quote then [] else meaning_at (byte ∷ bytes) ∷ content_from quote (letter_len (byte ∷ bytes) - 1) bytes
+content_from quote zero (byte ∷ bytes) =
+    if byte == quote then []
+    else meaning_at (byte ∷ bytes) ∷ content_from quote (letter_len (byte ∷ bytes) - 1) bytes
 
 -- what the letters between the quotes mean
 abbrev pub content : List ℕ → List ℕ

@@ -12,7 +12,9 @@ use Rattle.ad_lexer.specs.Words.{is_word_byte}
 
 -- no token at all begins with the first byte, and it is no white space
 abbrev pub BeginsNothing : List ℕ → Type 0
-BeginsNothing text = (byte : ℕ) × (bytes : List ℕ) × (text ≡ byte ∷ bytes) × (is_space byte ≡ false) × ((kind : TokenKind) (more : List ℕ) → ¬ Spells kind (byte ∷ more))
+BeginsNothing text =
+    (byte : ℕ) × (bytes : List ℕ) × (text ≡ byte ∷ bytes) × (is_space byte ≡ false)
+    × ((kind : TokenKind) (more : List ℕ) → ¬ Spells kind (byte ∷ more))
 
 -- behind an opening quote stand letters and then the rest, at this place
 pub record ReadsTo (quote : ℕ) (text rest : List ℕ) (place : ℕ) : Type 0 where
@@ -67,7 +69,8 @@ IsOpenComment text = (inner : List ℕ) × (text ≡ 47 ∷ 42 ∷ inner) × (ha
 
 -- the fault at the front of a text, by its kind, with its place
 abbrev pub Wrong : LexKind → List ℕ → ℕ → Type 0
-Wrong kinds.Character text place = (BeginsNothing text × (place ≡ 0)) ⊎ (HasNul text place ⊎ (IsEmptyName text × (place ≡ 0)))
+Wrong kinds.Character text place =
+    (BeginsNothing text × (place ≡ 0)) ⊎ (HasNul text place ⊎ (IsEmptyName text × (place ≡ 0)))
 Wrong kinds.StringEnd text place = IsOpenString text × (place ≡ 0)
 Wrong kinds.Escape text place = HasBadEscape text place
 Wrong kinds.Number text place = (is_bad_number text ≡ true) × (place ≡ 0)

@@ -61,12 +61,14 @@ spellings letters = flat_map spelling letters
 -- each is a letter before the bytes that follow it
 abbrev pub AreLetters : ℕ → List Letter → List ℕ → Type 0
 AreLetters quote [] after = Unit {0}
-AreLetters quote (letter ∷ letters) after = IsLetter quote letter (spellings letters ++ after) × AreLetters quote letters after
+AreLetters quote (letter ∷ letters) after =
+    IsLetter quote letter (spellings letters ++ after) × AreLetters quote letters after
 
 -- the bytes are the quote, letters and the quote again, and the letters mean the text
 abbrev pub IsQuoted : ℕ → List ℕ → List ℕ → Type 0
 IsQuoted quote bytes text =
-    (letters : List Letter) × (bytes ≡ quote ∷ (spellings letters ++ quote ∷ [])) × AreLetters quote letters (quote ∷ []) × (text ≡ map meaning letters)
+    (letters : List Letter) × (bytes ≡ quote ∷ (spellings letters ++ quote ∷ []))
+    × AreLetters quote letters (quote ∷ []) × (text ≡ map meaning letters)
 
 -- the bytes are a string or a quoted name
 abbrev pub IsQuotation : List ℕ → Type 0

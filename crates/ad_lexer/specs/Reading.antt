@@ -42,7 +42,9 @@ begin_of byte =
 -- ---- words
 
 abbrev pub word : List ℕ → Step
-word text = let len = prefix_len is_word_byte text in steps.Token (if is_reserved (take len text) then Reserved else Plain) len
+word text =
+    let len = prefix_len is_word_byte text in
+    steps.Token (if is_reserved (take len text) then Reserved else Plain) len
 
 -- ---- numbers
 
@@ -82,7 +84,9 @@ symbol text =
 -- the length up to and with the first `*/`, counted on from n
 abbrev pub comment_len : ℕ → List ℕ → Option ℕ
 comment_len n [] = None
-comment_len n (byte ∷ bytes) = if byte == 42 && slice_index bytes 0 == 47 then Some (n + 2) else comment_len (n + 1) bytes
+comment_len n (byte ∷ bytes) =
+    if byte == 42 && slice_index bytes 0 == 47 then Some (n + 2)
+    else comment_len (n + 1) bytes
 
 abbrev pub comment_of : Option ℕ → Step
 comment_of None = steps.Fault kinds.CommentEnd 0
@@ -99,7 +103,8 @@ slash text =
 -- octal digits of a value in range
 unfoldable pub octal : ℕ → ℕ → ℕ → Front
 octal first second third =
-    if is_octal_digit first && nat_lt 0 (octal_value first second third) && nat_lt (octal_value first second third) 128 then fronts.Letter (octal_len second third) (octal_value first second third)
+    if is_octal_digit first && nat_lt 0 (octal_value first second third) && nat_lt (octal_value first second third) 128
+    then fronts.Letter (octal_len second third) (octal_value first second third)
     else fronts.Backslash
 
 abbrev pub escape_or : Option ℕ → Front → Front
@@ -133,7 +138,8 @@ quoted_by kind at fronts.Backslash more = steps.Fault kinds.Escape at
 abbrev pub quoted : TokenKind → ℕ → ℕ → ℕ → List ℕ → Step
 quoted kind quote at skip [] = steps.Fault kinds.StringEnd 0
 quoted kind quote at (suc skip) (byte ∷ bytes) = quoted kind quote (at + 1) skip bytes
-quoted kind quote at zero (byte ∷ bytes) = quoted_by kind at (front quote (byte ∷ bytes)) (λ len. quoted kind quote (at + 1) (len - 1) bytes)
+quoted kind quote at zero (byte ∷ bytes) =
+    quoted_by kind at (front quote (byte ∷ bytes)) (λ len. quoted kind quote (at + 1) (len - 1) bytes)
 
 unfoldable pub name : List ℕ → Step
 name text = if slice_index text 1 == 39 then steps.Fault kinds.Character 0 else quoted Quoted 39 1 0 (drop 1 text)

@@ -6,7 +6,8 @@ use Rattle.ad_lexer.specs.Lexeme.{Lexeme}
 
 -- the token at a span of a source
 abbrev pub lexeme_of : List ℕ → Span → Lexeme
-lexeme_of source span = record { kind = span.kind; start = span.start; end = span.end; text = slice_range source span.start span.end }
+lexeme_of source span =
+    record { kind = span.kind; start = span.start; end = span.end; text = slice_range source span.start span.end }
 
 -- the tokens at spans of a source
 abbrev pub lexemes_of : List ℕ → List Span → List Lexeme

@@ -36,13 +36,15 @@ IsItem (token kind bytes) after = IsToken kind bytes after
 -- a text divides into items and the rest behind them
 abbrev pub Divides : List ℕ → List Item → List ℕ → Type 0
 Divides text [] rest = text ≡ rest
-Divides text (item ∷ items) rest = (after : List ℕ) × (text ≡ bytes_of item ++ after) × IsItem item after × Divides after items rest
+Divides text (item ∷ items) rest =
+    (after : List ℕ) × (text ≡ bytes_of item ++ after) × IsItem item after × Divides after items rest
 
 -- the tokens among items that begin at a place
 abbrev pub lexemes : ℕ → List Item → List Lexeme
 lexemes at [] = []
 lexemes at (blank bytes ∷ items) = lexemes (at + length bytes) items
-lexemes at (token kind bytes ∷ items) = record { kind = kind; start = at; end = at + length bytes; text = bytes } ∷ lexemes (at + length bytes) items
+lexemes at (token kind bytes ∷ items) =
+    record { kind = kind; start = at; end = at + length bytes; text = bytes } ∷ lexemes (at + length bytes) items
 
 -- the tokens of a text: it is UTF-8 and divides into items, of which these are the tokens
 abbrev pub Tokens : List ℕ → List Lexeme → Type 0
@@ -56,7 +58,8 @@ IsIllFormed text kind place = (kind ≡ Encoding) × (¬ (IsUtf8 text)) × IsVal
 abbrev pub HasFault : List ℕ → LexKind → ℕ → Type 0
 HasFault text kind place =
     IsUtf8 text
-    × ((items : List Item) × (rest : List ℕ) × (at : ℕ) × Divides text items rest × Wrong kind rest at × (place ≡ length (flat_map bytes_of items) + at))
+    × ((items : List Item) × (rest : List ℕ) × (at : ℕ)
+    × Divides text items rest × Wrong kind rest at × (place ≡ length (flat_map bytes_of items) + at))
 
 -- the fault of a text
 abbrev pub Fault : List ℕ → LexKind → ℕ → Type 0

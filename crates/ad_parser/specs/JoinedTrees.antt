@@ -1,4 +1,5 @@
--- Plain trees of two operands.
+-- Plain trees of two operands, and of one tree more.
+use Rattle.std.specs.Prelude.{◌≡◌}
 use Rattle.ad_tree.specs.Tree.{Tree, Trees, node, frame, none, more, two, binary, all, any}
 use Rattle.ad_grammar.specs.declared.program.Infix.{Infix}
 use Rattle.ad_grammar.specs.declared.program.Infix.TheVariants as infixes
@@ -16,7 +17,7 @@ joined_tree infixes.Or (node any ts) u = node any (last_tree ts u)
 joined_tree infixes.Or t u = node any (two t u)
 joined_tree (infixes.Binary op) t u = node (binary op) (two t u)
 
--- a list or a call with one tree more
-abbrev pub with_element_tree : Tree → Tree → Tree
-with_element_tree (node label ts) u = node label (last_tree ts u)
-with_element_tree (frame f) u = frame f
+-- a node with one tree more; a frame takes none
+abbrev pub TakesElement : Tree → Tree → Tree → Type 0
+TakesElement (node label ts) u whole = whole ≡ node label (last_tree ts u)
+TakesElement (frame f) u whole = ⊥

@@ -1,17 +1,20 @@
 -- What the limits ask of a tree, as numbers.
 use Rattle.std.specs.Prelude.{◌≡◌, ℕ, min, List, [], ◌∷◌}
 use Rattle.ad_tree.specs.Inline.{Inline, shape, inner, height, count, definitions}
-use Rattle.ad_tree.specs.Tree.{all, any}
+use Rattle.ad_tree.specs.Tree.{Label, all, any}
 use Rattle.ad_parser.specs.declared.measure.Kind.{Kind}
 use Rattle.ad_parser.specs.declared.measure.Kind.TheVariants.{All, Any, Node, Ad}
 use Rattle.ad_parser.specs.declared.measure.Measure.{Measure}
 use Rattle.ad_parser.specs.Counts.{counting_limit}
 
 -- the kinds of trees that take more behind what they have: chains of `&&` and of `||`, other nodes, and ad literals
+abbrev pub kind_at : Label → Kind
+kind_at all = All
+kind_at any = Any
+kind_at label = Node
+
 abbrev pub kind_of : Inline → Kind
-kind_of (shape all xs) = All
-kind_of (shape any xs) = Any
-kind_of (shape label xs) = Node
+kind_of (shape label xs) = kind_at label
 kind_of (inner ds) = Ad
 
 -- the numbers of a tree, each exact up to the counting limit

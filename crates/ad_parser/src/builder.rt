@@ -3,23 +3,22 @@
 //
 // No program that was read asks for an operand that isn't there; for one that does, the answer is want of memory, which
 // promises nothing.
-ghost use Rattle.std.specs.Prelude.{◌≡◌, ◌<◌, [], ◌∷◌, length, true, false, List, IfOk, OnOk};
+ghost use Rattle.std.specs.Prelude.{◌≡◌, ◌<◌, [], ◌∷◌, ◌++◌, length, true, false, List, IfOk, OnOk};
+ghost use Rattle.std.specs.Vec.Iter.{into_iter_items, into_iter_len};
 ghost use Rattle.ad_tree.specs.Ad.{ad_frames};
 ghost use Rattle.ad_tree.specs.Draft.{draft_frames};
 ghost use Rattle.ad_tree.specs.Inline.{Inline, inner, no_defs, ad_of, phrase_of, phrase_tree};
 ghost use Rattle.ad_tree.specs.Tree.{tree, trees, node, all, any, pack};
-ghost use Rattle.ad_grammar.specs.Machine.{stack, top};
-ghost use Rattle.ad_grammar.specs.declared.program.Instruction.TheVariants as instructions;
+ghost use Rattle.ad_grammar.specs.Machine.{stack, run, top};
 ghost use Rattle.ad_grammar.specs.declared.program.Infix.TheVariants as infixes;
-ghost use Rattle.ad_parser.specs.Builds.{HasPut, Holds, Carries};
-ghost use Rattle.ad_parser.specs.JoinedTrees.{joined_tree, with_element_tree};
-ghost use Rattle.ad_parser.specs.Laid.{value};
+ghost use Rattle.ad_parser.specs.JoinedTrees.{joined_tree, TakesElement};
 
 use crate::stack::Stack;
 use ad_grammar::{Infix, Instruction, Program};
 use ad_tree::{Ad, Draft, Expr, Exprs, Phrase};
-use pool_text::{OutOfMemory, Text};
+use pool_text::{OutOfMemory, Text, UnOp};
 use std::alloc::Global;
+use std::vec::IntoIter;
 
 /// A tree, or an ad literal whose definitions are being made: its frame, and the frame in which it stands.
 #[derive(Debug, Drop)]
@@ -42,15 +41,23 @@ pub struct Builder {
 pub fn build_ad(alloc: Global, program: Program) -> Result<Ad, OutOfMemory>
     ensures { IfOk result (λ ad. ad_frames ad ≡ ad_of (top (stack program))) }
 {
-    let mut instructions = program.into_instructions().into_iter();
-    let Some(Instruction::Ad) = instructions.next() else {
-        return Err(OutOfMemory);
-    };
     let mut builder = Builder::of_ad(alloc)?;
-    for instruction in instructions {
+    for instruction in behind_opening(program)? {
         builder.carry_out(instruction)?;
     }
     builder.finish_ad()
+}
+
+/// The instructions behind the first, which opens the ad literal.
+fn behind_opening(program: Program) -> Result<IntoIter<Instruction>, OutOfMemory>
+    ensures items { IfOk result (λ rest. run (into_iter_items rest) (inner no_defs ∷ []) ≡ stack program) }
+    ensures len { IfOk result (λ rest. into_iter_len rest ≡ length (into_iter_items rest)) }
+{
+    let mut instructions = program.into_instructions().into_iter();
+    match instructions.next() {
+        Some(Instruction::Ad) => Ok(instructions),
+        _ => Err(OutOfMemory),
+    }
 }
 
 /// The expression that a program builds, with the ad of its ad literals.
@@ -66,6 +73,10 @@ pub fn build_phrase(alloc: Global, program: Program) -> Result<Phrase, OutOfMemo
 }
 
 impl Builder {
+    ghost use Rattle.ad_grammar.specs.declared.program.Instruction.TheVariants as instructions;
+    ghost use Rattle.ad_parser.specs.Builds.{HasPut, Holds, Carries};
+    ghost use Rattle.ad_parser.specs.Laid.{value};
+
     /// Nothing but an empty root.
     fn of_expression(alloc: Global) -> Builder
         ensures { Holds false result [] }
@@ -98,18 +109,11 @@ impl Builder {
         match instruction {
             Instruction::Literal(literal) => self.put(Expr::Literal(literal)),
             Instruction::Name(scope, name) => self.put(Expr::Name(scope, name)),
-            Instruction::Unary(operator) => {
-                let operand = self.boxed()?;
-                self.put(Expr::Unary(operator, operand))
-            }
+            Instruction::Unary(operator) => self.unary(operator),
             Instruction::Infix(operator) => self.infix(operator),
             Instruction::Choice => self.choice(),
             Instruction::Select(name) => self.select(name),
-            Instruction::Subscript => {
-                let place = self.boxed()?;
-                let base = self.boxed()?;
-                self.put(Expr::Subscript(base, place))
-            }
+            Instruction::Subscript => self.subscript(),
             Instruction::List => self.put(Expr::List(Exprs::new(self.alloc))),
             Instruction::Call(name) => self.put(Expr::Call(name, Exprs::new(self.alloc))),
             Instruction::Element => self.element(),
@@ -144,6 +148,13 @@ impl Builder {
         Ok(Box::new(self.alloc, expr)?)
     }
 
+    fn unary(&mut self, operator: UnOp) -> Result<(), OutOfMemory>
+        ensures { Carries (instructions.Unary operator) self.old self.new result }
+    {
+        let operand = self.boxed()?;
+        self.put(Expr::Unary(operator, operand))
+    }
+
     fn infix(&mut self, operator: Infix) -> Result<(), OutOfMemory>
         ensures { Carries (instructions.Infix operator) self.old self.new result }
     {
@@ -167,6 +178,14 @@ impl Builder {
     {
         let base = self.boxed()?;
         self.put(Expr::Select(base, name))
+    }
+
+    fn subscript(&mut self) -> Result<(), OutOfMemory>
+        ensures { Carries instructions.Subscript self.old self.new result }
+    {
+        let place = self.boxed()?;
+        let base = self.boxed()?;
+        self.put(Expr::Subscript(base, place))
     }
 
     /// Adds the last tree to the list or the call below it.
@@ -203,21 +222,24 @@ impl Builder {
     fn close(&mut self) -> Result<(), OutOfMemory>
         ensures { Carries instructions.Close self.old self.new result }
     {
-        match self.operands.pop() {
-            Some(Operand::Open(frame, outer)) if outer < self.parent => {
-                self.parent = outer;
-                self.put(Expr::Frame(frame))
-            }
-            _ => Err(OutOfMemory),
+        let Some(Operand::Open(frame, outer)) = self.operands.pop() else {
+            return Err(OutOfMemory);
+        };
+        if outer >= self.parent {
+            return Err(OutOfMemory);
         }
+        self.parent = outer;
+        self.put(Expr::Frame(frame))
     }
 
     /// The ad of the root, where it is the only operand.
     fn finish_ad(mut self) -> Result<Ad, OutOfMemory>
         ensures { (st : List Inline) → Holds true self st → IfOk result (λ ad. ad_frames ad ≡ ad_of (top st)) }
     {
-        let last = self.operands.pop();
-        if last.is_none() || !self.operands.is_empty() {
+        let Some(Operand::Open(_, _)) = self.operands.pop() else {
+            return Err(OutOfMemory);
+        };
+        if !self.operands.is_empty() {
             return Err(OutOfMemory);
         }
         self.draft.finish()
@@ -237,12 +259,7 @@ impl Builder {
 }
 
 /// Two operands joined. A chain of the operator's own takes the second as one operand more.
-fn joined(
-    alloc: Global,
-    operator: Infix,
-    first: Expr,
-    second: Expr,
-) -> Result<Expr, OutOfMemory>
+fn joined(alloc: Global, operator: Infix, first: Expr, second: Expr) -> Result<Expr, OutOfMemory>
     ensures { IfOk result (λ expr. tree expr ≡ joined_tree operator (tree first) (tree second)) }
 {
     match operator {
@@ -259,46 +276,45 @@ fn joined(
 fn conjuncts(alloc: Global, first: Expr, second: Expr) -> Result<Exprs, OutOfMemory>
     ensures { IfOk result (λ list. node all (pack (trees list)) ≡ joined_tree infixes.And (tree first) (tree second)) }
 {
-    let mut list = match first {
-        Expr::And(list) => list,
-        other => one(alloc, other)?,
-    };
-    list.push(second)?;
-    Ok(list)
+    match first {
+        Expr::And(list) => with_last(list, second),
+        other => pair(alloc, other, second),
+    }
 }
 
 fn disjuncts(alloc: Global, first: Expr, second: Expr) -> Result<Exprs, OutOfMemory>
     ensures { IfOk result (λ list. node any (pack (trees list)) ≡ joined_tree infixes.Or (tree first) (tree second)) }
 {
-    let mut list = match first {
-        Expr::Or(list) => list,
-        other => one(alloc, other)?,
-    };
+    match first {
+        Expr::Or(list) => with_last(list, second),
+        other => pair(alloc, other, second),
+    }
+}
+
+fn pair(alloc: Global, first: Expr, second: Expr) -> Result<Exprs, OutOfMemory>
+    ensures { IfOk result (λ list. trees list ≡ tree first ∷ tree second ∷ []) }
+{
+    let mut list = Exprs::new(alloc);
+    list.push(first)?;
     list.push(second)?;
     Ok(list)
 }
 
-fn one(alloc: Global, expr: Expr) -> Result<Exprs, OutOfMemory>
-    ensures { IfOk result (λ list. trees list ≡ tree expr ∷ []) }
+/// The same with one tree more.
+fn with_last(mut list: Exprs, last: Expr) -> Result<Exprs, OutOfMemory>
+    ensures { IfOk result (λ longer. trees longer ≡ trees list ++ tree last ∷ []) }
 {
-    let mut list = Exprs::new(alloc);
-    list.push(expr)?;
+    list.push(last)?;
     Ok(list)
 }
 
 /// A list or a call with one tree more.
 fn with_element(whole: Expr, element: Expr) -> Result<Expr, OutOfMemory>
-    ensures { IfOk result (λ expr. tree expr ≡ with_element_tree (tree whole) (tree element)) }
+    ensures { IfOk result (λ expr. TakesElement (tree whole) (tree element) (tree expr)) }
 {
     match whole {
-        Expr::List(mut list) => {
-            list.push(element)?;
-            Ok(Expr::List(list))
-        }
-        Expr::Call(name, mut list) => {
-            list.push(element)?;
-            Ok(Expr::Call(name, list))
-        }
+        Expr::List(list) => Ok(Expr::List(with_last(list, element)?)),
+        Expr::Call(name, list) => Ok(Expr::Call(name, with_last(list, element)?)),
         _ => Err(OutOfMemory),
     }
 }

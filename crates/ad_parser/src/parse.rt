@@ -97,7 +97,7 @@ fn check(alloc: Global, program: &Program, roots: u32) -> Result<(), ParseFault>
     if tree.height > HEIGHT_LIMIT {
         return Err(ParseFault::Depth);
     }
-    if tree.frames > FRAME_LIMIT - roots {
+    if tree.frames.saturating_add(roots) > FRAME_LIMIT {
         return Err(ParseFault::Frames);
     }
     if tree.definitions > DEFINITION_LIMIT {

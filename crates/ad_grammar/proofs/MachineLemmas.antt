@@ -1,5 +1,5 @@
 -- What instructions make of a stack, one after another, and what a rule leaves on it.
-use Rattle.std.proofs.Common.{refl, ◌≡◌, ℕ, zero, suc, ◌+◌, List, [], ◌∷◌, ◌++◌, None, Some, ap, sym, ◌∙◌, add-one}
+use Rattle.std.proofs.Common.{refl, ◌≡◌, ℕ, zero, suc, ◌+◌, List, [], ◌∷◌, ◌++◌, None, Some, Result, Ok, Err, OnOk, ap, sym, ◌∙◌, add-one}
 use Rattle.ad_tree.specs.Inline.{Inline, Inlines, Defs, shape, inner, end, next, no_defs, def}
 use Rattle.ad_tree.specs.Tree.{Label, choice}
 use Rattle.ad_grammar.specs.declared.program.Instruction.{Instruction}
@@ -14,6 +14,15 @@ use Rattle.ad_grammar.specs.Steps.{extended, completed}
 pub run-append : (is js : List Instruction) (st : List Inline) → run (is ++ js) st ≡ run js (run is st)
 run-append [] js st = refl
 run-append (i ∷ is) js st = run-append is js (step i st)
+
+-- what the last instruction has made
+pub run-last : {is : List Instruction} (js : List Instruction) {i : Instruction} (j : Instruction) → is ≡ js ++ i ∷ [] → i ≡ j → run is [] ≡ step j (run js [])
+run-last {is} js {i} j more same = ap (λ ks. run ks []) more ∙ run-append js (i ∷ []) [] ∙ ap (λ k. step k (run js [])) same
+
+-- what an Ok tells, told on
+pub on_ok : {A E : Type 0} (r : Result A E) {P Q : Type 0} → (P → Q) → OnOk r P → OnOk r Q
+on_ok (Ok a) f h = f h
+on_ok (Err e) f h = h
 
 pub chosen-more : (n : ℕ) (st : List Inline) → step instructions.Choice (chosen n st) ≡ chosen (n + 1) st
 chosen-more n st = by n st ∙ ap (λ k. chosen k st) (sym (add-one n))

@@ -45,6 +45,7 @@ step (instructions.Call text) st = shape (call text) end ∷ st
 step instructions.Element st = with_element (top (below st)) (top st) ∷ below (below st)
 step instructions.Ad st = inner no_defs ∷ st
 step (instructions.Define text) st = with_definition (top (below st)) text (top st) ∷ below (below st)
+step (instructions.DefineLiteral text lit) st = with_definition (top st) text (leaf (literal lit)) ∷ below st
 step instructions.Close st = st
 
 -- what instructions make of it, one after another

@@ -356,7 +356,7 @@ fn some_definitions(
         let name = reader.name(alloc)?;
         reader.expect(Mark::Assign)?;
         expression(alloc, reader, program, fuel)?;
-        program.push(Instruction::Define(name))?;
+        program.define(name)?;
         if !reader.goes_on()? {
             return Ok(());
         }

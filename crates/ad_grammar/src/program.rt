@@ -41,6 +41,8 @@ pub enum Instruction {
     Ad,
     /// Defines a name in the ad literal below the last tree, as that tree.
     Define(Text),
+    /// Defines a name in the ad literal that is the last tree, as a literal.
+    DefineLiteral(Text, Lit),
     /// Ends the definitions of the ad literal that is the last tree.
     Close,
 }
@@ -54,6 +56,7 @@ pub struct Program {
 impl Program {
     ghost use Rattle.std.specs.Prelude.{IfOk, OnOk};
     ghost use Rattle.ad_grammar.specs.Machine.{stack, run, step, chosen};
+    ghost use Rattle.ad_grammar.specs.declared.program.Instruction.TheVariants as instructions;
 
     /// No instructions, with room for so many.
     pub(crate) fn with_capacity(alloc: Global, room: usize) -> Result<Program, OutOfMemory>
@@ -70,6 +73,22 @@ impl Program {
     {
         self.instructions.push(instruction)?;
         Ok(())
+    }
+
+    /// A definition: the last tree is that of the name. Most are of a literal alone, which is then no tree of its own.
+    pub(crate) fn define(&mut self, name: Text) -> Result<(), OutOfMemory>
+        ensures { OnOk result (stack self.new ≡ step (instructions.Define name) (stack self.old)) }
+    {
+        match self.instructions.pop() {
+            Some(Instruction::Literal(literal)) => {
+                self.push(Instruction::DefineLiteral(name, literal))
+            }
+            Some(last) => {
+                self.push(last)?;
+                self.push(Instruction::Define(name))
+            }
+            None => self.push(Instruction::Define(name)),
+        }
     }
 
     /// So many conditionals within one another.

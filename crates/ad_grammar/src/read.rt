@@ -16,7 +16,7 @@ pub fn read_expression(alloc: Global, reader: Reader<'_>) -> Result<Program, Sto
 {
     let mut reader = reader;
     let fuel = reader.count() + 1;
-    let mut program = Program::with_capacity(alloc, reader.count())?;
+    let mut program = Program::with_capacity(alloc, reader.count() / 2)?;
     expression(alloc, &mut reader, &mut program, fuel)?;
     if reader.count() > 0 {
         return Err(Stop::Grammar);
@@ -32,7 +32,7 @@ pub fn read_ad(alloc: Global, reader: Reader<'_>) -> Result<Program, Stop>
     let mut reader = reader;
     reader.expect(Mark::OpenBracket)?;
     let fuel = reader.count() + 1;
-    let mut program = Program::with_capacity(alloc, reader.count())?;
+    let mut program = Program::with_capacity(alloc, reader.count() / 2)?;
     program.push(Instruction::Ad)?;
     definitions(alloc, &mut reader, &mut program, fuel)?;
     if reader.count() > 0 {

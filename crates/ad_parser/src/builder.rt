@@ -16,7 +16,7 @@ ghost use Rattle.ad_parser.specs.JoinedTrees.{joined_tree, TakesElement};
 use crate::stack::Stack;
 use ad_grammar::{Infix, Instruction, Program};
 use ad_tree::{Ad, Draft, Expr, Exprs, Phrase};
-use pool_text::{OutOfMemory, Text, UnOp};
+use pool_text::{Lit, OutOfMemory, Text, UnOp};
 use std::alloc::Global;
 use std::vec::IntoIter;
 
@@ -41,11 +41,27 @@ pub struct Builder {
 pub fn build_ad(alloc: Global, program: Program) -> Result<Ad, OutOfMemory>
     ensures { IfOk result (λ ad. ad_frames ad ≡ ad_of (top (stack program))) }
 {
-    let mut builder = Builder::of_ad(alloc)?;
+    let mut builder = Builder::of_ad(alloc, root_size(program.instructions()))?;
     for instruction in behind_opening(program)? {
         builder.carry_out(instruction)?;
     }
     builder.finish_ad()
+}
+
+/// How many definitions the first ad literal has, so that there is room for them at once. Nothing else rests on it.
+fn root_size(instructions: &[Instruction]) -> usize {
+    let mut open: usize = 0;
+    let mut size: usize = 0;
+    for instruction in instructions {
+        match instruction {
+            Instruction::Ad => open = open.saturating_add(1),
+            Instruction::Close => open = open.saturating_sub(1),
+            Instruction::Define(_) if open == 1 => size = size.saturating_add(1),
+            Instruction::DefineLiteral(_, _) if open == 1 => size = size.saturating_add(1),
+            _ => {}
+        }
+    }
+    size
 }
 
 /// The instructions behind the first, which opens the ad literal.
@@ -89,15 +105,17 @@ impl Builder {
         }
     }
 
-    /// The root as an ad literal that is open.
-    fn of_ad(alloc: Global) -> Result<Builder, OutOfMemory>
+    /// The root as an ad literal that is open, with room for so many definitions.
+    fn of_ad(alloc: Global, room: usize) -> Result<Builder, OutOfMemory>
         ensures { IfOk result (λ builder. Holds true builder (inner no_defs ∷ [])) }
     {
+        let mut draft = Draft::new(alloc);
+        draft.reserve(0, room)?;
         let mut operands = Stack::new(alloc);
         operands.push(Operand::Open(0, 0))?;
         Ok(Builder {
             alloc,
-            draft: Draft::new(alloc),
+            draft,
             operands,
             parent: 0,
         })
@@ -119,6 +137,7 @@ impl Builder {
             Instruction::Element => self.element(),
             Instruction::Ad => self.open(),
             Instruction::Define(name) => self.define(name),
+            Instruction::DefineLiteral(name, literal) => self.define_literal(name, literal),
             Instruction::Close => self.close(),
         }
     }
@@ -214,6 +233,17 @@ impl Builder {
         let value = self.value()?;
         match self.operands.last() {
             Some(Operand::Open(_, _)) => self.draft.define(self.parent, name, value),
+            _ => Err(OutOfMemory),
+        }
+    }
+
+    /// Defines a name as a literal in the ad literal that is the last operand.
+    fn define_literal(&mut self, name: Text, literal: Lit) -> Result<(), OutOfMemory>
+        ensures { Carries (instructions.DefineLiteral name literal) self.old self.new result }
+    {
+        let expr = Expr::Literal(literal);
+        match self.operands.last() {
+            Some(Operand::Open(_, _)) => self.draft.define(self.parent, name, expr),
             _ => Err(OutOfMemory),
         }
     }

@@ -238,6 +238,10 @@ fn measure_next(measures: &mut Stack<Measure>, instruction: &Instruction) -> Res
             let ad = last(measures);
             measures.push(ad.with_definition(value))
         }
+        Instruction::DefineLiteral(_, _) => {
+            let ad = last(measures);
+            measures.push(ad.with_definition(Measure::leaf()))
+        }
         Instruction::Close => Ok(()),
     }
 }

@@ -278,7 +278,7 @@ some_definitions-returns-in_err-goes_on t c =
     let n = c.loop-turns.turns in
     let second = stack c.expression.new.program in
     let value = c.in_ok-expression.ensures in
-    let after = stack c.push.new.self in
+    let after = stack c.define.new.self in
     let on = value.on c.in_ok-expression.field-0 refl in
     stops-by w (left c.goes_on.new.self) (below start) after c.from_residual-in_err-goes_on.result c.in_err-goes_on.field-0.0
     c.from_residual-in_err-goes_on.ensures.0 c.from_residual-in_err-goes_on.ensures.1
@@ -297,7 +297,7 @@ some_definitions-returns-then-not-branch t c =
     let n = c.loop-turns.turns in
     let second = stack c.expression.new.program in
     let value = c.in_ok-expression.ensures in
-    let after = stack c.push.new.self in
+    let after = stack c.define.new.self in
     let on = value.on c.in_ok-expression.field-0 refl in
     let closes : ContinuesOk (left c.expression.new.reader) false (left c.goes_on.new.self) =
     subst (λ g. ContinuesOk (left c.expression.new.reader) g (left c.goes_on.new.self)) c.if-not-branch.true (c.in_ok-goes_on.ensures.ok c.in_ok-goes_on.field-0 refl) in
@@ -305,8 +305,8 @@ some_definitions-returns-then-not-branch t c =
     (definitions-end e w n before (left c.loop-turns.reader) c.loop-turns.invariant.read c.loop-turns-test.true
     c.in_ok-name.name (left c.name.new.self) (c.in_ok-name.ensures.ok c.in_ok-name.name refl)
     (left c.expect.new.self) (c.in_ok-expect.ensures.ok _ refl) second (left c.expression.new.reader) (value.ok c.in_ok-expression.field-0 refl)
-    after (left c.goes_on.new.self) on c.in_ok-push.ensures (closes (rules.definitions_at e (n - 1)) c.in_ok-name.name (top second)))
-    (two-below (below start) before second after c.loop-turns.invariant.rest on (ap below c.in_ok-push.ensures))
+    after (left c.goes_on.new.self) on c.in_ok-define.ensures (closes (rules.definitions_at e (n - 1)) c.in_ok-name.name (top second)))
+    (two-below (below start) before second after c.loop-turns.invariant.rest on (ap below c.in_ok-define.ensures))
 
 pub some_definitions-loop-turns-preserved : goal.some_definitions-loop-turns-preserved
 some_definitions-loop-turns-preserved t c =
@@ -318,7 +318,7 @@ some_definitions-loop-turns-preserved t c =
     let n = c.loop-turns.turns in
     let second = stack c.expression.new.program in
     let value = c.in_ok-expression.ensures in
-    let after = stack c.push.new.self in
+    let after = stack c.define.new.self in
     let on = value.on c.in_ok-expression.field-0 refl in
     let goes : ContinuesOk (left c.expression.new.reader) true (left c.goes_on.new.self) =
     subst (λ g. ContinuesOk (left c.expression.new.reader) g (left c.goes_on.new.self)) c.if-not-branch.false (c.in_ok-goes_on.ensures.ok c.in_ok-goes_on.field-0 refl) in
@@ -326,8 +326,8 @@ some_definitions-loop-turns-preserved t c =
       read = definitions-more e w n before (left c.loop-turns.reader) c.loop-turns.invariant.read c.loop-turns-test.true
           c.in_ok-name.name (left c.name.new.self) (c.in_ok-name.ensures.ok c.in_ok-name.name refl)
           (left c.expect.new.self) (c.in_ok-expect.ensures.ok _ refl) second (left c.expression.new.reader) (value.ok c.in_ok-expression.field-0 refl)
-          after (left c.goes_on.new.self) on c.in_ok-push.ensures (goes (rules.definitions_at e (n - 1)) c.in_ok-name.name (top second));
-      rest = two-below (below start) before second after c.loop-turns.invariant.rest on (ap below c.in_ok-push.ensures);
+          after (left c.goes_on.new.self) on c.in_ok-define.ensures (goes (rules.definitions_at e (n - 1)) c.in_ok-name.name (top second));
+      rest = two-below (below start) before second after c.loop-turns.invariant.rest on (ap below c.in_ok-define.ensures);
     }
 
 pub suffixes-returns-in_err-expect : goal.suffixes-returns-in_err-expect

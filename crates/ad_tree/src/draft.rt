@@ -1,9 +1,9 @@
 // Drafts: ads while they are built.
 ghost use Rattle.std.specs.Prelude.{◌≡◌, ◌+◌, ◌<◌, ◌^◌, ◌++◌, ◌∷◌, [], length, slice_get, option_map, IfOk, OnOk, OnErr};
 ghost use Rattle.ad_tree.specs.Tree.{tree};
-ghost use Rattle.ad_tree.specs.Frames.{defined, empty_frame};
+ghost use Rattle.ad_tree.specs.Frames.{IsAd, defined, empty_frame};
 ghost use Rattle.ad_tree.specs.Inline.{frames, number, spelled, spelled_tree};
-ghost use Rattle.ad_tree.specs.Table.{frame_of};
+ghost use Rattle.ad_tree.specs.Table.{frame_of, frames_of};
 
 use crate::frame::AdFrame;
 use crate::order::{is_in_order, is_phrase_in_order};
@@ -103,19 +103,48 @@ impl Draft {
             ad_frames phrase.ad ≡ empty_frame 0 ∷ frames 0 1 (spelled_tree (draft_frames self) (tree expr))) }
         ensures expr { IfOk result (λ phrase. tree phrase.expr ≡ number 1 (spelled_tree (draft_frames self) (tree expr))) }
     {
-        if is_phrase_in_order(&self, &expr) {
-            let root = AdFrame::new(self.alloc, 0);
-            let frames = behind_root(self.alloc, root, self.inner)?;
-            return Ok(Phrase {
-                ad: Ad::from_frames(frames)?,
-                expr,
-            });
+        if !is_phrase_in_order(&self, &expr) {
+            let phrase = self.copied_phrase(&expr);
+            drop(expr);
+            drop(self);
+            return phrase;
         }
+        match self.behind_empty_root() {
+            Ok(ad) => Ok(Phrase { ad, expr }),
+            Err(error) => {
+                drop(expr);
+                Err(error)
+            }
+        }
+    }
+
+    // The expression with copies of its frames.
+    fn copied_phrase(&self, expr: &Expr) -> Result<Phrase, OutOfMemory>
+        ensures frames { IfOk result (λ phrase.
+            ad_frames phrase.ad ≡ empty_frame 0 ∷ frames 0 1 (spelled_tree (draft_frames self.now) (tree expr.now))) }
+        ensures expr { IfOk result (λ phrase.
+            tree phrase.expr ≡ number 1 (spelled_tree (draft_frames self.now) (tree expr.now))) }
+    {
         let mut frames = Vec::new(self.alloc);
         frames.push(AdFrame::new(self.alloc, 0))?;
-        let expr = place(self.alloc, &self, self.count(), 0, &expr, &mut frames)?;
-        let ad = Ad::from_frames(frames)?;
-        Ok(Phrase { ad, expr })
+        let expr = place(self.alloc, self, self.count(), 0, expr, &mut frames)?;
+        match Ad::from_frames(frames) {
+            Ok(ad) => Ok(Phrase { ad, expr }),
+            Err(error) => {
+                drop(expr);
+                Err(error)
+            }
+        }
+    }
+
+    // The ad of the frames behind the root, with an empty root.
+    fn behind_empty_root(self) -> Result<Ad, OutOfMemory>
+        requires { IsAd (empty_frame 0 ∷ frames_of self.inner.items) }
+        ensures { IfOk result (λ ad. ad_frames ad ≡ empty_frame 0 ∷ frames_of self.inner.items) }
+    {
+        let root = AdFrame::new(self.alloc, 0);
+        let frames = behind_root(self.alloc, root, self.inner)?;
+        Ad::from_frames(frames)
     }
 
     pub(crate) fn count(&self) -> usize

@@ -1,5 +1,5 @@
 // One frame of an ad or of a draft: its attributes in order, kept under their folded names.
-ghost use Rattle.std.specs.Prelude.{◌≡◌, ◌<◌, ◌≤◌, ◌^◌, [], length, map, position, slice_get, option_map, Some, IfOk, OnOk, OnErr, IsTrue};
+ghost use Rattle.std.specs.Prelude.{◌≡◌, ◌+◌, ◌<◌, ◌≤◌, ◌^◌, [], length, map, position, slice_get, option_map, Some, IfOk, OnOk, OnErr, IsTrue};
 ghost use Rattle.pool_text.specs.Folding.{folded};
 ghost use Rattle.ad_tree.specs.Tree.{tree};
 ghost use Rattle.ad_tree.specs.Names.{same_name, are_apart};
@@ -63,12 +63,27 @@ impl AdFrame {
         ensures ok { OnOk result (frame_of self.new ≡ defined_in (frame_of self.old) name (tree expr)) }
         ensures err { OnErr result (frame_of self.new ≡ frame_of self.old) }
     {
+        let key = match self.new_key(alloc, name.bytes()) {
+            Ok(key) => key,
+            Err(error) => {
+                drop(expr);
+                return Err(error);
+            }
+        };
+        let replaced = self.attributes.insert(key, Attribute { name, expr })?;
+        drop(replaced);
+        Ok(())
+    }
+
+    // The key of one more name.
+    fn new_key(&self, alloc: Global, name: &[u8]) -> Result<Vec<u8>, OutOfMemory>
+        ensures key { IfOk result (λ key. key.items ≡ folded name.now) }
+        ensures room { OnOk result (length self.now.attributes.entries + 1 < 2 ^ 32) }
+    {
         if self.attributes.len() >= u32::MAX as usize {
             return Err(OutOfMemory);
         }
-        let key = folded_key(alloc, name.bytes())?;
-        self.attributes.insert(key, Attribute { name, expr })?;
-        Ok(())
+        folded_key(alloc, name)
     }
 
     pub fn count(&self) -> u32

@@ -184,8 +184,9 @@ fn place_definitions(
     let mut copy = AdFrame::new(alloc, parent);
     for i in 0..source.count() {
         let attribute = source.at(i);
+        let name = attribute.name.copy()?;
         let expr = place(alloc, draft, turns, at, &attribute.expr, out)?;
-        copy.define(alloc, attribute.name.copy()?, expr)?;
+        copy.define(alloc, name, expr)?;
     }
     Ok(copy)
 }

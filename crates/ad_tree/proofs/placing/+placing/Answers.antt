@@ -36,7 +36,7 @@ place_definitions-loop-i-preserved t c =
     defs-placed (inside (draft_frames c.args.draft.now) c.args.turns) (frame_of c.args.source.now).attributes c.loop-i.i
     c.at-attribute.result.now.name (tree c.at-attribute.result.now.expr) (frame_of c.loop-i.copy) (frame_of c.define.new.self) (tree c.in_ok-expr.expr)
     c.at-attribute.ensures
-    (c.in_ok-define.ensures.ok ∙ ap (λ name. defined_in (frame_of c.loop-i.copy) name (tree c.in_ok-expr.expr)) c.in_ok-copy.ensures)
+    (c.in_ok-define.ensures.ok ∙ ap (λ name. defined_in (frame_of c.loop-i.copy) name (tree c.in_ok-expr.expr)) c.in_ok-name.ensures)
     c.loop-i.invariant c.in_ok-expr.ensures
 
 pub open-returns-in_default : goal.open-returns-in_default

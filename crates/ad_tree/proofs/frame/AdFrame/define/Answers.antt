@@ -13,7 +13,7 @@ pub invariant_of-self-clause-keyed : goal.invariant_of-self-clause-keyed
 invariant_of-self-clause-keyed c =
     let a : Attribute = record { name = c.args.name; expr = c.args.expr } in
     elim (stepped c.insert.result _ _ c.insert.ensures.entries c.insert.ensures.err) [
-      | inl e ↦ subst keys_fold_names (sym e) (keys-insert c.in_ok-key.key a (c.in_ok-key.ensures ∙ ap folded c.bytes.ensures) c.args.self.now.attributes.entries c.args.self.now.keyed)
+      | inl e ↦ subst keys_fold_names (sym e) (keys-insert c.in-Ok.key a (c.in-Ok.ensures.key ∙ ap folded c.bytes.ensures) c.args.self.now.attributes.entries c.args.self.now.keyed)
       | inr e ↦ subst keys_fold_names (sym e) c.args.self.now.keyed
     ]
 
@@ -22,7 +22,7 @@ invariant_of-self-clause-apart c =
     let a : Attribute = record { name = c.args.name; expr = c.args.expr } in
     elim (stepped c.insert.result _ _ c.insert.ensures.entries c.insert.ensures.err) [
       | inl e ↦ ap (λ es. are_apart (names_of (attributes_of es))) e
-          ∙ ap (λ as_put. are_apart (names_of as_put)) (attributes-insert c.in_ok-key.key a (c.in_ok-key.ensures ∙ ap folded c.bytes.ensures) c.args.self.now.attributes.entries c.args.self.now.keyed)
+          ∙ ap (λ as_put. are_apart (names_of as_put)) (attributes-insert c.in-Ok.key a (c.in-Ok.ensures.key ∙ ap folded c.bytes.ensures) c.args.self.now.attributes.entries c.args.self.now.keyed)
           ∙ apart-put_attribute c.args.name (tree c.args.expr) (attributes_of c.args.self.now.attributes.entries) c.args.self.now.apart
       | inr e ↦ ap (λ es. are_apart (names_of (attributes_of es))) e ∙ c.args.self.now.apart
     ]
@@ -31,13 +31,13 @@ pub invariant_of-self-clause-few : goal.invariant_of-self-clause-few
 invariant_of-self-clause-few c =
     let a : Attribute = record { name = c.args.name; expr = c.args.expr } in
     elim (stepped c.insert.result _ _ c.insert.ensures.entries c.insert.ensures.err) [
-      | inl e ↦ omega (arith, ap length e, length-insert c.in_ok-key.key a (c.in_ok-key.ensures ∙ ap folded c.bytes.ensures) c.args.self.now.attributes.entries)
+      | inl e ↦ omega (arith, ap length e, length-insert c.in-Ok.key a (c.in-Ok.ensures.key ∙ ap folded c.bytes.ensures) c.args.self.now.attributes.entries, c.in-Ok.ensures.room)
       | inr e ↦ omega (arith, ap length e)
     ]
 
 pub returns-clause-ok : goal.returns-clause-ok
 returns-clause-ok c =
     let a : Attribute = record { name = c.args.name; expr = c.args.expr } in
-    ap (λ es. record { parent = c.args.self.now.parent; attributes = attributes_of es }) c.in_ok-insert.ensures.entries
+    ap (λ es. record { parent = c.args.self.now.parent; attributes = attributes_of es }) c.in_ok-replaced.ensures.entries
     ∙ ap (λ attributes. record { parent = c.args.self.now.parent; attributes = attributes })
-    (attributes-insert c.in_ok-key.key a (c.in_ok-key.ensures ∙ ap folded c.bytes.ensures) c.args.self.now.attributes.entries c.args.self.now.keyed)
+    (attributes-insert c.in-Ok.key a (c.in-Ok.ensures.key ∙ ap folded c.bytes.ensures) c.args.self.now.attributes.entries c.args.self.now.keyed)

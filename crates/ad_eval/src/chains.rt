@@ -10,10 +10,10 @@ ghost use Rattle.ad_eval.specs.Scene.{listed_in, results_in, world_in};
 use crate::branch::{Branch, branch_of};
 use crate::calls::{apply_function, is_named};
 use crate::evaluation::evaluate;
-use crate::outcome::{Outcome, Several, greater};
+use crate::outcome::{Outcome, Several};
 use crate::scene::Scene;
 use ad_tree::{Expr, Exprs};
-use ad_value::{Value, Values, and_ends, and_step, bounded, or_ends, or_step};
+use ad_value::{Value, Values, and_ends, bounded, or_ends};
 use builtin_funcs::known;
 use cycle_guard::Guard;
 use pool_steps::Steps;
@@ -38,12 +38,10 @@ pub fn conjunction<E: Ledger>(
             return Ok(Some(so_far));
         }
         let Some(next) = evaluate(scene, guard, entry, items.at(i))? else {
+            drop(so_far);
             return Ok(None);
         };
-        so_far = Outcome {
-            value: and_step(&so_far.value, &next.value),
-            height: greater(so_far.height, next.height),
-        };
+        so_far = so_far.and(next);
     }
     Ok(Some(so_far))
 }
@@ -66,12 +64,10 @@ pub fn disjunction<E: Ledger>(
             return Ok(Some(so_far));
         }
         let Some(next) = evaluate(scene, guard, entry, items.at(i))? else {
+            drop(so_far);
             return Ok(None);
         };
-        so_far = Outcome {
-            value: or_step(&so_far.value, &next.value),
-            height: greater(so_far.height, next.height),
-        };
+        so_far = so_far.or(next);
     }
     Ok(Some(so_far))
 }
@@ -140,17 +136,17 @@ pub fn conditional<E: Ledger>(
     let Some(condition) = evaluate(scene, guard, entry, condition)? else {
         return Ok(None);
     };
-    match branch_of(&condition.value, first, second) {
+    let chosen = branch_of(&condition.value, first, second);
+    let height = condition.height;
+    drop(condition);
+    match chosen {
         Branch::Taken(branch) => {
             let Some(taken) = evaluate(scene, guard, entry, branch)? else {
                 return Ok(None);
             };
-            Ok(Some(taken.at_least(condition.height)))
+            Ok(Some(taken.at_least(height)))
         }
-        Branch::Value(value) => Ok(Some(Outcome {
-            value,
-            height: condition.height,
-        })),
+        Branch::Value(value) => Ok(Some(Outcome { value, height })),
     }
 }
 
@@ -179,8 +175,9 @@ pub fn call_function<E: Ledger>(
     let Some(args) = all_of(scene, guard, entry, items)? else {
         return Ok(None);
     };
-    Ok(Some(Outcome {
-        value: apply_function(scene, name, &args.values)?,
-        height: args.height,
-    }))
+    let applied = apply_function(scene, name, &args.values);
+    let height = args.height;
+    drop(args);
+    let value = applied?;
+    Ok(Some(Outcome { value, height }))
 }

@@ -1,4 +1,5 @@
-// Operators, selections and subscripts, whose operands are evaluated from the left.
+// Operators, selections and subscripts, whose operands are evaluated from the left. A value has many kinds, so it is dropped by a
+// call as soon as it has served, and few are open at each way out.
 ghost use Rattle.std.specs.Prelude.{IfOk};
 ghost use Rattle.ad_tree.specs.Tree.{tree};
 ghost use Rattle.ad_eval.specs.Kept.{Answers, Counts, Ready};
@@ -31,10 +32,10 @@ pub fn unary_operation<E: Ledger>(
     let Some(operand) = evaluate(scene, guard, entry, a)? else {
         return Ok(None);
     };
-    Ok(Some(Outcome {
-        value: unary(op, &operand.value),
-        height: operand.height,
-    }))
+    let value = unary(op, &operand.value);
+    let height = operand.height;
+    drop(operand);
+    Ok(Some(Outcome { value, height }))
 }
 
 /// The value of an operator between its operands, both of which are demanded.
@@ -55,12 +56,14 @@ pub fn binary_operation<E: Ledger>(
         return Ok(None);
     };
     let Some(right) = evaluate(scene, guard, entry, b)? else {
+        drop(left);
         return Ok(None);
     };
-    Ok(Some(Outcome {
-        value: binary(op, &left.value, &right.value),
-        height: greater(left.height, right.height),
-    }))
+    let value = binary(op, &left.value, &right.value);
+    let height = greater(left.height, right.height);
+    drop(left);
+    drop(right);
+    Ok(Some(Outcome { value, height }))
 }
 
 /// The value of `base.name`.
@@ -80,10 +83,12 @@ pub fn selection<E: Ledger>(
         return Ok(None);
     };
     let selected = select(scene, &base.value, name);
+    let height = base.height;
+    drop(base);
     let Some(found) = follow(scene, guard, entry, selected)? else {
         return Ok(None);
     };
-    Ok(Some(found.at_least(base.height)))
+    Ok(Some(found.at_least(height)))
 }
 
 /// The value of `base[index]`.
@@ -103,11 +108,16 @@ pub fn subscription<E: Ledger>(
         return Ok(None);
     };
     let Some(index) = evaluate(scene, guard, entry, index)? else {
+        drop(base);
         return Ok(None);
     };
-    let element = subscript(scene, &base.value, &index.value)?;
+    let subscripted = subscript(scene, &base.value, &index.value);
+    let height = greater(base.height, index.height);
+    drop(base);
+    drop(index);
+    let element = subscripted?;
     let Some(found) = follow(scene, guard, entry, element)? else {
         return Ok(None);
     };
-    Ok(Some(found.at_least(greater(base.height, index.height))))
+    Ok(Some(found.at_least(height)))
 }

@@ -1,8 +1,9 @@
 // What a step of an evaluation gives.
 ghost use Rattle.std.specs.Prelude.{◌≡◌, ◌<◌, ◌+◌, ◌^◌, ◌++◌, ◌∷◌, [], max, IfOk};
+ghost use Rattle.ad_value.specs.Logic.{and_value, or_value};
 ghost use Rattle.ad_value.specs.Plain.{plain, plains};
 
-use ad_value::{Value, Values};
+use ad_value::{Value, Values, and_step, or_step};
 use pool_text::OutOfMemory;
 
 /// A value, with the least number of references that it needs.
@@ -38,6 +39,32 @@ impl Outcome {
             value,
             height: greater(height, own),
         }
+    }
+}
+
+impl Outcome {
+    /// The value of `first && second` where this is the first, with the references of both.
+    pub fn and(self, next: Outcome) -> Outcome
+        ensures value { plain result.value ≡ and_value (plain self.value) (plain next.value) }
+        ensures height { result.height ≡ max self.height next.height }
+    {
+        let value = and_step(&self.value, &next.value);
+        let height = greater(self.height, next.height);
+        drop(self);
+        drop(next);
+        Outcome { value, height }
+    }
+
+    /// The value of `first || second`, likewise.
+    pub fn or(self, next: Outcome) -> Outcome
+        ensures value { plain result.value ≡ or_value (plain self.value) (plain next.value) }
+        ensures height { result.height ≡ max self.height next.height }
+    {
+        let value = or_step(&self.value, &next.value);
+        let height = greater(self.height, next.height);
+        drop(self);
+        drop(next);
+        Outcome { value, height }
     }
 }
 

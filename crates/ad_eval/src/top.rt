@@ -51,7 +51,9 @@ pub fn value<F: Ledger, E: Ledger>(
         left: REFERENCES,
     };
     let mut guard = Guard::new(alloc);
-    let answer = evaluate(&scene, &mut guard, entry, expr)?;
+    let evaluated = evaluate(&scene, &mut guard, entry, expr);
+    drop(guard);
+    let answer = evaluated?;
     Ok(value_or_error(answer))
 }
 
@@ -75,7 +77,9 @@ pub fn requirement<F: Ledger, E: Ledger>(
         return Ok(false);
     };
     let value = value_at(alloc, world, pos, tops, entry)?;
-    Ok(matches!(value, Value::Boolean(true)))
+    let holds = matches!(value, Value::Boolean(true));
+    drop(value);
+    Ok(holds)
 }
 
 /// The rank by the frame `at`: its attribute `Rank` where that is an Integer, 1 where it is true, and 0 for all else. The
@@ -98,7 +102,9 @@ pub fn rank<F: Ledger, E: Ledger>(
         return Ok(0);
     };
     let value = value_at(alloc, world, pos, tops, entry)?;
-    Ok(rank_number(&value))
+    let number = rank_number(&value);
+    drop(value);
+    Ok(number)
 }
 
 /// Whether the last dock is true: the requirements of both its sides are, the request's first. The resource's side is
@@ -145,7 +151,9 @@ fn value_at<F: Ledger, E: Ledger>(
         left: REFERENCES,
     };
     let mut guard = Guard::new(alloc);
-    let answer = attribute(&scene, &mut guard, entry, pos)?;
+    let evaluated = attribute(&scene, &mut guard, entry, pos);
+    drop(guard);
+    let answer = evaluated?;
     Ok(value_or_error(answer))
 }
 

@@ -3,6 +3,8 @@ use Rattle.std.specs.Prelude.{ℕ, List, Option, None, Some, slice_get, if◌the
 use Rattle.std.specs.Option.{option_and_then, option_map_or}
 use Rattle.ad_tree.specs.Frames.{Frame}
 use Rattle.ad_store.specs.Stock.{Advert}
+use Rattle.eval_scope.specs.World.{PlainWorld, request_side, resource_side}
+use Rattle.ad_eval.specs.Dock.{is_docked, rank_by}
 use Rattle.bilateral_match.specs.declared.hit.Match.{Match}
 use Rattle.bilateral_match.specs.Answers.{match_with}
 use Rattle.bilateral_match.specs.declared.member.Member.{Member}
@@ -24,6 +26,10 @@ abbrev pub attributes_at : ℕ → List Frame → List Advert → ℕ → ℕ
 attributes_at moment request ads place = option_map_or (λ advert. attributes_most moment request advert.ad) (slice_get ads place) 0
 
 -- ---- the resources at places, as the best is sought among them
+
+-- what the sides of the last dock rank each other where it is true
+abbrev pub ranks_in : PlainWorld → Option Ranks
+ranks_in w = if is_docked w then Some (record { rank = rank_by w (request_side w); regard = rank_by w (resource_side w) }) else None
 
 -- what the sides rank each other where they dock
 abbrev pub ranks_of_dock : ℕ → List Frame → List Frame → Option Ranks

@@ -125,12 +125,27 @@ fn ranks<F: Ledger, E: Ledger>(
         return Ok(None);
     }
     let world = World::new(moment, &request.ad, &request.ports).with(ad);
-    if !dock(alloc, &world, tops, entry)? {
+    ranks_in(alloc, &world, tops, entry)
+}
+
+// What the sides of the last dock rank each other, where it is true.
+fn ranks_in<F: Ledger, E: Ledger>(
+    alloc: Global,
+    world: &World<'_>,
+    tops: &mut Steps<F>,
+    entry: &mut Steps<E>,
+) -> Result<Option<Ranks>, OutOfMemory>
+    ensures ranks { IfOk result (λ ranks. ranks ≡ scan.ranks_in (world_of world.now)) }
+    ensures evaluations { tops.new ≤ tops.old + 4 }
+    ensures entries { entry.new ≤ entry.old + 4 * attribute_count (world_of world.now) }
+    ensures ratio { AreSmall (world_of world.now) → entry.new + 9216 * tops.old ≤ entry.old + 9216 * tops.new }
+{
+    if !dock(alloc, world, tops, entry)? {
         return Ok(None);
     }
     Ok(Some(Ranks {
-        rank: rank(alloc, &world, world.request_place(), tops, entry)?,
-        regard: rank(alloc, &world, world.resource_place(), tops, entry)?,
+        rank: rank(alloc, world, world.request_place(), tops, entry)?,
+        regard: rank(alloc, world, world.resource_place(), tops, entry)?,
     }))
 }
 

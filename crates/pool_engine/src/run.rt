@@ -1,11 +1,14 @@
 // The run of a script over a source and a sink.
-ghost use Rattle.std.specs.Prelude.{◌≡◌, ◌≢◌, ◌↔◌, ◌+◌, ◌*◌, ◌≤◌, ◌<◌, [], length, IsTrue, IfOk, IfSome};
+ghost use Rattle.std.specs.Prelude.{◌≡◌, ◌≢◌, ◌↔◌, ◌+◌, ◌*◌, ◌≤◌, ◌<◌, [], false, length, IsTrue, IfOk, IfSome};
 ghost use Rattle.pool_io.specs.Flow.{Reads, Rose};
 ghost use Rattle.pool_script.specs.Commands.{whole_commands};
+ghost use Rattle.pool_script.specs.Standing.{Stands};
 ghost use Rattle.pool_engine.specs.CommandLine.{AskedEnds, IsUnread, asked_by, asked_text, input_of};
 ghost use Rattle.pool_engine.specs.Ends.{Ends, IsDoneOrOutOfMemory, LeavesAtMost, effects, end_of, status_of};
 ghost use Rattle.pool_engine.specs.Events.{events_of, replies_text};
 ghost use Rattle.pool_state.specs.Heard.{opened};
+ghost use Rattle.pool_state.specs.Pool.{state_of};
+ghost use Rattle.pool_state.specs.State.{opening};
 ghost use Rattle.pool_engine.specs.Limits.{input_limit};
 
 use crate::command_line::{Asked, read_words};
@@ -166,8 +169,33 @@ fn run_input<S: Source, K: Sink, D: Notices, F: Ledger, E: Ledger, T: Ledger>(
     ensures ratio { entry.new + 9216 * tops.old ≤ entry.old + 9216 * tops.new }
     ensures words { result ≢ Err RunEnd.BadWords }
 {
-    let mut buffer = [0; READ_SIZE];
     let mut session = Session::new(alloc);
+    let answered = answer_input(&mut session, source, sink, desk, tops, entry, touch);
+    drop(session);
+    answered
+}
+
+// Reads all of a script into a new session. A session has many parts, so it is dropped in one place alone.
+fn answer_input<S: Source, K: Sink, D: Notices, F: Ledger, E: Ledger, T: Ledger>(
+    session: &mut Session,
+    source: &mut S,
+    sink: &mut K,
+    desk: &mut D,
+    tops: &mut Steps<F>,
+    entry: &mut Steps<E>,
+    touch: &mut Steps<T>,
+) -> Result<u64, RunEnd>
+    requires script { Stands session.old.script [] 0 }
+    requires waiting { session.old.script.waiting ≡ [] }
+    requires over { session.old.script.over ≡ false }
+    requires pool { state_of session.old.pool ≡ opening }
+    requires refused { session.old.refused ≡ 0 }
+    ensures ends { Ends (S.shows source.old) (S.shows source.new)
+        (effects (K.shows sink.old) tops.old touch.old (D.shows desk.old)) (effects (K.shows sink.new) tops.new touch.new (D.shows desk.new)) (end_of result) }
+    ensures ratio { entry.new + 9216 * tops.old ≤ entry.old + 9216 * tops.new }
+    ensures words { result ≢ Err RunEnd.BadWords }
+{
+    let mut buffer = [0; READ_SIZE];
     let mut left = INPUT_LIMIT;
     while left > 0 {
         let Ok(count) = read_piece(source, &mut buffer, left) else {

@@ -76,22 +76,22 @@ impl Session {
 
     /// Runs the commands that the end of the script gives, and answers how many of all were refused.
     pub(crate) fn finish<K: Sink, D: Notices, F: Ledger, E: Ledger, T: Ledger>(
-        mut self,
+        &mut self,
         sink: &mut K,
         desk: &mut D,
         tops: &mut Steps<F>,
         entry: &mut Steps<E>,
         touch: &mut Steps<T>,
     ) -> Result<u64, RunEnd>
-        requires over { self.script.over ≡ false }
-        requires waiting { self.script.waiting ≡ [] }
-        requires room { self.refused + length (whole_commands self.script.rest) < 2 ^ 64 }
-        ensures took { IfOk result (λ refused. (t : Heard) × Took (heard (state_of self.pool) (D.shows desk.old)) t
+        requires over { self.old.script.over ≡ false }
+        requires waiting { self.old.script.waiting ≡ [] }
+        requires room { self.old.refused + length (whole_commands self.old.script.rest) < 2 ^ 64 }
+        ensures took { IfOk result (λ refused. (t : Heard) × Took (heard (state_of self.old.pool) (D.shows desk.old)) t
             (effects (K.shows sink.old) tops.old touch.old (D.shows desk.old)) (effects (K.shows sink.new) tops.new touch.new (D.shows desk.new))
-            (whole_commands self.script.rest) self.refused refused) }
-        ensures stopped { IfErr result (Stopped (heard (state_of self.pool) (D.shows desk.old))
+            (whole_commands self.old.script.rest) self.old.refused refused) }
+        ensures stopped { IfErr result (Stopped (heard (state_of self.old.pool) (D.shows desk.old))
             (effects (K.shows sink.old) tops.old touch.old (D.shows desk.old)) (effects (K.shows sink.new) tops.new touch.new (D.shows desk.new))
-            (whole_commands self.script.rest)) }
+            (whole_commands self.old.script.rest)) }
         ensures ratio { entry.new + 9216 * tops.old ≤ entry.old + 9216 * tops.new }
     {
         self.script.end()?;

@@ -1,8 +1,9 @@
 // The run of a schedule of the claiming protocol over a source and a sink.
-ghost use Rattle.std.specs.Prelude.{◌≡◌, ◌≢◌, ◌≤◌, length, IsTrue, IfSome};
+ghost use Rattle.std.specs.Prelude.{◌≡◌, ◌≢◌, ◌≤◌, [], false, length, IsTrue, IfSome};
 ghost use Rattle.claim_wire.specs.Wires.{IsNumber, new_wire};
 ghost use Rattle.pool_io.specs.Flow.{Rose};
 ghost use Rattle.pool_script.specs.GivenLines.{whole_lines};
+ghost use Rattle.pool_script.specs.Standing.{LinesStand};
 ghost use Rattle.pool_engine.specs.Ends.{IsDoneOrOutOfMemory, LeavesAtMost, end_of};
 ghost use Rattle.pool_engine.specs.Limits.{input_limit};
 ghost use Rattle.pool_engine.specs.WireEnds.{WireEnds};
@@ -59,6 +60,27 @@ fn run_schedule<S: Source, K: Sink>(
         (K.shows sink.old) (K.shows sink.new) (end_of result) }
 {
     let mut session = WireSession::new(alloc, resources, customers)?;
+    let answered = answer_schedule(resources, customers, &mut session, source, sink);
+    drop(session);
+    answered
+}
+
+// Reads all of a schedule into a new session.
+fn answer_schedule<S: Source, K: Sink>(
+    resources: u32,
+    customers: u32,
+    session: &mut WireSession,
+    source: &mut S,
+    sink: &mut K,
+) -> Result<u64, RunEnd>
+    requires lines { LinesStand session.old.lines [] 0 }
+    requires waiting { session.old.lines.waiting ≡ [] }
+    requires over { session.old.lines.over ≡ false }
+    requires wire { session.old.wire ≡ new_wire resources customers }
+    requires refused { session.old.refused ≡ 0 }
+    ensures { WireEnds (new_wire resources customers) (S.shows source.old) (S.shows source.new)
+        (K.shows sink.old) (K.shows sink.new) (end_of result) }
+{
     let mut buffer = [0; READ_SIZE];
     let mut left = INPUT_LIMIT;
     while left > 0 {

@@ -62,14 +62,14 @@ impl WireSession {
     }
 
     /// Answers the lines that the end of the schedule gives, and tells how many of all were refused.
-    pub(crate) fn finish<K: Sink>(mut self, sink: &mut K) -> Result<u64, RunEnd>
-        requires over { self.lines.over ≡ false }
-        requires waiting { self.lines.waiting ≡ [] }
-        requires room { self.refused + length (whole_lines self.lines.rest) < 2 ^ 64 }
-        ensures answered { IfOk result (λ refused. (behind : WireState) × Answered self.wire behind (K.shows sink.old) (K.shows sink.new)
-            (whole_lines self.lines.rest) self.refused refused) }
-        ensures stopped { IfErr result (WireStopped self.wire (K.shows sink.old) (K.shows sink.new)
-            (whole_lines self.lines.rest)) }
+    pub(crate) fn finish<K: Sink>(&mut self, sink: &mut K) -> Result<u64, RunEnd>
+        requires over { self.old.lines.over ≡ false }
+        requires waiting { self.old.lines.waiting ≡ [] }
+        requires room { self.old.refused + length (whole_lines self.old.lines.rest) < 2 ^ 64 }
+        ensures answered { IfOk result (λ refused. (behind : WireState) × Answered self.old.wire behind (K.shows sink.old) (K.shows sink.new)
+            (whole_lines self.old.lines.rest) self.old.refused refused) }
+        ensures stopped { IfErr result (WireStopped self.old.wire (K.shows sink.old) (K.shows sink.new)
+            (whole_lines self.old.lines.rest)) }
     {
         self.lines.end()?;
         self.answer_waiting(sink)?;

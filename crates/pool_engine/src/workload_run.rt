@@ -4,7 +4,7 @@ ghost use Rattle.pool_io.specs.Flow.{Rose};
 ghost use Rattle.pool_script.specs.Form.{is_within_form};
 ghost use Rattle.pool_replies.specs.Replies.{hit_count, is_printable, offer_count, refusal_count, reply_text};
 ghost use Rattle.pool_engine.specs.Ends.{IsDoneOrOutOfMemory, effects};
-ghost use Rattle.pool_engine.specs.Events.{event_of};
+ghost use Rattle.pool_engine.specs.Events.{event_of, events_of};
 ghost use Rattle.pool_state.specs.Heard.{Heard, heard, opened};
 ghost use Rattle.pool_state.specs.Pool.{state_of};
 ghost use Rattle.pool_engine.specs.Session.{Stopped, Took};
@@ -76,9 +76,35 @@ fn summed<D: Notices, F: Ledger, E: Ledger, T: Ledger>(
 {
     let mut script = script_of(alloc, machines)?;
     let mut pool = Pool::new(alloc);
+    let summary = sum_waiting(alloc, &mut script, &mut pool, desk, tops, entry, touch);
+    drop(script);
+    drop(pool);
+    summary
+}
+
+// Runs the commands that wait in a pool, and sums up their replies. The pool has many parts, so others drop it.
+fn sum_waiting<D: Notices, F: Ledger, E: Ledger, T: Ledger>(
+    alloc: Global,
+    script: &mut Script,
+    pool: &mut Pool,
+    desk: &mut D,
+    tops: &mut Steps<F>,
+    entry: &mut Steps<E>,
+    touch: &mut Steps<T>,
+) -> Result<Summary, OutOfMemory>
+    ensures summed { IfOk result (λ summary.
+        IsSummaryOf summary (events_of (heard (state_of pool.old) (D.shows desk.old)) script.old.waiting)) }
+    ensures took { IfOk result (λ summary. (t : Heard) × Took (heard (state_of pool.old) (D.shows desk.old)) t
+        (effects silent tops.old touch.old (D.shows desk.old)) (effects silent tops.new touch.new (D.shows desk.new))
+        script.old.waiting 0 summary.refused) }
+    ensures stopped { OnErr result (Stopped (heard (state_of pool.old) (D.shows desk.old))
+        (effects silent tops.old touch.old (D.shows desk.old)) (effects silent tops.new touch.new (D.shows desk.new))
+        script.old.waiting RunEnd.OutOfMemory) }
+    ensures ratio { entry.new + 9216 * tops.old ≤ entry.old + 9216 * tops.new }
+{
     let mut summary = Summary::new();
     while let Some(command) = script.take() {
-        let one = answered(alloc, &mut pool, command, desk, tops, entry, touch)?;
+        let one = answered(alloc, pool, command, desk, tops, entry, touch)?;
         summary.add(&one)?;
     }
     Ok(summary)

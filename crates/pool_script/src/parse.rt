@@ -96,6 +96,7 @@ fn without_words(words: &[u8], command: Command) -> Command
     if words.is_empty() {
         command
     } else {
+        drop(command);
         Command::Bad(WRONG_WORDS)
     }
 }

@@ -1,6 +1,7 @@
 pub mod AdLemmas
 mod ClaimLemmas
 mod ClaimedLemmas
+mod CommandLemmas
 mod DockLemmas
 mod ExpiryLemmas
 mod FailingLemmas

@@ -360,9 +360,9 @@ operands::unary_operation-returns g t c =
     let p0 = begins w s.left f (λ n. option_map (unary_value op) (values_in s a n)) g0 c.requires (λ n. refl) in
     let g1 = c.evaluate.new.guard in
     let o = c.in-Some.operand in
-    let u : Outcome = record { value = c.unary.result; height = o.height } in
+    let u : Outcome = record { value = c.unary-value.result; height = o.height } in
     let some = known_as w (values_in s a) s.left g0 g1 c.in_ok-operand.field-0 (Some o) c.in-Some.is c.in_ok-operand.ensures.answer in
-    record { answer = finishes_mapped w s.left f g0 g0 g1 (unary_value op) (values_in s a) 0 o u p0 some c.unary.ensures (omega arith); counted = c.evaluate.ensures.counted }
+    record { answer = finishes_mapped w s.left f g0 g0 g1 (unary_value op) (values_in s a) 0 o u p0 some c.unary-value.ensures (omega arith); counted = c.evaluate.ensures.counted }
 
 pub operands::unary_operation-returns-in_err-operand : goal.operands::unary_operation-returns-in_err-operand
 operands::unary_operation-returns-in_err-operand g t c =
@@ -456,9 +456,9 @@ operands::binary_operation-returns g t c =
     let h1 = max 0 o1.height in
     let g2 = c.evaluate-2.new.guard in
     let o2 = c.in-Some-2.right in
-    let u : Outcome = record { value = c.binary.result; height = c.greater.result } in
+    let u : Outcome = record { value = c.binary-value.result; height = c.greater-height.result } in
     let some2 = known_as w (values_in s b) s.left g1 g2 c.in_ok-right.field-0 (Some o2) c.in-Some-2.is c.in_ok-right.ensures.answer in
-    record { answer = finishes_mapped w s.left f g0 g1 g2 (binary_value op (plain o1.value)) (values_in s b) h1 o2 u p1 some2 c.binary.ensures (omega (arith, c.greater.ensures)); counted = counts_then w n0 c.evaluate.new.entry c.evaluate-2.new.entry g0 g1 g2 c.evaluate.ensures.counted c.evaluate-2.ensures.counted }
+    record { answer = finishes_mapped w s.left f g0 g1 g2 (binary_value op (plain o1.value)) (values_in s b) h1 o2 u p1 some2 c.binary-value.ensures (omega (arith, c.greater-height.ensures)); counted = counts_then w n0 c.evaluate.new.entry c.evaluate-2.new.entry g0 g1 g2 c.evaluate.ensures.counted c.evaluate-2.ensures.counted }
 
 pub operands::binary_operation-returns-in_err-left : goal.operands::binary_operation-returns-in_err-left
 operands::binary_operation-returns-in_err-left g t c =
@@ -721,7 +721,7 @@ operands::subscription-returns g t c =
     let g3 = c.follow.new.guard in
     let o3 = c.in-Some-3.found in
     let some3 = known_as w (λ n. value_of (value_at n w) r) s.left g2 g3 c.in_ok-found.field-0 (Some o3) c.in-Some-3.is c.in_ok-found.ensures.answer in
-    record { answer = finishes_rest w s.left f g0 g2 g3 (λ n. value_of (value_at n w) r) h2 o3 c.at_least.result p3 some3 c.at_least.ensures.value (omega (arith, c.at_least.ensures.height, c.greater.ensures)); counted = counts_then w n0 c.evaluate-2.new.entry c.follow.new.entry g0 g2 g3 (counts_then w n0 c.evaluate.new.entry c.evaluate-2.new.entry g0 g1 g2 c.evaluate.ensures.counted c.evaluate-2.ensures.counted) c.follow.ensures.counted }
+    record { answer = finishes_rest w s.left f g0 g2 g3 (λ n. value_of (value_at n w) r) h2 o3 c.at_least.result p3 some3 c.at_least.ensures.value (omega (arith, c.at_least.ensures.height, c.greater-height.ensures)); counted = counts_then w n0 c.evaluate-2.new.entry c.follow.new.entry g0 g2 g3 (counts_then w n0 c.evaluate.new.entry c.evaluate-2.new.entry g0 g1 g2 c.evaluate.ensures.counted c.evaluate-2.ensures.counted) c.follow.ensures.counted }
 
 pub operands::subscription-returns-in_err-base : goal.operands::subscription-returns-in_err-base
 operands::subscription-returns-in_err-base g t c =
@@ -1230,8 +1230,8 @@ chains::conjunction-loop-i-preserved g t c =
     let o = c.in-Some.next in
     let some = known_as w (values_in s a) s.left g1 g2 c.in_ok-next.field-0 (Some o) c.in-Some.is c.in_ok-next.ensures.answer in
     let p2 = part_done w s.left f g0 g1 g2 k (values_in s a) h o p1 some in
-    let p3 = subst (λ (p : Plain). IsPartly w f s.left g0 g2 (λ n. conjunction p (results_in s (pack (drop (i + 1) ts)) n)) (max h o.height)) (sym c.and_step.ensures) p2 in
-    record { partly = subst (λ (m : ℕ). IsPartly w f s.left g0 g2 (λ n. conjunction (plain c.and_step.result) (results_in s (pack (drop (i + 1) ts)) n)) m) (sym c.greater.ensures) p3; counted = counts_then w n0 c.loop-i.entry c.evaluate.new.entry g0 g1 g2 c.loop-i.invariant.counted c.evaluate.ensures.counted }
+    let p3 = subst (λ (p : Plain). IsPartly w f s.left g0 g2 (λ n. conjunction p (results_in s (pack (drop (i + 1) ts)) n)) (max h o.height)) (sym c.and-so_far.ensures.value) p2 in
+    record { partly = subst (λ (m : ℕ). IsPartly w f s.left g0 g2 (λ n. conjunction (plain c.and-so_far.result.value) (results_in s (pack (drop (i + 1) ts)) n)) m) (sym c.and-so_far.ensures.height) p3; counted = counts_then w n0 c.loop-i.entry c.evaluate.new.entry g0 g1 g2 c.loop-i.invariant.counted c.evaluate.ensures.counted }
 
 pub chains::disjunction-loop-i-init : goal.chains::disjunction-loop-i-init
 chains::disjunction-loop-i-init g t c =
@@ -1354,8 +1354,8 @@ chains::disjunction-loop-i-preserved g t c =
     let o = c.in-Some.next in
     let some = known_as w (values_in s a) s.left g1 g2 c.in_ok-next.field-0 (Some o) c.in-Some.is c.in_ok-next.ensures.answer in
     let p2 = part_done w s.left f g0 g1 g2 k (values_in s a) h o p1 some in
-    let p3 = subst (λ (p : Plain). IsPartly w f s.left g0 g2 (λ n. disjunction p (results_in s (pack (drop (i + 1) ts)) n)) (max h o.height)) (sym c.or_step.ensures) p2 in
-    record { partly = subst (λ (m : ℕ). IsPartly w f s.left g0 g2 (λ n. disjunction (plain c.or_step.result) (results_in s (pack (drop (i + 1) ts)) n)) m) (sym c.greater.ensures) p3; counted = counts_then w n0 c.loop-i.entry c.evaluate.new.entry g0 g1 g2 c.loop-i.invariant.counted c.evaluate.ensures.counted }
+    let p3 = subst (λ (p : Plain). IsPartly w f s.left g0 g2 (λ n. disjunction p (results_in s (pack (drop (i + 1) ts)) n)) (max h o.height)) (sym c.or-so_far.ensures.value) p2 in
+    record { partly = subst (λ (m : ℕ). IsPartly w f s.left g0 g2 (λ n. disjunction (plain c.or-so_far.result.value) (results_in s (pack (drop (i + 1) ts)) n)) m) (sym c.or-so_far.ensures.height) p3; counted = counts_then w n0 c.loop-i.entry c.evaluate.new.entry g0 g1 g2 c.loop-i.invariant.counted c.evaluate.ensures.counted }
 
 pub chains::all_of-loop-i-init : goal.chains::all_of-loop-i-init
 chains::all_of-loop-i-init g t c =
@@ -1507,8 +1507,8 @@ chains::conditional-returns-in_default g t c =
     let none_left = known_as w (values_in s a) s.left g0 g1 c.in_ok-condition.field-0 None c.in_default.is c.in_ok-condition.ensures.answer in
     record { answer = part_fails w s.left f g0 g0 g1 g1 k (values_in s a) 0 p0 none_left; counted = c.evaluate.ensures.counted }
 
-pub chains::conditional-returns : goal.chains::conditional-returns
-chains::conditional-returns g t c =
+pub chains::conditional-returns-in-Value : goal.chains::conditional-returns-in-Value
+chains::conditional-returns-in-Value g t c =
     let s = c.args.scene.now in
     let w = world_in s in
     let g0 = c.args.guard.now in
@@ -1584,8 +1584,8 @@ chains::conditional-returns-in_err-taken-in-Taken g t c =
     let g2 = c.evaluate-in-Taken.new.guard in
     record { answer = search rules; counted = counts_then w n0 c.evaluate.new.entry c.evaluate-in-Taken.new.entry g0 g1 g2 c.evaluate.ensures.counted c.evaluate-in-Taken.ensures.counted }
 
-pub chains::conditional-returns-in-Taken : goal.chains::conditional-returns-in-Taken
-chains::conditional-returns-in-Taken g t c =
+pub chains::conditional-returns-in-Some-2 : goal.chains::conditional-returns-in-Some-2
+chains::conditional-returns-in-Some-2 g t c =
     let s = c.args.scene.now in
     let w = world_in s in
     let g0 = c.args.guard.now in
@@ -1731,9 +1731,9 @@ chains::call_function-returns g t c =
     let p0 = begins w s.left f (λ n. option_map (function_value w x) (rest n)) g0 c.requires (λ n. called-function s x ts n knows unnamed) in
     let g1 = c.all_of.new.guard in
     let o = c.in-Some.args in
-    let u : Outcome = record { value = c.in_ok-apply_function.field-0; height = o.height } in
+    let u : Outcome = record { value = c.in_ok-value.value; height = o.height } in
     let some = known_all_as w rest s.left g0 g1 c.in_ok-args.field-0 (Some o) c.in-Some.is c.in_ok-args.ensures.answer in
-    record { answer = finishes_all w s.left f g0 g0 g1 (function_value w x) rest 0 o u p0 some c.in_ok-apply_function.ensures (omega arith); counted = c.all_of.ensures.counted }
+    record { answer = finishes_all w s.left f g0 g0 g1 (function_value w x) rest 0 o u p0 some c.in_ok-value.ensures (omega arith); counted = c.all_of.ensures.counted }
 
 pub chains::call_function-returns-in_err-args : goal.chains::call_function-returns-in_err-args
 chains::call_function-returns-in_err-args g t c =
@@ -1743,8 +1743,8 @@ chains::call_function-returns-in_err-args g t c =
     let n0 = c.args.entry.now in
     record { answer = search rules; counted = c.all_of.ensures.counted }
 
-pub chains::call_function-returns-in_err-apply_function : goal.chains::call_function-returns-in_err-apply_function
-chains::call_function-returns-in_err-apply_function g t c =
+pub chains::call_function-returns-in_err-value : goal.chains::call_function-returns-in_err-value
+chains::call_function-returns-in_err-value g t c =
     let s = c.args.scene.now in
     let w = world_in s in
     let g0 = c.args.guard.now in

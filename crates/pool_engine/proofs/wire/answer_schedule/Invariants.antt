@@ -1,7 +1,7 @@
 use Rattle.std.proofs.Common.{◌≡◌, length}
 use Rattle.claim_wire.specs.Wires.{new_wire}
 use Rattle.pool_engine.proofs.WireReadingLemmas.{WireReading}
-use Rattle.pool_engine.proofs.wire.run_schedule.Given as goal
+use Rattle.pool_engine.proofs.wire.answer_schedule.Given as goal
 
 abbrev pub invariant-loop-left : goal.invariant-loop-left
 invariant-loop-left g l = record {

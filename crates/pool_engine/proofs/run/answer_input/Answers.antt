@@ -4,11 +4,11 @@ use Rattle.pool_state.specs.Heard.{heard}
 use Rattle.pool_state.specs.Pool.{state_of}
 use Rattle.pool_state.specs.State.{State}
 use Rattle.pool_engine.proofs.ReadingLemmas.{Reading-finish, Reading-lost, Reading-past, Reading-piece, Reading-room, Reading-room_last, Reading-start, Reading-stopped, take_one}
-use Rattle.pool_engine.proofs.run.run_input.Goals as goal
+use Rattle.pool_engine.proofs.run.answer_input.Goals as goal
 
 pub loop-left-init : goal.loop-left-init
 loop-left-init g c =
-    let session = c.new-session.ensures in
+    let session = c.requires in
     record {
       reading = Reading-start _ _ _ _ _ session.script session.over session.waiting (ap (λ (s : State). heard s (g.D.Notices.shows c.args.desk.now)) session.pool) session.refused;
       ratio = omega arith;

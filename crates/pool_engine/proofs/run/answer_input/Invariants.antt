@@ -3,7 +3,7 @@ use Rattle.pool_engine.specs.Ends.{effects}
 use Rattle.pool_state.specs.Heard.{heard}
 use Rattle.pool_state.specs.Pool.{state_of}
 use Rattle.pool_engine.proofs.ReadingLemmas.{Reading}
-use Rattle.pool_engine.proofs.run.run_input.Given as goal
+use Rattle.pool_engine.proofs.run.answer_input.Given as goal
 
 abbrev pub invariant-loop-left : goal.invariant-loop-left
 invariant-loop-left g l = record {

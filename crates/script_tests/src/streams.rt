@@ -1,26 +1,10 @@
-// Each call once with ample memory, and the adapters over std's reader and writer in memory.
+// A sink in memory that is full, and the adapters over a reader and a writer in memory and over a device that fails once.
 ghost use Rattle.std.specs.Prelude.{◌≤◌, IfOk};
 
-use crate::*;
-use pool_text::{Slots, Text};
+use pool_io::*;
+use pool_text::Slots;
 use std::io;
 use std::test::Fail;
-
-#[test]
-fn a_source_gives_pieces_and_fails_where_it_is_told(rt: HostRuntime) -> Result<(), Fail> {
-    let alloc = rt.alloc();
-    let mut failing = Slots::new(alloc);
-    failing.push(2)?;
-    let mut source = MemorySource::new(Text::from_bytes(alloc, b"advertise")?, 7, failing);
-    let mut buffer = [0; 16];
-    assert_eq!(rt; source.read(&mut buffer), Ok(7));
-    assert_eq!(rt; &buffer[..7], b"adverti".as_slice());
-    assert_eq!(rt; source.read(&mut buffer), Err(Failed));
-    assert_eq!(rt; source.read(&mut buffer), Ok(2));
-    assert_eq!(rt; &buffer[..2], b"se".as_slice());
-    assert_eq!(rt; source.read(&mut buffer), Ok(0));
-    Ok(())
-}
 
 #[test]
 fn a_sink_takes_pieces_and_fails_where_it_is_told(rt: HostRuntime) -> Result<(), Fail> {

@@ -1,6 +1,6 @@
-// Scripts and a summary written out by hand.
-use crate::*;
+// Scripts of workloads and a summary, written out by hand.
 use std::test::Fail;
+use workload::*;
 
 #[test]
 fn the_script_of_one_machine(rt: HostRuntime) -> Result<(), Fail> {
@@ -10,29 +10,6 @@ fn the_script_of_one_machine(rt: HostRuntime) -> Result<(), Fail> {
 .
 priority alice 1
 priority bob 3
-query
-[ Owner = "q"; Requirements = TARGET.Arch == "A1"; Rank = TARGET.Load ]
-.
-negotiate
-"#;
-    assert_eq!(rt; script.bytes(), wanted.as_slice());
-    Ok(())
-}
-
-#[test]
-fn the_script_of_two_machines(rt: HostRuntime) -> Result<(), Fail> {
-    let script = generated(rt.alloc(), 2)?;
-    let wanted = br#"advertise m0 600
-[ Arch = "A0"; Memory = 64; Load = Memory / 64; Requirements = TARGET.Owner != "guest" && Load < 9 ]
-.
-advertise m1 600
-[ Arch = "A1"; Memory = 128; Load = Memory / 64; Requirements = TARGET.Owner != "guest" && Load < 9 ]
-.
-priority alice 1
-priority bob 3
-submit j0 alice
-[ Owner = "alice"; Requirements = TARGET.Arch == "A0" && TARGET.Memory >= 128; Rank = TARGET.Memory ]
-.
 query
 [ Owner = "q"; Requirements = TARGET.Arch == "A1"; Rank = TARGET.Load ]
 .

@@ -1,5 +1,5 @@
 // The longest lines and blocks of a script that comes whole and in pieces.
-ghost use Rattle.std.specs.Prelude.{◌≡◌, ◌<◌, false};
+ghost use Rattle.std.specs.Prelude.{◌≡◌, ◌<◌};
 
 use pool_script::{Command, Script};
 use pool_text::{OutOfMemory, Text};

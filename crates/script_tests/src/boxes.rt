@@ -7,16 +7,29 @@ use std::fs;
 use std::process::Abort;
 use std::test::Fail;
 
-#[test]
-fn a_box_in_memory_keeps_notices_and_fails_where_it_is_told(rt: HostRuntime) -> Result<(), Fail> {
-    let alloc = rt.alloc();
+fn assert_delivered(
+    rt: &impl Abort,
+    mailbox: &mut impl Mailbox,
+    notice: &[u8],
+    wanted: Result<(), Failed>,
+) {
+    assert_eq!(rt; mailbox.deliver(notice), wanted);
+}
+
+// A box for ten bytes that fails at its second notice.
+fn small_box(alloc: Global) -> Result<MemoryMailbox, OutOfMemory> {
     let mut failing = Slots::new(alloc);
     failing.push(2)?;
-    let mut mailbox = MemoryMailbox::new(alloc, 10, failing)?;
-    assert_eq!(rt; mailbox.deliver(b"freed"), Ok(()));
-    assert_eq!(rt; mailbox.deliver(b"no"), Err(Failed));
-    assert_eq!(rt; mailbox.deliver(b"j m"), Ok(()));
-    assert_eq!(rt; mailbox.deliver(b""), Err(Failed));
+    MemoryMailbox::new(alloc, 10, failing)
+}
+
+#[test]
+fn a_box_in_memory_keeps_notices_and_fails_where_it_is_told(rt: HostRuntime) -> Result<(), Fail> {
+    let mut mailbox = small_box(rt.alloc())?;
+    assert_delivered(&rt, &mut mailbox, b"freed", Ok(()));
+    assert_delivered(&rt, &mut mailbox, b"no", Err(Failed));
+    assert_delivered(&rt, &mut mailbox, b"j m", Ok(()));
+    assert_delivered(&rt, &mut mailbox, b"", Err(Failed));
     assert!(rt; mailbox.shown() == Some(b"freed\nj m\n".as_slice()));
     Ok(())
 }
@@ -87,22 +100,28 @@ fn a_name_is_closed_once(rt: HostRuntime) -> Result<(), Fail> {
     Ok(())
 }
 
+fn file_box(rt: HostRuntime, path: &[u8]) -> Result<FileMailbox<HostRuntime>, OutOfMemory> {
+    Ok(FileMailbox::new(rt, Text::from_bytes(rt.alloc(), path)?))
+}
+
 #[test]
-fn a_box_over_a_file_writes_lines_and_fails_where_no_file_can_be(
-    rt: HostRuntime,
-) -> Result<(), Fail> {
-    let alloc = rt.alloc();
-    let mut kept = FileMailbox::new(rt, Text::from_bytes(alloc, b"notices.txt")?);
-    assert_eq!(rt; kept.deliver(b"matched j m"), Ok(()));
-    assert_eq!(rt; kept.deliver(b"freed j m"), Ok(()));
+fn a_box_over_a_file_writes_lines(rt: HostRuntime) -> Result<(), Fail> {
+    let mut kept = file_box(rt, b"notices.txt")?;
+    assert_delivered(&rt, &mut kept, b"matched j m", Ok(()));
+    assert_delivered(&rt, &mut kept, b"freed j m", Ok(()));
     assert!(rt; kept.shown().is_none());
     drop(kept);
     let text = fs::read(&rt, "notices.txt")?;
     fs::remove_file(&rt, "notices.txt")?;
     assert_eq!(rt; text.as_slice(), b"matched j m\nfreed j m\n".as_slice());
-    let mut lost = FileMailbox::new(rt, Text::from_bytes(alloc, b"no_such_folder/notices.txt")?);
-    assert_eq!(rt; lost.deliver(b"matched j m"), Err(Failed));
-    let mut unreadable = FileMailbox::new(rt, Text::from_bytes(alloc, b"\xff")?);
-    assert_eq!(rt; unreadable.deliver(b"matched j m"), Err(Failed));
+    Ok(())
+}
+
+#[test]
+fn a_box_fails_where_no_file_can_be(rt: HostRuntime) -> Result<(), Fail> {
+    let mut lost = file_box(rt, b"no_such_folder/notices.txt")?;
+    assert_delivered(&rt, &mut lost, b"matched j m", Err(Failed));
+    let mut unreadable = file_box(rt, b"\xff")?;
+    assert_delivered(&rt, &mut unreadable, b"matched j m", Err(Failed));
     Ok(())
 }

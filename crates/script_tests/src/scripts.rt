@@ -1,5 +1,5 @@
 // The longest lines and blocks of a script that comes whole and in pieces.
-ghost use Rattle.std.specs.Prelude.{◌≡◌, ◌<◌};
+ghost use Rattle.std.specs.Prelude.{◌≡◌, ◌<◌, IfSome, length};
 
 use pool_script::{Command, Script};
 use pool_text::{OutOfMemory, Text};
@@ -49,11 +49,21 @@ fn kind(command: &Command) -> &'static [u8] {
     }
 }
 
+fn next_kind(script: &mut Script) -> Option<&'static [u8]>
+    ensures over { script.new.over ≡ script.old.over }
+    ensures fewer { IfSome result (λ kind. length script.new.waiting < length script.old.waiting) }
+{
+    match script.take() {
+        Some(command) => Some(kind(&command)),
+        None => None,
+    }
+}
+
 fn take_all(script: &mut Script, kinds: &mut Text) -> Result<(), OutOfMemory>
     ensures { script.new.over ≡ script.old.over }
 {
-    while let Some(command) = script.take() {
-        kinds.append(kind(&command))?;
+    while let Some(kind) = next_kind(script) {
+        kinds.append(kind)?;
     }
     Ok(())
 }

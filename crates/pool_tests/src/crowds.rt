@@ -1,6 +1,4 @@
 // Pools with as many ads, as much text and as many faults as there may be.
-#![tactic(auto, unfolding(pool_script::specs::Form::is_within_form))]
-
 use crate::runs::{assert_run, run};
 use pool_engine::RunEnd;
 use pool_text::{OutOfMemory, Text, append_count};

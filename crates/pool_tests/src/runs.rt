@@ -1,6 +1,4 @@
 // Scripts over sources and sinks in memory that are cut and fail.
-#![tactic(auto, unfolding(pool_script::specs::Form::is_within_form))]
-
 ghost use Rattle.std.specs.Prelude.{◌≡◌};
 
 use notice_desk::{Desk, Notices};

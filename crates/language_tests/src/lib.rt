@@ -1,17 +1,9 @@
-//! Tests of the language: values, functions, tokens, trees, texts.
+//! Tests of the language: what no script says of tokens, texts, drafts and worlds.
 #![tactic(auto)]
 
 #[cfg(test)]
-mod functions;
-#[cfg(test)]
-mod lexing;
-#[cfg(test)]
-mod notation;
-#[cfg(test)]
-mod parsing;
-#[cfg(test)]
-mod printing;
+mod texts;
 #[cfg(test)]
 mod trees;
 #[cfg(test)]
-mod values;
+mod worlds;

@@ -1,13 +1,7 @@
-//! Tests of the tests of requirements, the index, queries and the choice of the best resource.
+//! Tests of requirements' tests and of the index: what they rule out, which no script sees, since replies are the same with them.
 #![tactic(auto)]
 
 #[cfg(test)]
-mod choice;
-#[cfg(test)]
 mod index;
 #[cfg(test)]
-mod matching;
-#[cfg(test)]
 mod plans;
-#[cfg(test)]
-mod shortlists;

@@ -1,177 +1,56 @@
-// Tests and what decides them, worked out by hand.
-use crate::matching::{ad, integer};
-use ad_tree::{Ad, Expr, Exprs, Ports, Scope};
+// The tests of a requirement, and what decides them.
+use ad_parser::parse_ad;
+use ad_tree::{Ad, Ports};
 use conjunct_plan::*;
-use pool_text::{BinOp, Lit, OutOfMemory, Text};
+use pool_text::OutOfMemory;
 use std::alloc::Global;
 use std::process::Abort;
 use std::test::Fail;
 
-fn name(alloc: Global, scope: Scope, text: &[u8]) -> Result<Expr, OutOfMemory> {
-    Ok(Expr::Name(scope, Text::from_bytes(alloc, text)?))
+const REQUEST: &[u8] =
+    b"[ Least = 64; Requirements = Arch && (TARGET.Memory >= least && 3 > TARGET.Load && TARGET.Memory + 1) ]";
+
+const MACHINE: &[u8] = b"[ memory = 128; Load = 1 + 1 ]";
+
+/// The tests of an ad's requirement.
+pub(crate) fn tests_of(rt: &impl Abort, alloc: Global, ad: &Ad) -> Result<Tests, OutOfMemory> {
+    assert!(rt; ad.frames() > 0);
+    plan(alloc, ad, 0, &Ports::new(alloc))
 }
 
-fn binary(alloc: Global, op: BinOp, left: Expr, right: Expr) -> Result<Expr, OutOfMemory> {
-    Ok(Expr::Binary(op, Box::new(alloc, left)?, Box::new(alloc, right)?))
-}
-
-// `TARGET.Memory >= least && 3 > TARGET.Load && TARGET.Memory + 1`
-fn inner(alloc: Global) -> Result<Expr, OutOfMemory> {
-    let mut inner = Exprs::new(alloc);
-    inner.push(at_least(alloc)?)?;
-    inner.push(greater(alloc)?)?;
-    inner.push(one_more(alloc)?)?;
-    Ok(Expr::And(inner))
-}
-
-// `TARGET.Memory >= least`
-fn at_least(alloc: Global) -> Result<Expr, OutOfMemory> {
-    let memory = name(alloc, Scope::Target, b"Memory")?;
-    let least = name(alloc, Scope::Bare, b"least")?;
-    binary(alloc, BinOp::AtLeast, memory, least)
-}
-
-// `3 > TARGET.Load`
-fn greater(alloc: Global) -> Result<Expr, OutOfMemory> {
-    let load = name(alloc, Scope::Target, b"Load")?;
-    binary(alloc, BinOp::Greater, integer(3), load)
-}
-
-// `TARGET.Memory + 1`
-fn one_more(alloc: Global) -> Result<Expr, OutOfMemory> {
-    let memory = name(alloc, Scope::Target, b"Memory")?;
-    binary(alloc, BinOp::Add, memory, integer(1))
-}
-
-// `[ Least = 64; Requirements = Arch && (TARGET.Memory >= least && 3 > TARGET.Load && TARGET.Memory + 1) ]`
-fn request(alloc: Global) -> Result<Ad, OutOfMemory> {
-    let mut outer = Exprs::new(alloc);
-    outer.push(name(alloc, Scope::Bare, b"Arch")?)?;
-    outer.push(inner(alloc)?)?;
-    ad(
-        alloc,
-        [b"Least", b"Requirements"],
-        integer(64),
-        Expr::And(outer),
-    )
-}
-
-// `[ memory = 128; Load = 1 + 1 ]`
-fn machine(alloc: Global) -> Result<Ad, OutOfMemory> {
-    let load = binary(alloc, BinOp::Add, integer(1), integer(1))?;
-    ad(alloc, [b"memory", b"Load"], integer(128), load)
-}
-
-// Arch is absent, 128 is at least 64, and an attribute that is no literal decides nothing.
-fn assert_first_decides(rt: &impl Abort, tests: &Tests, machine: &Ad) {
-    assert!(rt; tests.len() == 3);
+fn assert_decided(rt: &impl Abort, tests: &Tests, i: usize, machine: &Ad, wanted: bool) {
+    assert!(rt; i < tests.len());
     assert!(rt; machine.frames() > 0);
-    assert!(rt; decided(tests.at(0), machine, 0));
-    assert!(rt; !decided(tests.at(1), machine, 0));
-    assert!(rt; !decided(tests.at(2), machine, 0));
+    assert!(rt; decided(tests.at(i), machine, 0) == wanted, "{i}");
 }
 
+// Arch is absent, 128 is at least 64, an attribute that is no literal decides nothing, and the last conjunct is no test.
 #[test]
 fn tests_are_found_and_decided(rt: HostRuntime) -> Result<(), Fail> {
-    let request = request(rt.alloc())?;
-    assert!(rt; request.frames() > 0);
-    let tests = plan(rt.alloc(), &request, 0, &Ports::new(rt.alloc()))?;
-    assert_first_decides(&rt, &tests, &machine(rt.alloc())?);
+    let request = parse_ad(rt.alloc(), REQUEST)?;
+    let machine = parse_ad(rt.alloc(), MACHINE)?;
+    let tests = tests_of(&rt, rt.alloc(), &request)?;
+    assert!(rt; tests.len() == 3);
+    assert_decided(&rt, &tests, 0, &machine, true);
+    assert_decided(&rt, &tests, 1, &machine, false);
+    assert_decided(&rt, &tests, 2, &machine, false);
     Ok(())
+}
+
+fn assert_ruled_out(rt: &impl Abort, request: &Ad, ports: &Ports, machine: &Ad, wanted: bool) {
+    assert!(rt; request.frames() > 0);
+    assert!(rt; machine.frames() > 0);
+    assert!(rt; rules_out(request, 0, ports, machine, 0) == wanted);
 }
 
 #[test]
 fn a_machine_is_ruled_out(rt: HostRuntime) -> Result<(), Fail> {
-    let request = request(rt.alloc())?;
-    let machine = machine(rt.alloc())?;
-    assert!(rt; request.frames() > 0);
-    assert!(rt; machine.frames() > 0);
-    assert!(rt; rules_out(&request, 0, &Ports::new(rt.alloc()), &machine, 0));
-    Ok(())
-}
-
-// `[ Arch = "INTEL"; Ready = true ]`
-fn intel(alloc: Global) -> Result<Ad, OutOfMemory> {
-    let arch = Expr::Literal(text(alloc, b"INTEL")?);
-    let ready = Expr::Literal(Lit::Boolean(true));
-    ad(alloc, [b"Arch", b"Ready"], arch, ready)
-}
-
-fn text(alloc: Global, bytes: &[u8]) -> Result<Lit, OutOfMemory> {
-    Ok(Lit::Str(Text::from_bytes(alloc, bytes)?))
-}
-
-// Whether a test is decided against the machine.
-fn assert_decided(rt: &impl Abort, machine: &Ad, test: &Test, expected: bool) {
-    assert!(rt; machine.frames() > 0);
-    assert!(rt; decided(test, machine, 0) == expected, "{test:?}");
-}
-
-// Whether a comparison of the machine's attribute with a literal is.
-fn assert_compared(
-    rt: &impl Abort,
-    alloc: Global,
-    name: &[u8],
-    op: BinOp,
-    lit: Lit,
-    attr_left: bool,
-    expected: bool,
-) -> Result<(), OutOfMemory> {
-    let name = Text::from_bytes(alloc, name)?;
-    let test = Test::Compare {
-        name,
-        op,
-        lit,
-        attr_left,
-    };
-    assert_decided(rt, &intel(alloc)?, &test, expected);
-    Ok(())
-}
-
-// Comparisons with an Integer: the attribute, whether it stands on the left, and whether the comparison is decided.
-const COMPARISONS: [(&[u8], BinOp, i64, bool, bool); 8] = [
-    (b"ready", BinOp::Equal, 1, true, false),
-    (b"Ready", BinOp::Same, 1, true, true),
-    (b"Ready", BinOp::Less, 2, true, false),
-    (b"Ready", BinOp::Less, 2, false, true),
-    (b"Arch", BinOp::NotSame, 7, true, false),
-    (b"Arch", BinOp::Unequal, 7, true, true),
-    (b"Absent", BinOp::NotSame, 7, true, false),
-    (b"Absent", BinOp::Unequal, 7, true, true),
-];
-
-#[test]
-fn integers_decide_by_the_tables(rt: HostRuntime) -> Result<(), Fail> {
-    for (name, op, n, attr_left, expected) in COMPARISONS {
-        let lit = Lit::Integer(n);
-        assert_compared(&rt, rt.alloc(), name, op, lit, attr_left, expected)?;
-    }
-    Ok(())
-}
-
-#[test]
-fn texts_decide_by_the_tables(rt: HostRuntime) -> Result<(), Fail> {
-    let alloc = rt.alloc();
-    let small = text(alloc, b"intel")?;
-    assert_compared(&rt, alloc, b"Arch", BinOp::Equal, small, true, false)?;
-    let small = text(alloc, b"intel")?;
-    assert_compared(&rt, alloc, b"Arch", BinOp::Same, small, true, true)?;
-    Ok(())
-}
-
-#[test]
-fn absent_and_true_attributes(rt: HostRuntime) -> Result<(), Fail> {
-    let alloc = rt.alloc();
-    assert_compared(
-        &rt,
-        alloc,
-        b"Absent",
-        BinOp::Same,
-        Lit::Undefined,
-        true,
-        false,
-    )?;
-    let name = Text::from_bytes(alloc, b"READY")?;
-    assert_decided(&rt, &intel(alloc)?, &Test::Truth { name }, false);
+    let request = parse_ad(rt.alloc(), REQUEST)?;
+    let ports = Ports::new(rt.alloc());
+    assert_ruled_out(&rt, &request, &ports, &parse_ad(rt.alloc(), MACHINE)?, true);
+    let intel = parse_ad(rt.alloc(), b"[ memory = 64; Arch = true ]")?;
+    assert_ruled_out(&rt, &request, &ports, &intel, true);
+    let loaded = parse_ad(rt.alloc(), b"[ memory = 64; Arch = true; Load = 2 ]")?;
+    assert_ruled_out(&rt, &request, &ports, &loaded, false);
     Ok(())
 }

@@ -7,8 +7,6 @@ mod file_mailbox;
 mod mailbox;
 mod memory_mailbox;
 mod notices;
-#[cfg(test)]
-mod tests;
 
 pub use desk::{AddFault, Desk};
 pub use file_mailbox::FileMailbox;

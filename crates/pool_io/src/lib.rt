@@ -6,8 +6,6 @@ mod memory_source;
 mod sink;
 mod source;
 mod stream;
-#[cfg(test)]
-mod tests;
 
 pub use memory_sink::MemorySink;
 pub use memory_source::MemorySource;

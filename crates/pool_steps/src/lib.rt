@@ -6,9 +6,6 @@ ghost use Rattle.std.specs.Prelude.{◌≡◌, ℕ, ◌+◌, ◌<◌};
 use std::marker::Model;
 use std::sync::ledger::{Blank, Book, Ledger, Share};
 
-#[cfg(test)]
-mod tests;
-
 /// How many steps were taken; what a step is, is said where one is counted. `tick` alone changes the number, and only
 /// upwards, so a bound on it bounds what was done. Each counter is of a ledger `L` of its own, and so two of them can't be
 /// exchanged.

@@ -1,7 +1,5 @@
 // Pools with as many ads, as much text and as many faults as there may be.
-#![tactic(auto, unfolding(pool_script::specs::Form::is_within_form))]
-
-use crate::runs::run;
+use crate::runs::{assert_run, run};
 use pool_engine::RunEnd;
 use pool_text::{OutOfMemory, Text, append_count};
 use std::alloc::Global;
@@ -100,8 +98,10 @@ const ALL_REPLIES: &[u8] =
 
 #[test]
 fn all_commands_are_answered(rt: HostRuntime) -> Result<(), Fail> {
-    let (_, written) = run(rt.alloc(), ALL, (16, 16), 0, 0)?;
-    assert_eq!(rt; written.bytes(), ALL_REPLIES);
+    let end = RunEnd::Done { refused: 1 };
+    assert_run(&rt, rt.alloc(), ALL, (16, 16), (0, 0), end, ALL_REPLIES)?;
+    let end = RunEnd::Done { refused: 1 };
+    assert_run(&rt, rt.alloc(), ALL, (1, 1), (0, 0), end, ALL_REPLIES)?;
     Ok(())
 }
 

@@ -4,10 +4,6 @@
 #[cfg(test)]
 mod crowds;
 #[cfg(test)]
-mod gangs;
-#[cfg(test)]
-mod jobs;
-#[cfg(test)]
 mod mail;
 #[cfg(test)]
 mod runs;

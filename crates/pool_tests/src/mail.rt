@@ -119,30 +119,11 @@ fn a_name_that_is_taken_off_takes_no_more(rt: HostRuntime) -> Result<(), Fail> {
 fn a_name_that_is_user_and_resource_is_told_once(rt: HostRuntime) -> Result<(), Fail> {
     let script =
         b"advertise m 9\n[ Requirements = true ]\n.\nsubmit j m\n[ Requirements = true ]\n.\nnegotiate\n";
-    let wanted =
-        b"advertised m\nsubmitted j\nspin 1 free 1\nslice m 1\noffer j m m\nspin 2 free 0\noffers 1\n";
     let seen = run_heard(rt.alloc(), script, 0)?;
-    assert_replies(&rt, &seen, wanted);
     assert_shows(&rt, &seen.m, b"matched j m\n");
     assert_shows(&rt, &seen.u, b"");
     Ok(())
 }
-
-// Words with what they ask for.
-const WORDS: [(&[&[u8]], Asked); 12] = [
-    (&[], Asked::Pool),
-    (&[b"--mail", b"a=1"], Asked::Pool),
-    (&[b"--mail", b"a=1", b"--mail", b"A=1"], Asked::Pool),
-    (&[b"--mail", b"--mail=x=y"], Asked::Pool),
-    (&[b"--mail"], Asked::Bad),
-    (&[b"--mail", b"x"], Asked::Bad),
-    (&[b"--mail", b"x="], Asked::Bad),
-    (&[b"--mail", b"=x"], Asked::Bad),
-    (&[b"--mail", b"a b=x"], Asked::Bad),
-    (&[b"--mail", b"a=1", b"--mail", b"a=2"], Asked::Bad),
-    (&[b"--mail", b"a=b", b"--wire", b"1", b"1"], Asked::Bad),
-    (&[b"--Mail", b"a=b"], Asked::Bad),
-];
 
 /// The words as texts.
 pub(crate) fn texts(alloc: Global, words: &[&[u8]]) -> Result<Vec<Text>, OutOfMemory> {
@@ -151,26 +132,6 @@ pub(crate) fn texts(alloc: Global, words: &[&[u8]]) -> Result<Vec<Text>, OutOfMe
         texts.push(Text::from_bytes(alloc, word)?)?;
     }
     Ok(texts)
-}
-
-/// Words ask for this.
-pub(crate) fn assert_asked(
-    rt: &impl Abort,
-    alloc: Global,
-    words: &[&[u8]],
-    wanted: Asked,
-) -> Result<(), OutOfMemory> {
-    let words = texts(alloc, words)?;
-    assert!(rt; read_words(&words) == wanted);
-    Ok(())
-}
-
-#[test]
-fn words_ask_for_mailboxes(rt: HostRuntime) -> Result<(), Fail> {
-    for (words, asked) in WORDS {
-        assert_asked(&rt, rt.alloc(), words, asked)?;
-    }
-    Ok(())
 }
 
 fn assert_text(rt: &impl Abort, found: &Text, wanted: &[u8]) {

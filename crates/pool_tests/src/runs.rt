@@ -1,15 +1,11 @@
-// Scripts with their replies, over sources and sinks in memory that are cut and fail.
-#![tactic(auto, unfolding(pool_script::specs::Form::is_within_form))]
-
+// Scripts over sources and sinks in memory that are cut and fail.
 ghost use Rattle.std.specs.Prelude.{◌≡◌};
 
 use notice_desk::{Desk, Notices};
 use pool_engine::*;
 use pool_io::{MemorySink, MemorySource};
-use pool_replies::{Refusal, Reply};
-use pool_script::Command;
 use pool_steps::Steps;
-use pool_text::{OutOfMemory, Slots, Text, append_count};
+use pool_text::{OutOfMemory, Slots, Text};
 use std::alloc::Global;
 use std::marker::Brand;
 use std::process::Abort;
@@ -56,19 +52,6 @@ pub(crate) fn assert_run(
     assert!(rt; ended == end);
     assert_eq!(rt; written.bytes(), replies);
     Ok(())
-}
-
-/// A script is answered like this, with so many refusals, however its bytes are cut.
-fn assert_answered(
-    rt: &impl Abort,
-    alloc: Global,
-    script: &[u8],
-    refused: u64,
-    replies: &[u8],
-) -> Result<(), OutOfMemory> {
-    let end = RunEnd::Done { refused };
-    assert_run(rt, alloc, script, (4096, 4096), (0, 0), end, replies)?;
-    assert_run(rt, alloc, script, (1, 1), (0, 0), end, replies)
 }
 
 // Runs a script with counters of its own.
@@ -131,66 +114,6 @@ pub(crate) fn run_with<D: Notices>(
     )
 }
 
-/// Scripts with how many commands are refused, and the replies.
-const SCRIPTS: [(&[u8], u64, &[u8]); 12] = [
-    (b"", 0, b""),
-    (
-        b"eval false && error\neval error && false\neval true && undefined\n",
-        0,
-        b"false\nerror\nundefined\n",
-    ),
-    (
-        b"eval undefined || true\neval undefined && 3\neval undefined && false\neval 3 && true\n",
-        0,
-        b"true\nerror\nfalse\nerror\n",
-    ),
-    (b"\n \t \n# eval 1\n  #x\n\r\n", 0, b""),
-    (b"eval 7\r\neval 8\r", 0, b"7\n8\n"),
-    (
-        b"eval\neval \nfly\nEVAL 1\nunlisten m\n",
-        5,
-        b"refused 3 wrong words\nrefused 3 wrong words\nrefused 2 unknown command\nrefused 2 unknown command\nrefused 8 name not known\n",
-    ),
-    (
-        b"clock 5\nclock 5\nclock 4\nclock x\nclock 1000000000000\nclock 1000000000001",
-        3,
-        b"clock 5 expired 0\nclock 5 expired 0\nrefused 7 clock goes back\nrefused 3 wrong words\nclock 1000000000000 expired 0\nrefused 3 wrong words\n",
-    ),
-    (
-        b"advertise a 5\n[ x = 1 ]\n.\nclock 2\nadvertise b 5\n[ ]\n.\nadvertise a 4\n[ y = { } ]\n.\nlist\nshow a\nclock 6\nwithdraw a\nshow a\nclock 7\nlist\nadvertise c 1\n[\n.\n",
-        3,
-        b"advertised a\nclock 2 expired 0\nadvertised b\nreplaced a\nads 2\na 2 4 free\nb 2 5 free\n[ y = { } ]\nclock 6 expired 1\nrefused 8 name not known\nrefused 8 name not known\nclock 7 expired 1\nads 0\nrefused 6 grammar\n",
-    ),
-    (
-        b"gang\n# no comment\n.\ngang\neval 1\n",
-        2,
-        b"refused 6 lexical 1 at 0\nrefused 4 block not ended\n",
-    ),
-    (
-        b"eval \"abc\neval 1 &&\neval \"abc\"\neval 0x1F\neval 1 && 1.5\neval { 1 + 2, x }",
-        3,
-        b"refused 6 lexical 2 at 0\nrefused 6 grammar\n\"abc\"\n31\nrefused 6 lexical 5 at 5\n{ 3, undefined }\n",
-    ),
-    (
-        b"eval (true || error) && (false || undefined)\nadvertise a 5\n[ x = 2; y = x * TARGET.z ]\n.\nevalin a x + 1\nevalin a [ z = 1 ].z\nevalin b x\nevalin b x +",
-        2,
-        b"undefined\nadvertised a\n3\n1\nrefused 8 name not known\nrefused 6 grammar\n",
-    ),
-    (
-        b"query\n[\n.\nadvertise a 9\n[ M = 128; Requirements = true ]\n.\nadvertise b 9\n[ Requirements = true ]\n.\nadvertise d 9\n[ M = 64 * 2; Requirements = TARGET.O != 3 ]\n.\nquery\n[ Requirements = TARGET.M >= 64; Rank = TARGET.M ]\n.\nadvertise a 9\n[ M = 32; Requirements = true ]\n.\nquery\n[ O = 4; Requirements = TARGET.M >= 32 ]\n.\nwithdraw a\nquery\n[ O = 3; Requirements = TARGET.M >= 32 ]\n.\n",
-        1,
-        b"refused 6 grammar\nadvertised a\nadvertised b\nadvertised d\nhits 1\na 128\nreplaced a\nhits 2\na 0\nd 0\nwithdrawn a\nhits 0\n",
-    ),
-];
-
-#[test]
-fn commands_are_answered(rt: HostRuntime) -> Result<(), Fail> {
-    for (script, refused, replies) in SCRIPTS {
-        assert_answered(&rt, rt.alloc(), script, refused, replies)?;
-    }
-    Ok(())
-}
-
 /// Three commands of seven bytes, and their replies of two.
 const THREE: &[u8] = b"eval 1\neval 2\neval 3\n";
 
@@ -239,103 +162,6 @@ fn a_reply_is_offered_before_the_next_read(rt: HostRuntime) -> Result<(), Fail> 
     Ok(())
 }
 
-// An `eval` line of a text, and then so many times another.
-fn repeated(alloc: Global, first: &[u8], more: &[u8], times: usize) -> Result<Text, OutOfMemory> {
-    let mut script = Text::from_bytes(alloc, b"eval ")?;
-    script.append(first)?;
-    for _ in 0..times {
-        script.append(more)?;
-    }
-    Ok(script)
-}
-
-/// Such lines with their replies.
-const LIMITS: [(&[u8], &[u8], usize, u64, &[u8]); 4] = [
-    (b"1", b" + 1", 63, 0, b"64\n"),
-    (b"1", b" + 1", 64, 1, b"refused 6 depth\n"),
-    (b"", b"(", 131, 1, b"refused 6 nesting\n"),
-    (b"", b"(", 130, 1, b"refused 6 grammar\n"),
-];
-
-#[test]
-fn limits_of_expressions(rt: HostRuntime) -> Result<(), Fail> {
-    for (first, more, times, refused, reply) in LIMITS {
-        let script = repeated(rt.alloc(), first, more, times)?;
-        let end = RunEnd::Done { refused };
-        assert_run(
-            &rt,
-            rt.alloc(),
-            script.bytes(),
-            (4096, 4096),
-            (0, 0),
-            end,
-            reply,
-        )?;
-    }
-    Ok(())
-}
-
-// An ad in which 24 attributes are each the next one, two are each other, and the last is 1.
-fn chain(alloc: Global) -> Result<Text, OutOfMemory> {
-    let mut script = Text::from_bytes(alloc, b"advertise c 9\n[ A = B; B = A; ")?;
-    for i in 0..24 {
-        script.append(b"C")?;
-        append_count(&mut script, i)?;
-        script.append(b" = C")?;
-        append_count(&mut script, i + 1)?;
-        script.append(b"; ")?;
-    }
-    script.append(b"C24 = 1 ]\n.\nevalin c C1\nevalin c C0\nevalin c A\n")?;
-    Ok(script)
-}
-
-#[test]
-fn references_are_bounded(rt: HostRuntime) -> Result<(), Fail> {
-    let script = chain(rt.alloc())?;
-    let end = RunEnd::Done { refused: 0 };
-    let replies = b"advertised c\n1\nerror\nerror\n";
-    assert_run(
-        &rt,
-        rt.alloc(),
-        script.bytes(),
-        (4096, 4096),
-        (0, 0),
-        end,
-        replies,
-    )?;
-    Ok(())
-}
-
-// A comment of so many bytes, and a line behind it.
-fn long_line(alloc: Global, length: usize) -> Result<Text, OutOfMemory> {
-    let mut script = Text::new(alloc);
-    for _ in 0..length {
-        script.append(b"#")?;
-    }
-    script.append(b"\neval 1")?;
-    Ok(script)
-}
-
-// A comment of so many bytes is answered like this.
-fn assert_long_line(
-    rt: &impl Abort,
-    alloc: Global,
-    length: usize,
-    refused: u64,
-    replies: &[u8],
-) -> Result<(), OutOfMemory> {
-    let script = long_line(alloc, length)?;
-    let end = RunEnd::Done { refused };
-    assert_run(rt, alloc, script.bytes(), (4096, 9), (0, 0), end, replies)
-}
-
-#[test]
-fn a_line_has_65536_bytes_at_most(rt: HostRuntime) -> Result<(), Fail> {
-    assert_long_line(&rt, rt.alloc(), 65536, 0, b"1\n")?;
-    assert_long_line(&rt, rt.alloc(), 65537, 1, b"refused 1 line too long\n1\n")?;
-    Ok(())
-}
-
 // How a run of a script ends where it is given this word, and what was written.
 fn run_with_word(alloc: Global, word: &[u8]) -> Result<(RunEnd, Text), OutOfMemory> {
     let mut words = Vec::new(alloc);
@@ -371,62 +197,4 @@ fn statuses(rt: HostRuntime) {
     for (end, status) in STATUSES {
         assert_eq!(rt; end.status(), status);
     }
-}
-
-// The replies to two commands of one pool.
-fn two_steps<F: Ledger, E: Ledger, T: Ledger>(
-    alloc: Global,
-    tops: Blank,
-    entry: Blank,
-    touch: Blank,
-) -> Result<(Reply, Reply), OutOfMemory>
-    requires tops_name { tops.name ≡ F.name }
-    requires tops_parts { tops.parts ≡ F.parts }
-    requires tops_one { tops.parts ≡ 1 }
-    requires entry_name { entry.name ≡ E.name }
-    requires entry_parts { entry.parts ≡ E.parts }
-    requires entry_one { entry.parts ≡ 1 }
-    requires touch_name { touch.name ≡ T.name }
-    requires touch_parts { touch.parts ≡ T.parts }
-    requires touch_one { touch.parts ≡ 1 }
-{
-    let mut tops = Steps::<F>::new(tops);
-    let mut entry = Steps::<E>::new(entry);
-    let mut touch = Steps::<T>::new(touch);
-    let mut desk = Desk::new(alloc);
-    let mut pool = Pool::new(alloc);
-    step_twice(&mut pool, &mut desk, &mut tops, &mut entry, &mut touch)
-}
-
-fn step_twice<D: Notices, F: Ledger, E: Ledger, T: Ledger>(
-    pool: &mut Pool,
-    desk: &mut D,
-    tops: &mut Steps<F>,
-    entry: &mut Steps<E>,
-    touch: &mut Steps<T>,
-) -> Result<(Reply, Reply), OutOfMemory> {
-    let later = pool.step(&Command::Clock(7), desk, tops, entry, touch)?;
-    let back = pool.step(&Command::Clock(6), desk, tops, entry, touch)?;
-    Ok((later, back))
-}
-
-#[test]
-fn a_pool_steps(rt: HostRuntime) -> Result<(), Fail> {
-    let (first, second) = two_steps::<Brand, Brand, Brand>(
-        rt.alloc(),
-        Blank::new(1),
-        Blank::new(1),
-        Blank::new(1),
-    )?;
-    assert!(rt;
-        matches!(
-            first,
-            Reply::Clock {
-                moment: 7,
-                expired: 0
-            }
-        )
-    );
-    assert!(rt; matches!(second, Reply::Refused(Refusal::ClockBack)));
-    Ok(())
 }

@@ -138,38 +138,3 @@ fn a_reply_is_offered_before_the_next_read(rt: HostRuntime) -> Result<(), Fail> 
     assert!(rt; end == RunEnd::WriteFault);
     Ok(())
 }
-
-fn long_line(alloc: Global, length: usize) -> Result<Text, OutOfMemory> {
-    let mut schedule = Text::new(alloc);
-    for _ in 0..length {
-        schedule.append(b"#")?;
-    }
-    schedule.append(b"\nrestart resource 1")?;
-    Ok(schedule)
-}
-
-// A comment of so many bytes is answered like this.
-fn assert_long_line(
-    rt: &impl Abort,
-    alloc: Global,
-    length: usize,
-    refused: u64,
-    replies: &[u8],
-) -> Result<(), OutOfMemory> {
-    let schedule = long_line(alloc, length)?;
-    let end = RunEnd::Done { refused };
-    assert_run(rt, alloc, schedule.bytes(), (4096, 9), (0, 0), end, replies)
-}
-
-#[test]
-fn a_line_has_65536_bytes_at_most(rt: HostRuntime) -> Result<(), Fail> {
-    assert_long_line(&rt, rt.alloc(), 65_536, 0, b"quiet\n")?;
-    assert_long_line(
-        &rt,
-        rt.alloc(),
-        65_537,
-        1,
-        b"refused 1 line too long\nquiet\n",
-    )?;
-    Ok(())
-}

@@ -1,5 +1,5 @@
 // Workloads, and the words that ask for them.
-use crate::mail::{assert_asked, texts};
+use crate::mail::texts;
 use crate::runs::{calls, run_with};
 use notice_desk::{Desk, MemoryMailbox, Notices};
 use pool_engine::*;
@@ -119,74 +119,82 @@ fn names_listen_to_a_workload(rt: HostRuntime) -> Result<(), Fail> {
     Ok(())
 }
 
-// Words with what they ask for.
-const WORDS: [(&[&[u8]], Asked); 10] = [
-    (FOUR, Asked::Workload { machines: 4 }),
-    (&[b"--generate", b"1"], Asked::Workload { machines: 1 }),
-    (
-        &[b"--generate", b"2000"],
-        Asked::Workload { machines: 2000 },
-    ),
-    (
-        &[b"--mail", b"a=1", b"--generate", b"8"],
-        Asked::Workload { machines: 8 },
-    ),
-    (
-        &[b"--generate", b"8", b"--mail", b"a=1"],
-        Asked::Workload { machines: 8 },
-    ),
-    (
-        &[b"--mail", b"a=1", b"--generate", b"8", b"--mail", b"b=1"],
-        Asked::Workload { machines: 8 },
-    ),
-    (&[b"--mail", b"--generate=8"], Asked::Pool),
-    (
-        &[b"--mail", b"--generate=8", b"--generate", b"9"],
-        Asked::Workload { machines: 9 },
-    ),
-    (
-        &[b"--wire", b"1", b"2"],
-        Asked::Wire {
-            resources: 1,
-            customers: 2,
-        },
-    ),
-    (&[b"--mail", b"a=--generate"], Asked::Pool),
-];
+/// Words with a bar between two, and what they ask for behind an arrow.
+const WORDS: &'static str = "\
+--mail|a=1→pool
+--mail|a=1|--mail|A=1→pool
+--mail|--mail=x=y→pool
+--mail→bad
+--mail|x→bad
+--mail|x=→bad
+--mail|=x→bad
+--mail|a b=x→bad
+--mail|a=1|--mail|a=2→bad
+--mail|a=b|--wire|1|1→bad
+--Mail|a=b→bad
+--generate|4→workload 4
+--generate|1→workload 1
+--generate|2000→workload 2000
+--mail|a=1|--generate|8→workload 8
+--generate|8|--mail|a=1→workload 8
+--mail|a=1|--generate|8|--mail|b=1→workload 8
+--mail|--generate=8→pool
+--mail|--generate=8|--generate|9→workload 9
+--wire|1|2→wire 1 2
+--mail|a=--generate→pool
+--generate→bad
+--generate|→bad
+--generate|0→bad
+--generate|2001→bad
+--generate|08→bad
+--generate|+8→bad
+--generate| 8→bad
+--generate|8x→bad
+--generate=8→bad
+--GENERATE|8→bad
+--generate|8|--generate|8→bad
+--generate|8|--mail|a=1|--generate|9→bad
+--generate|8|--wire|1|1→bad
+--wire|1|1|--generate|8→bad
+--mail|--generate|8→bad
+--generate|--mail|a=1→bad
+--mail|a=1|--generate|8|--mail|a=2→bad
+";
 
-const BAD_WORDS: [&[&[u8]]; 17] = [
-    &[b"--generate"],
-    &[b"--generate", b""],
-    &[b"--generate", b"0"],
-    &[b"--generate", b"2001"],
-    &[b"--generate", b"08"],
-    &[b"--generate", b"+8"],
-    &[b"--generate", b" 8"],
-    &[b"--generate", b"8x"],
-    &[b"--generate=8"],
-    &[b"--GENERATE", b"8"],
-    &[b"--generate", b"8", b"--generate", b"8"],
-    &[b"--generate", b"8", b"--mail", b"a=1", b"--generate", b"9"],
-    &[b"--generate", b"8", b"--wire", b"1", b"1"],
-    &[b"--wire", b"1", b"1", b"--generate", b"8"],
-    &[b"--mail", b"--generate", b"8"],
-    &[b"--generate", b"--mail", b"a=1"],
-    &[b"--mail", b"a=1", b"--generate", b"8", b"--mail", b"a=2"],
-];
-
-#[test]
-fn words_ask_for_a_workload(rt: HostRuntime) -> Result<(), Fail> {
-    for (words, asked) in WORDS {
-        assert_asked(&rt, rt.alloc(), words, asked)?;
+fn asked_of(alloc: Global, words: &str) -> Result<Asked, OutOfMemory> {
+    let mut texts = Vec::new(alloc);
+    for word in words.split('|') {
+        texts.push(Text::from_bytes(alloc, word.as_bytes())?)?;
     }
+    Ok(read_words(&texts))
+}
+
+fn told(alloc: Global, asked: Asked) -> Result<String, Fail> {
+    Ok(match asked {
+        Asked::Pool => format!(in alloc; "pool")?,
+        Asked::Bad => format!(in alloc; "bad")?,
+        Asked::Workload { machines } => format!(in alloc; "workload {machines}")?,
+        Asked::Wire {
+            resources,
+            customers,
+        } => format!(in alloc; "wire {resources} {customers}")?,
+    })
+}
+
+fn assert_asked(rt: &impl Abort, alloc: Global, words: &str, wanted: &str) -> Result<(), Fail> {
+    let asked = asked_of(alloc, words)?;
+    let found = told(alloc, asked)?;
+    assert_eq!(rt; found.as_str(), wanted, "{words}");
     Ok(())
 }
 
 #[test]
-fn bad_words_are_refused(rt: HostRuntime) -> Result<(), Fail> {
-    for words in BAD_WORDS {
-        assert_asked(&rt, rt.alloc(), words, Asked::Bad)?;
-        assert_run(&rt, rt.alloc(), words, (99, 0), RunEnd::BadWords, b"")?;
+fn words_ask_for_a_pool_a_workload_or_a_wire(rt: HostRuntime) -> Result<(), Fail> {
+    for row in WORDS.lines() {
+        match row.split_once("→") {
+            Some((words, wanted)) => assert_asked(&rt, rt.alloc(), words, wanted)?,
+            None => assert!(rt; false, "{row}"),
+        }
     }
     Ok(())
 }

@@ -7,8 +7,6 @@ mod laws;
 mod lists;
 mod memory;
 mod number;
-#[cfg(test)]
-mod tests;
 mod text;
 mod words;
 

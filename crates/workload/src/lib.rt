@@ -2,8 +2,6 @@
 #![tactic(auto)]
 
 mod summary;
-#[cfg(test)]
-mod tests;
 mod workload;
 
 pub use summary::Summary;

@@ -1,5 +1,0 @@
-//! Tests of gangs.
-#![tactic(auto)]
-
-#[cfg(test)]
-mod gangs;

@@ -1,7 +1,0 @@
-//! Tests of cycles of negotiation.
-#![tactic(auto)]
-
-#[cfg(test)]
-mod clusters;
-#[cfg(test)]
-mod negotiation;

@@ -1,5 +1,5 @@
 -- Steps of the loops that read words, and the words at a place.
-use Rattle.std.proofs.Common.{refl, arith, ◌≡◌, inl, inr, ℕ, zero, suc, ◌+◌, ◌*◌, ◌^◌, ◌<◌, ◌≤◌, List, [], ◌∷◌, ◌++◌, map, take, drop, length, get_or, ap, subst, sym, ◌∙◌, Option, None, Some, slice_get, add-one}
+use Rattle.std.proofs.Common.{refl, arith, ◌≡◌, inl, inr, ℕ, zero, suc, ◌+◌, ◌^◌, ◌<◌, ◌≤◌, List, [], ◌∷◌, ◌++◌, map, take, drop, length, get_or, ap, subst, sym, ◌∙◌, Option, None, Some, slice_get, add-one}
 use Rattle.std.proofs.lemmas.Bool.{and_parts, ltb-true}
 use Rattle.ad_lexer.specs.Lexeme.{Lexeme}
 use Rattle.ad_lexer.specs.Numbers.{value}

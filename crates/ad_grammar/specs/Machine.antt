@@ -1,6 +1,6 @@
 -- A machine with a stack of spelled trees, which the instructions of a program build: what stands on the stack is the
 -- list of its trees, the last one first. Below the lowest tree stands `undefined`, as often as it is asked for.
-use Rattle.std.specs.Prelude.{ℕ, zero, suc, List, [], ◌∷◌, ◌++◌}
+use Rattle.std.specs.Prelude.{ℕ, zero, suc, List, [], ◌∷◌}
 use Rattle.pool_text.specs.declared.language.Lit.TheVariants.{Undefined}
 use Rattle.ad_tree.specs.Inline.{Inline, Inlines, Defs, shape, inner, end, next, no_defs, def}
 use Rattle.ad_tree.specs.Tree.{literal, name, unary, choice, select, subscript, call, list}

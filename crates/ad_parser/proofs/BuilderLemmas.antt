@@ -1,10 +1,10 @@
 -- How a builder changes with each instruction.
-use Rattle.std.proofs.Common.{◌≡◌, ℕ, Bool, true, false, List, [], ◌∷◌, ◌++◌, length, map, Result, Ok, Err, IfOk, OnOk, Some, slice_get, refl, sym, subst, ap, ◌∙◌}
+use Rattle.std.proofs.Common.{◌≡◌, ℕ, Bool, true, false, List, [], ◌∷◌, ◌++◌, length, map, Result, Ok, Err, IfOk, OnOk, Some, slice_get, sym, subst, ap, ◌∙◌}
 use Rattle.ad_tree.specs.Draft.{draft_frames}
 use Rattle.ad_tree.specs.Frames.{Frame, empty_frame, defined}
 use Rattle.ad_tree.specs.Inline.{Inline, inner, no_defs, frames, number, spelled, spelled_tree, ad_of, phrase_of, phrase_tree}
 use Rattle.pool_text.specs.declared.language.Lit.{Lit}
-use Rattle.ad_tree.specs.Tree.{Label, literal, Tree, node, frame, none, one, two, three, choice, all, any, pack}
+use Rattle.ad_tree.specs.Tree.{Label, literal, Tree, node, frame, none, one, two, three, all, any, pack}
 use Rattle.ad_tree.proofs.InlineLemmas.{pack-push}
 use Rattle.ad_grammar.specs.Machine.{top, below, with_element, with_definition}
 use Rattle.ad_grammar.specs.Shapes.{leaf, over_one, over_two, over_three, joined}

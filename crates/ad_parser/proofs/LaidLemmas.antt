@@ -1,5 +1,5 @@
 -- How the operands of the builder change with each instruction.
-use Rattle.std.proofs.Common.{◌≡◌, ℕ, Bool, true, false, List, [], ◌∷◌, ◌++◌, length, map, Result, Ok, Err, IfOk, OnOk, Some, slice_get, refl, sym, subst, ap, ◌∙◌}
+use Rattle.std.proofs.Common.{◌≡◌, ℕ, Bool, true, false, List, [], ◌∷◌, ◌++◌, length, map, refl, sym, subst, ap, ◌∙◌}
 use Rattle.ad_tree.specs.Frames.{Frame, empty_frame, defined, settled_frame}
 use Rattle.ad_tree.specs.Inline.{Inline, Inlines, shape, inner, end, next, Defs, no_defs, def, number, number_all, frames, spelled, spelled_tree, ad_of, phrase_of, phrase_tree}
 use Rattle.ad_tree.specs.Placed.{IsPlaced, AreAllPlaced, HasDefined}
@@ -12,7 +12,7 @@ use Rattle.ad_grammar.specs.Shapes.{leaf, over_one, over_two, over_three, follow
 use Rattle.ad_grammar.specs.declared.program.Infix.{Infix}
 use Rattle.ad_grammar.specs.declared.program.Infix.TheVariants as infixes
 use Rattle.ad_parser.specs.JoinedTrees.{last_tree, joined_tree, TakesElement}
-use Rattle.ad_parser.specs.Laid.{Slot, value, open_ad, base, Laid}
+use Rattle.ad_parser.specs.Laid.{Slot, value, open_ad, Laid}
 
 -- ---- one tree and one definition more
 

@@ -8,8 +8,7 @@ use Rattle.ad_grammar.specs.Machine.{top, below, step, run, defined_last, with_e
 use Rattle.ad_grammar.specs.Shapes.{over_two, followed_by, joined}
 use Rattle.ad_grammar.specs.declared.program.Infix.TheVariants as infixes
 use Rattle.ad_grammar.specs.declared.program.Instruction.{Instruction}
-use Rattle.ad_parser.specs.declared.measure.Kind.{Kind}
-use Rattle.ad_parser.specs.declared.measure.Kind.TheVariants.{All, Any, Node, Ad}
+use Rattle.ad_parser.specs.declared.measure.Kind.TheVariants.{All, Any, Ad}
 use Rattle.ad_parser.specs.declared.measure.Measure.{Measure}
 use Rattle.ad_parser.specs.Counts.{counting_limit}
 use Rattle.ad_parser.specs.Measures.{IsMeasure, AreMeasures, kind_at, kind_of}

@@ -1,5 +1,5 @@
 -- What the limits ask of a tree, as numbers.
-use Rattle.std.specs.Prelude.{◌≡◌, ℕ, min, List, [], ◌∷◌}
+use Rattle.std.specs.Prelude.{◌≡◌, min, List, [], ◌∷◌}
 use Rattle.ad_tree.specs.Inline.{Inline, shape, inner, height, count, definitions}
 use Rattle.ad_tree.specs.Tree.{Label, all, any}
 use Rattle.ad_parser.specs.declared.measure.Kind.{Kind}

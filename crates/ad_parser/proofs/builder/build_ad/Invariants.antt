@@ -1,4 +1,4 @@
-use Rattle.std.proofs.Common.{true, false, [], ◌∷◌}
+use Rattle.std.proofs.Common.{true, [], ◌∷◌}
 use Rattle.ad_tree.specs.Inline.{inner, no_defs}
 use Rattle.ad_grammar.specs.Machine.{run}
 use Rattle.ad_parser.specs.Builds.{Holds}

@@ -1,9 +1,8 @@
-use Rattle.std.proofs.Common.{◌≡◌, false, [], ◌∷◌, IfOk, map-id, refl, rules, subst, sym, ap, ◌∙◌}
+use Rattle.std.proofs.Common.{◌≡◌, false, [], IfOk, map-id, rules, subst, sym, ap, ◌∙◌}
 use Rattle.std.proofs.lemmas.Iterator.Adapters.{YieldsList-from_vec}
 use Rattle.std.proofs.lemmas.Iterator.Consumers.{YieldsList-end}
-use Rattle.std.specs.Vec.Iter.{into_iter_items}
 use Rattle.ad_tree.specs.Ad.{ad_frames}
-use Rattle.ad_tree.specs.Inline.{inner, no_defs, ad_of, phrase_of, phrase_tree}
+use Rattle.ad_tree.specs.Inline.{phrase_of, phrase_tree}
 use Rattle.ad_tree.specs.Tree.{tree}
 use Rattle.ad_grammar.specs.Machine.{top, run}
 use Rattle.ad_parser.specs.Builds.{Holds}

@@ -1,5 +1,4 @@
-use Rattle.std.proofs.Common.{true, false, [], ◌∷◌}
-use Rattle.ad_tree.specs.Inline.{inner, no_defs}
+use Rattle.std.proofs.Common.{false, []}
 use Rattle.ad_grammar.specs.Machine.{run}
 use Rattle.ad_parser.specs.Builds.{Holds}
 use Rattle.ad_parser.proofs.builder.build_phrase.Given as goal

@@ -1,5 +1,4 @@
-use Rattle.std.proofs.Common.{refl, subst, sym, ap}
-use Rattle.ad_tree.specs.Inline.{shape}
+use Rattle.std.proofs.Common.{refl, subst, sym}
 use Rattle.ad_tree.specs.Tree.{all, any, binary}
 use Rattle.ad_grammar.specs.Shapes.{joined}
 use Rattle.ad_parser.specs.Measures.{IsMeasure}

@@ -1,4 +1,5 @@
-// Drafts: ads while they are built.
+// Drafts: ads while they are built. An expression has many kinds, so one that has served is dropped by a call, which is one
+// case of a proof in the place of one for each kind.
 ghost use Rattle.std.specs.Prelude.{◌≡◌, ◌+◌, ◌<◌, ◌^◌, ◌++◌, ◌∷◌, [], length, slice_get, option_map, IfOk, OnOk, OnErr};
 ghost use Rattle.ad_tree.specs.Tree.{tree};
 ghost use Rattle.ad_tree.specs.Frames.{IsAd, defined, empty_frame};

@@ -121,6 +121,7 @@ impl Builder {
         })
     }
 
+    #[inline(always)]
     fn carry_out(&mut self, instruction: Instruction) -> Result<(), OutOfMemory>
         ensures { Carries instruction self.old self.new result }
     {
@@ -143,6 +144,7 @@ impl Builder {
     }
 
     /// A tree more.
+    #[inline(always)]
     fn put(&mut self, expr: Expr) -> Result<(), OutOfMemory>
         ensures { OnOk result (HasPut (value (tree expr)) self.old self.new) }
     {
@@ -150,6 +152,7 @@ impl Builder {
     }
 
     /// The last tree, which is taken.
+    #[inline(always)]
     fn value(&mut self) -> Result<Expr, OutOfMemory>
         ensures { IfOk result (λ expr. HasPut (value (tree expr)) self.new self.old) }
     {

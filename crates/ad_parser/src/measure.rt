@@ -194,6 +194,7 @@ fn last(measures: &mut Stack<Measure>) -> Measure
 }
 
 /// The numbers of the trees after one instruction more.
+#[inline(always)]
 fn measure_next(measures: &mut Stack<Measure>, instruction: &Instruction) -> Result<(), OutOfMemory>
     ensures { (st : List Inline) → AreMeasures measures.old st
         → OnOk result (AreMeasures measures.new (step instruction.now st)) }

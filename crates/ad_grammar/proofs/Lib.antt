@@ -6,7 +6,6 @@ mod LevelLemmas
 mod MachineLemmas
 pub mod MadeLemmas
 pub mod MadeWordLemmas
-pub mod MerelyLemmas
 mod NestingLemmas
 mod ReadLemmas
 mod Readings

@@ -52,13 +52,6 @@ module _ (is_ad : Bool) (st : List Inline) where
 -- ---- each instruction
 
 module _ (is_ad : Bool) (st : List Inline) where
-  pub leaf-carried : (label : Label) {t : Tree} {old new : Builder} → t ≡ node label none → HasPut (value t) old new → Holds is_ad old st
-      → Holds is_ad new (leaf label ∷ st)
-  leaf-carried label {t} {old} is put h =
-      put-holds is_ad (leaf label ∷ st) put
-      (subst (λ u. Laid is_ad (value u ∷ map slot old.operands) old.parent (leaf label ∷ st) (draft_frames old.draft)) (sym is)
-      (leaf-laid is_ad old.parent (draft_frames old.draft) label (map slot old.operands) st h))
-
   pub one-carried : (label : Label) {t u : Tree} {old between new : Builder} → HasPut (value t) between old → u ≡ node label (one t) → HasPut (value u) between new
       → Holds is_ad old st → Holds is_ad new (over_one label (top st) ∷ below st)
   one-carried label {t} {u} {old} {between} first is put h =

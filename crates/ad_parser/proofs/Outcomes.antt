@@ -72,18 +72,6 @@ expr_outcome-one text = one-outcome IsExpr frames_of_expr text (expr_answers tex
 pub ad_outcome-one : (text : List ℕ) (outcome other : Result Inline ParseFault) → HasAdOutcome text outcome → HasAdOutcome text other → outcome ≡ other
 ad_outcome-one text = one-outcome IsRoot frames_of_ad text (ad_answers text)
 
-pub expr_outcome-tree : (text : List ℕ) (x : Inline) → Spells IsExpr text x → IsWithin frames_of_expr x → expr_outcome text ≡ Ok x
-expr_outcome-tree text x spelled within = expr_outcome-one text (expr_outcome text) (Ok x) (expr_outcome-has text) (spelled, within)
-
-pub expr_outcome-fault : (text : List ℕ) (fault : ParseFault) → HasFault IsExpr frames_of_expr text fault → expr_outcome text ≡ Err fault
-expr_outcome-fault text fault has = expr_outcome-one text (expr_outcome text) (Err fault) (expr_outcome-has text) has
-
-pub ad_outcome-tree : (text : List ℕ) (x : Inline) → Spells IsRoot text x → IsWithin frames_of_ad x → ad_outcome text ≡ Ok x
-ad_outcome-tree text x spelled within = ad_outcome-one text (ad_outcome text) (Ok x) (ad_outcome-has text) (spelled, within)
-
-pub ad_outcome-fault : (text : List ℕ) (fault : ParseFault) → HasFault IsRoot frames_of_ad text fault → ad_outcome text ≡ Err fault
-ad_outcome-fault text fault has = ad_outcome-one text (ad_outcome text) (Err fault) (ad_outcome-has text) has
-
 -- ---- what a parse answers fits the outcome
 
 -- want of memory fits each outcome, and a fault itself

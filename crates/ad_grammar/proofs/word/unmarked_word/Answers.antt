@@ -1,5 +1,5 @@
 use Rattle.std.proofs.Math.Logic.{∥∥₁_map}
-use Rattle.ad_grammar.proofs.MerelyLemmas.{less-when}
+use Rattle.ad_lexer.proofs.ContentLemmas.{less_when}
 use Rattle.ad_grammar.proofs.WordLemmas.{string-quotation, name-quotation, integer-fits}
 use Rattle.ad_grammar.proofs.word.unmarked_word.Goals as goal
 
@@ -10,4 +10,4 @@ pub content-requires-in-Str : goal.content-requires-in-Str
 content-requires-in-Str c = ∥∥₁_map c.requires (λ spells. string-quotation c.args.token.now.kind c.args.token.now.text.now c.in-Str.is spells)
 
 pub integer-requires : goal.integer-requires
-integer-requires c = less-when _ _ c.requires (λ spells. integer-fits c.args.token.now.kind c.args.token.now.text.now c.in-Int.is spells)
+integer-requires c = less_when _ _ c.requires (λ spells. integer-fits c.args.token.now.kind c.args.token.now.text.now c.in-Int.is spells)

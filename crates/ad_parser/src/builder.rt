@@ -327,7 +327,7 @@ fn disjuncts(alloc: Global, first: Expr, second: Expr) -> Result<Exprs, OutOfMem
 fn pair(alloc: Global, first: Expr, second: Expr) -> Result<Exprs, OutOfMemory>
     ensures { IfOk result (λ list. trees list ≡ tree first ∷ tree second ∷ []) }
 {
-    let mut list = Exprs::new(alloc);
+    let mut list = Exprs::with_capacity(alloc, 2)?;
     list.push(first)?;
     list.push(second)?;
     Ok(list)

@@ -1,8 +1,8 @@
 // The builder of ads and of expressions: it carries out a program. Ad literals become frames of a draft, whose definitions
 // are made there one after another. The program is used up, so that its names and strings move into the ad.
 //
-// No program that was read asks for an operand that isn't there; for one that does, the answer is want of memory, which
-// promises nothing.
+// A program that asks for an operand that isn't there is answered by want of memory, which promises nothing. That none that
+// was read does is tested, and not proved.
 ghost use Rattle.std.specs.Prelude.{◌≡◌, ◌<◌, [], ◌∷◌, ◌++◌, length, true, false, List, IfOk, OnOk};
 ghost use Rattle.std.specs.Vec.Iter.{into_iter_items, into_iter_len};
 ghost use Rattle.ad_tree.specs.Ad.{ad_frames};

@@ -7,14 +7,14 @@ use ad_value::{Value, Values, and_step, or_step};
 use pool_text::OutOfMemory;
 
 /// A value, with the least number of references that it needs.
-#[derive(Debug, Drop)]
+#[derive(Drop)]
 pub struct Outcome {
     pub value: Value,
     pub height: u32,
 }
 
 /// Several values, with the least number of references that all of them need.
-#[derive(Debug, Drop)]
+#[derive(Drop)]
 pub struct Several {
     pub values: Values,
     pub height: u32,

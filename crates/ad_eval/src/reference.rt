@@ -16,7 +16,7 @@ use pool_text::{AdPlace, OutOfMemory, Pos};
 use std::alloc::Global;
 
 /// What a reference comes to: a value at once, or the attribute whose value it is.
-#[derive(Debug, Drop)]
+#[derive(Drop)]
 pub enum Reference {
     Value(Value),
     Attribute(Pos),

@@ -3,7 +3,7 @@ use pool_text::BinOp;
 
 /// A symbol of the grammar, or one of the words `is` and `isnt`. A `Binary` mark stands between two operands; `+` and `-` may also stand
 /// before one.
-#[derive(Clone, Copy, Debug, PartialEq, Eq)]
+#[derive(Clone, Copy, PartialEq, Eq)]
 pub enum Mark {
     OpenParen,
     CloseParen,

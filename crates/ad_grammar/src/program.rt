@@ -6,7 +6,7 @@ use pool_text::{BinOp, Lit, OutOfMemory, Text, UnOp};
 use std::alloc::Global;
 
 /// An operator between two operands. `&&` and `||` make chains: `a && b && c` is one node.
-#[derive(Clone, Copy, Debug, PartialEq, Eq)]
+#[derive(Clone, Copy, PartialEq, Eq)]
 pub enum Infix {
     And,
     Or,
@@ -15,7 +15,7 @@ pub enum Infix {
 
 /// What the machine does with the trees on its stack. An operator stands behind its operands (postfix order), so that
 /// the instructions are those of the tree from left to right.
-#[derive(Debug, Drop)]
+#[derive(Drop)]
 pub enum Instruction {
     /// Puts a literal on the stack.
     Literal(Lit),
@@ -48,7 +48,7 @@ pub enum Instruction {
 }
 
 /// Instructions in the order in which they are carried out.
-#[derive(Debug, Drop)]
+#[derive(Drop)]
 pub struct Program {
     instructions: Vec<Instruction>,
 }

@@ -14,7 +14,7 @@ use std::alloc::Global;
 
 /// The words of a text, from a place on. A token is made a word when it is taken; which tokens are marks is known before,
 /// since the rules look at the next one many times.
-#[derive(Debug, Drop)]
+#[derive(Drop)]
 pub struct Reader<'a> {
     tokens: Tokens<'a>,
     marks: Vec<Option<Mark>>,

@@ -5,7 +5,7 @@ ghost use Rattle.ad_grammar.specs.declared.stop.Stop.TheVariants as stops;
 use pool_text::OutOfMemory;
 
 /// The words don't fit the rule, or memory is wanting.
-#[derive(Clone, Copy, Debug)]
+#[derive(Clone, Copy)]
 pub enum Stop {
     Grammar,
     OutOfMemory,

@@ -14,7 +14,7 @@ use pool_text::{BinOp, Lit, OutOfMemory, Text};
 use std::alloc::Global;
 
 /// A plain name, a name that stood in quotes, a literal, or a mark.
-#[derive(Debug, Drop)]
+#[derive(Drop)]
 pub enum Word<'a> {
     Plain(&'a [u8]),
     Quoted(Text),

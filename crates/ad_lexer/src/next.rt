@@ -11,7 +11,7 @@ use crate::symbol::symbol;
 use crate::token::TokenKind;
 
 /// The end of the text, white space or a comment with its length, a token with its length, or a fault with its place.
-#[derive(Clone, Copy, Debug)]
+#[derive(Clone, Copy)]
 pub enum Step {
     End,
     Blank(usize),
@@ -20,7 +20,7 @@ pub enum Step {
 }
 
 /// What the first byte of a text begins.
-#[derive(Clone, Copy, Debug)]
+#[derive(Clone, Copy)]
 pub enum Begin {
     Space,
     Word,

@@ -10,7 +10,7 @@ use crate::token::TokenKind;
 
 /// What stands at the front of the rest of a string: a letter with its length and the byte that it means, the closing
 /// quote, the line's or the text's end, byte 0, or a backslash that no escape follows.
-#[derive(Clone, Copy, Debug)]
+#[derive(Clone, Copy)]
 pub enum Front {
     Letter(usize, u8),
     Close,

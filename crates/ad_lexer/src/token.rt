@@ -3,7 +3,7 @@ use std::marker::Model;
 
 /// What a token is: a plain name, a reserved word, a name in single quotes, a string in double quotes, an integer or a
 /// symbol.
-#[derive(Clone, Copy, Debug, PartialEq, Eq)]
+#[derive(Clone, Copy, PartialEq, Eq)]
 pub enum TokenKind {
     Plain,
     Reserved,
@@ -15,7 +15,7 @@ pub enum TokenKind {
 
 /// A token of a source text: its bytes, and the places in the source, counted in bytes from 0, where they begin and
 /// behind which they end.
-#[derive(Clone, Copy, Debug)]
+#[derive(Clone, Copy)]
 pub struct Token<'a> {
     pub kind: TokenKind,
     pub start: u32,
@@ -24,7 +24,7 @@ pub struct Token<'a> {
 }
 
 /// A token without its bytes, which the source holds.
-#[derive(Clone, Copy, Debug)]
+#[derive(Clone, Copy)]
 pub(crate) struct Span {
     pub kind: TokenKind,
     pub start: u32,
@@ -32,7 +32,7 @@ pub(crate) struct Span {
 }
 
 /// The tokens of a source text, in order.
-#[derive(Debug, Drop)]
+#[derive(Drop)]
 pub struct Tokens<'a> {
     source: &'a [u8],
     spans: Vec<Span>,

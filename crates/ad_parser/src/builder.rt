@@ -21,7 +21,7 @@ use std::alloc::Global;
 use std::vec::IntoIter;
 
 /// A tree, or an ad literal whose definitions are being made: its frame, and the frame in which it stands.
-#[derive(Debug, Drop)]
+#[derive(Drop)]
 pub enum Operand {
     Value(Expr),
     Open(u32, u32),

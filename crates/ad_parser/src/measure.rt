@@ -14,7 +14,7 @@ use pool_text::OutOfMemory;
 use std::alloc::Global;
 
 /// A chain of `&&`, a chain of `||`, another node, or an ad literal.
-#[derive(Clone, Copy, Debug, PartialEq, Eq)]
+#[derive(Clone, Copy, PartialEq, Eq)]
 pub enum Kind {
     All,
     Any,
@@ -24,7 +24,7 @@ pub enum Kind {
 
 /// The height of a tree, how many ad literals it has, and how many definitions, those that are replaced included. Numbers
 /// stop at the largest `u32`, far above the limits of a parse.
-#[derive(Clone, Copy, Debug)]
+#[derive(Clone, Copy)]
 pub struct Measure {
     pub height: u32,
     pub frames: u32,

@@ -4,7 +4,7 @@ use std::alloc::Global;
 use std::marker::Model;
 
 /// A stack, which contracts see as the list of its items, the last one first.
-#[derive(Debug, Drop)]
+#[derive(Drop)]
 pub struct Stack<T> {
     items: Vec<T>,
 }

@@ -2,14 +2,14 @@
 use ad_tree::Ad;
 use pool_text::Text;
 
-#[derive(Debug, Drop)]
+#[derive(Drop)]
 pub(crate) struct Entry {
     pub(crate) name: Text,
     pub(crate) content: Content,
 }
 
 /// What is held under a name.
-#[derive(Debug, Drop)]
+#[derive(Drop)]
 pub(crate) struct Content {
     pub(crate) born: u64,
     pub(crate) lifetime: u64,

@@ -3,7 +3,7 @@ use ad_tree::Request;
 
 /// Who holds a resource, and at which port: at 0 for a single job, else from 0. There is one slot for each port of the
 /// request, or one where it has no ports, and the resource stands at `port` among them.
-#[derive(Clone, Copy, Debug)]
+#[derive(Clone, Copy)]
 pub struct Held<'a> {
     pub request: &'a Request,
     pub slots: &'a [usize],

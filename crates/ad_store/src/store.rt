@@ -26,7 +26,7 @@ const TEXT_LIMIT: u64 = 33_554_432;
 /// that it is given until it leaves, also where another takes its place.
 ///
 /// A name is found by its hash, and a slot by its number; neither look-up takes memory.
-#[derive(Debug, Drop)]
+#[derive(Drop)]
 pub struct Store {
     alloc: Global,
     names: IndexMap<Vec<u8>, usize>,

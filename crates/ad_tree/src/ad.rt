@@ -12,7 +12,7 @@ use pool_text::{OutOfMemory, Text};
 /// An ad: a table of frames. Frame 0 is the root; every other frame is an ad literal and names a lower frame as its
 /// parent, the frame in whose expressions it stands. The names of a frame differ after folding (ClassAd Language
 /// Reference Manual 2.4, attribute names ignore case). Contracts see the list of frames, `ad_frames`.
-#[derive(Debug, Drop)]
+#[derive(Drop)]
 pub struct Ad {
     frames: Vec<AdFrame>,
     pub ghost is_ad: { IsAd (frames_of frames.items) },

@@ -14,7 +14,7 @@ use std::alloc::Global;
 /// The longest name that is folded without memory.
 const SHORT_NAME: usize = 64;
 
-#[derive(Debug, Drop)]
+#[derive(Drop)]
 pub struct Attribute {
     pub name: Text,
     pub expr: Expr,
@@ -28,7 +28,7 @@ impl Attribute {
     }
 }
 
-#[derive(Debug, Drop)]
+#[derive(Drop)]
 pub struct AdFrame {
     pub parent: u32,
     pub attributes: IndexMap<Vec<u8>, Attribute>,

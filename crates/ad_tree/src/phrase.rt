@@ -7,7 +7,7 @@ use crate::{Ad, Expr};
 
 /// An expression with an ad whose root is empty and whose other frames are exactly the ad literals of the expression,
 /// numbered from 1 in the order of their opening brackets.
-#[derive(Debug, Drop)]
+#[derive(Drop)]
 pub struct Phrase {
     pub ad: Ad,
     pub expr: Expr,

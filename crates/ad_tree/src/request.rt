@@ -6,7 +6,7 @@ use crate::Ad;
 use pool_text::{Items, Text};
 
 /// A port of a gang: its label, and the frame of the request that asks for a resource.
-#[derive(Debug, Drop)]
+#[derive(Drop)]
 pub struct Port {
     pub label: Text,
     pub frame: u32,
@@ -17,7 +17,7 @@ pub type Ports = Items<Port>;
 
 /// The request of a match: its ad, and the ports that ask for resources, each at a frame of the ad. A single request has
 /// no ports, a gang 1 to 8 (Raman, Livny and Solomon 2003).
-#[derive(Debug, Drop)]
+#[derive(Drop)]
 pub struct Request {
     pub ad: Ad,
     pub ports: Ports,

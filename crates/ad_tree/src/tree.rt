@@ -4,7 +4,7 @@ use std::alloc::Global;
 
 /// Where the name of a reference is looked up: `Bare` by the rules of nesting, `My` in the root of the ad in
 /// which the reference stands (`MY.x`, `self.x` and `.x`), `Target` in the other ad of a match (`TARGET.x` and `other.x`).
-#[derive(Clone, Copy, Debug, PartialEq, Eq)]
+#[derive(Clone, Copy, PartialEq, Eq)]
 pub enum Scope {
     Bare,
     My,
@@ -15,7 +15,7 @@ pub enum Scope {
 /// An ad literal within it is a `Frame`: the number of a frame of the ad in which the expression stands.
 /// In every tree that a parse gives, `And` and `Or` have at least two elements, and the first isn't of the same kind.
 #[cycle(tree)]
-#[derive(Debug, Drop)]
+#[derive(Drop)]
 pub enum Expr {
     Literal(Lit),
     Name(Scope, Text),
@@ -36,7 +36,7 @@ pub enum Expr {
 
 /// A list of expressions, which contracts see as the list of their plain trees.
 #[cycle(tree)]
-#[derive(Debug, Drop)]
+#[derive(Drop)]
 pub struct Exprs {
     items: Vec<Expr>,
 }

@@ -8,7 +8,7 @@ use std::alloc::Global;
 /// A value of the ClassAd language, as the ClassAd Language Reference Manual 2.4 has it, without reals and times.
 /// An `Integer` has 64 bits, a `Str` is a list of bytes, and an `Ad` is the place of a frame, not a copy of it.
 #[cycle(value)]
-#[derive(Debug, Drop)]
+#[derive(Drop)]
 pub enum Value {
     Undefined,
     Error,
@@ -21,7 +21,7 @@ pub enum Value {
 
 /// A list of values.
 #[cycle(value)]
-#[derive(Debug, Drop)]
+#[derive(Drop)]
 pub struct Values {
     pub(crate) items: Vec<Value>,
 }

@@ -2,7 +2,7 @@
 use pool_text::Items;
 
 /// An ad that docks with a query: the slot of the ad, and the rank that the query gives it. Larger is better.
-#[derive(Clone, Copy, Debug)]
+#[derive(Clone, Copy)]
 pub struct Hit {
     pub slot: usize,
     pub rank: i64,
@@ -12,7 +12,7 @@ pub struct Hit {
 pub type Hits = Items<Hit>;
 
 /// The same by the place of the ad in the order of the store, counted from 0.
-#[derive(Clone, Copy, Debug)]
+#[derive(Clone, Copy)]
 pub struct Match {
     pub place: usize,
     pub rank: i64,

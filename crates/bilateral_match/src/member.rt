@@ -4,7 +4,7 @@ ghost use Rattle.std.specs.Prelude.{◌≡◌};
 use std::cmp::Ordering;
 
 /// What the sides of a dock rank each other: the request the resource, and the resource the request.
-#[derive(Clone, Copy, Debug)]
+#[derive(Clone, Copy)]
 pub struct Ranks {
     pub rank: i64,
     pub regard: i64,
@@ -12,7 +12,7 @@ pub struct Ranks {
 
 /// A resource that a job may be given: the rank that the job gives it, whether it is claimed, the rank that it gives the
 /// job, and its place in the order of the store, counted from 0.
-#[derive(Clone, Copy, Debug)]
+#[derive(Clone, Copy)]
 pub struct Member {
     pub rank: i64,
     pub claimed: bool,

@@ -7,7 +7,7 @@ ghost use Rattle.builtin_funcs.specs.Functions.{function_in, function_named, fun
 use pool_text::same_folded;
 
 /// The functions of the language, as the ClassAd Language Reference Manual 2.4 names them.
-#[derive(Clone, Copy, Debug)]
+#[derive(Clone, Copy)]
 pub(crate) enum Function {
     Sum,
     Min,

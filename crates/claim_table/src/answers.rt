@@ -60,7 +60,7 @@ pub enum ClaimFault {
 pub struct NoJob;
 
 /// A job that lost its resources, with its user and the slots that it had.
-#[derive(Debug, Drop)]
+#[derive(Drop)]
 pub struct Freed {
     pub job: Text,
     pub user: Text,

@@ -11,7 +11,7 @@ use std::convert::AsSlice;
 use std::mem::replace;
 
 /// A job, as the table holds it.
-#[derive(Debug, Drop)]
+#[derive(Drop)]
 pub struct Job {
     pub name: Text,
     pub user: Text,
@@ -21,7 +21,7 @@ pub struct Job {
 }
 
 /// How a job stands, with the slots that are offered to it or that it has claimed.
-#[derive(Debug, Drop)]
+#[derive(Drop)]
 pub enum Standing {
     Idle,
     Matched(Slots),

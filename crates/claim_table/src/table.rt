@@ -23,7 +23,7 @@ const TEXT_LIMIT: u64 = 33_554_432;
 /// resource, named by its slot, is in at most one offer and in at most one claim.
 ///
 /// A job is found by its name's hash, and by a slot at once; no look-up takes memory.
-#[derive(Debug, Drop)]
+#[derive(Drop)]
 pub struct ClaimTable {
     pub(crate) alloc: Global,
     names: IndexSet<Vec<u8>>,

@@ -6,7 +6,7 @@ use crate::message::{Message, MessageKind};
 use std::marker::Model;
 
 /// Where a customer is with its claim: it has none, asked for one, holds it, or leaves it.
-#[derive(Clone, Copy, Debug, PartialEq, Eq)]
+#[derive(Clone, Copy, PartialEq, Eq)]
 pub enum Phase {
     Idle,
     Asked,
@@ -15,7 +15,7 @@ pub enum Phase {
 }
 
 /// A customer. Its number and its target are stored and outlive a restart; its phase isn't.
-#[derive(Clone, Copy, Debug)]
+#[derive(Clone, Copy)]
 pub struct Customer {
     id: u32,
     number: u64,

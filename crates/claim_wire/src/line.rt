@@ -8,7 +8,7 @@ use crate::fault::LineFault;
 use pool_text::{past_blanks, read_number, word_of, words_behind};
 
 /// The words that a line may begin with.
-#[derive(Clone, Copy, Debug)]
+#[derive(Clone, Copy)]
 pub(crate) enum Verb {
     Ask,
     Again,

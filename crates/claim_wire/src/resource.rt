@@ -8,7 +8,7 @@ use std::alloc::Global;
 use std::marker::Model;
 
 /// A resource. Its holder and the numbers that customers freed are stored and outlive a restart; who waits isn't.
-#[derive(Debug, Drop)]
+#[derive(Drop)]
 pub struct Resource {
     id: u32,
     holder: Option<Holder>,

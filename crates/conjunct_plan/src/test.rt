@@ -3,7 +3,7 @@ use pool_text::{BinOp, Items, Lit, Text};
 
 /// A conjunct of a requirement that asks for one attribute of the other side (Raman, Livny and Solomon 1998, matching
 /// both ways round; that such conjuncts are told apart is this project's own).
-#[derive(Debug, Drop)]
+#[derive(Drop)]
 pub enum Test {
     /// The attribute itself has to be true.
     Truth {

@@ -21,21 +21,21 @@ const FIRST: usize = 64;
 
 /// What is known of an attribute: nothing yet, that it was entered, or its value with the least number of references that it
 /// needs, the one to itself included.
-#[derive(Clone, Copy, Debug)]
+#[derive(Clone, Copy)]
 pub enum Seen<'a> {
     Unseen,
     Pending,
     Done(&'a Value, u32),
 }
 
-#[derive(Debug, Drop)]
+#[derive(Drop)]
 struct Kept {
     value: Value,
     height: u32,
 }
 
 // An attribute that was entered, with its value once that is known.
-#[derive(Debug, Drop)]
+#[derive(Drop)]
 struct Entry {
     pos: Pos,
     kept: Option<Kept>,
@@ -56,7 +56,7 @@ impl Default for Entry {
 }
 
 /// The attributes that an evaluation has entered, with what is known of them. Contracts see a sight for each attribute.
-#[derive(Debug, Drop)]
+#[derive(Drop)]
 pub struct Guard {
     first: SmallVec<Entry, INLINE>,
     others: HashMap<(u32, u32, u32), Option<Kept>>,

@@ -15,7 +15,7 @@ use conjunct_plan::Test;
 use pool_text::{Lit, OutOfMemory, Text, same_folded};
 
 /// The name of an attribute, and its literal where its expression is one.
-#[derive(Debug, Drop)]
+#[derive(Drop)]
 pub struct Entry {
     pub name: Text,
     pub literal: Option<Lit>,
@@ -56,7 +56,7 @@ impl Entry {
 }
 
 /// Attributes that have no literal, a literal that makes a test true, or one that doesn't.
-#[derive(Clone, Copy, Debug)]
+#[derive(Clone, Copy)]
 pub enum Choice {
     Open,
     True,

@@ -22,7 +22,7 @@ const OPEN: Span = Span::At(Kind::Open, 0);
 ///
 /// The attributes of one name stand together in one order, by kind and number of their literals, so those that can make
 /// a test true are found by their place.
-#[derive(Debug, Drop)]
+#[derive(Drop)]
 pub struct Index {
     alloc: Global,
     entries: BTreeMap<Place, Entry>,

@@ -8,7 +8,7 @@ use conjunct_plan::Test;
 use pool_text::{BinOp, Lit};
 
 /// A part of the order of the attributes of one name.
-#[derive(Clone, Copy, Debug)]
+#[derive(Clone, Copy)]
 pub enum Span {
     /// The attributes of this kind and this number.
     At(Kind, i64),

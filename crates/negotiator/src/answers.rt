@@ -13,7 +13,7 @@ pub enum PriorityFault {
 }
 
 /// Resources that are offered to a job, by their slots.
-#[derive(Debug, Drop)]
+#[derive(Drop)]
 pub struct Offered {
     pub job: Text,
     pub slots: Slots,
@@ -23,7 +23,7 @@ pub struct Offered {
 pub type OfferedList = Items<Offered>;
 
 /// A user's turn in a spin: the user's slice, in resources, and the offers to the user's jobs.
-#[derive(Debug, Drop)]
+#[derive(Drop)]
 pub struct Turn {
     pub user: Text,
     pub slice: u64,
@@ -34,7 +34,7 @@ pub struct Turn {
 pub type Turns = Items<Turn>;
 
 /// A spin: how many resources were neither claimed nor offered as it began, and its turns with at least one offer.
-#[derive(Debug, Drop)]
+#[derive(Drop)]
 pub struct Spin {
     pub free: u64,
     pub turns: Turns,

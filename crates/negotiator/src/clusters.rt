@@ -34,7 +34,7 @@ const ADS_LIMIT: usize = 64;
 
 /// The jobs of one ad: the place of one of them, the resources that they may be given, the best one first, and how many of
 /// these are known to be offered, from the front.
-#[derive(Debug, Drop)]
+#[derive(Drop)]
 pub struct Cluster {
     pub place: usize,
     pub slots: Slots,
@@ -43,7 +43,7 @@ pub struct Cluster {
 
 /// The ads of the jobs without ports that were tried in a cycle, each by the place of the first job that has it, and the
 /// clusters of those that were tried again.
-#[derive(Debug, Drop)]
+#[derive(Drop)]
 pub struct Clusters {
     pub seen: Vec<usize>,
     pub ranked: Vec<Cluster>,

@@ -15,7 +15,7 @@ const DEFAULT_PRIORITY: u64 = 1_000;
 /// The priorities that are set, each for a user. A lower number is better; a user for whom none is set has 1,000.
 ///
 /// A user is found by the hash of the name, which takes no memory.
-#[derive(Debug, Drop)]
+#[derive(Drop)]
 pub struct Priorities {
     alloc: Global,
     numbers: IndexMap<Vec<u8>, u64>,

@@ -17,7 +17,7 @@ use std::alloc::Global;
 use std::cmp::Ordering;
 
 /// The places of a user's jobs in the order of submission, with the user's priority.
-#[derive(Debug, Drop)]
+#[derive(Drop)]
 pub struct Queue {
     pub user: Text,
     pub number: u64,

@@ -13,7 +13,7 @@ use std::marker::Model;
 
 /// Keeps at most `room` bytes, and fails at the deliveries whose numbers, from 1, are listed, and where a notice and its
 /// line feed don't fit.
-#[derive(Debug, Drop)]
+#[derive(Drop)]
 pub struct MemoryMailbox {
     taken: Vec<u8>,
     room: usize,

@@ -11,7 +11,7 @@ use pool_text::{OutOfMemory, Text, read_number};
 use std::alloc::Global;
 
 /// What the words of a command line ask for.
-#[derive(Clone, Copy, Debug, PartialEq, Eq)]
+#[derive(Clone, Copy, PartialEq, Eq)]
 pub enum Asked {
     /// Nothing: the words are wrong.
     Bad,

@@ -29,7 +29,7 @@ pub(crate) const INPUT_LIMIT: usize = 1 << 30;
 pub(crate) const READ_SIZE: usize = 4096;
 
 /// How a run ended.
-#[derive(Clone, Copy, Debug, PartialEq, Eq)]
+#[derive(Clone, Copy, PartialEq, Eq)]
 pub enum RunEnd {
     /// All of the input was read and all replies were taken; `refused` counts the refused commands.
     Done { refused: u64 },

@@ -11,7 +11,7 @@ use std::marker::Model;
 
 /// Keeps at most `room` bytes, takes at most a given number a call, and fails at the calls whose numbers, from 1, are
 /// listed, and where no room is left.
-#[derive(Debug, Drop)]
+#[derive(Drop)]
 pub struct MemorySink {
     taken: Vec<u8>,
     offered: usize,

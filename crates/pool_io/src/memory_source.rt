@@ -8,7 +8,7 @@ use pool_text::{Slots, Text};
 use std::marker::Model;
 
 /// Gives the bytes of a text, at most a given number a call, and fails at the calls whose numbers, from 1, are listed.
-#[derive(Debug, Drop)]
+#[derive(Drop)]
 pub struct MemorySource {
     text: Text,
     at: usize,

@@ -10,7 +10,7 @@ use pool_text::{OutOfMemory, Text, append_count};
 use std::alloc::Global;
 
 /// What there is no room for.
-#[derive(Clone, Copy, Debug, PartialEq, Eq)]
+#[derive(Clone, Copy, PartialEq, Eq)]
 pub enum Room {
     Ads,
     AdText,
@@ -20,7 +20,7 @@ pub enum Room {
 }
 
 /// Why a command is refused.
-#[derive(Debug, Drop)]
+#[derive(Drop)]
 pub enum Refusal {
     /// The line isn't read: 1 too long, 2 an unknown command, 3 wrong words, 4 a block not ended, 5 a block too long.
     Line(u8),

@@ -13,7 +13,7 @@ use std::alloc::Global;
 use std::convert::AsSlice;
 
 /// What the pool answers to a command.
-#[derive(Debug, Drop)]
+#[derive(Drop)]
 pub enum Reply {
     /// The clock stands at the moment; so many ads left the pool.
     Clock {

@@ -3,7 +3,7 @@ use pool_text::{Items, Names, Text};
 
 /// An ad of the pool: its name, the moment of its birth, its lifetime, and the jobs that claimed it and that it is
 /// offered to.
-#[derive(Debug, Drop)]
+#[derive(Drop)]
 pub struct AdRow {
     pub name: Text,
     pub born: u64,
@@ -16,7 +16,7 @@ pub struct AdRow {
 pub type AdRows = Items<AdRow>;
 
 /// An ad that a query found, and the query's rank of it.
-#[derive(Debug, Drop)]
+#[derive(Drop)]
 pub struct HitRow {
     pub name: Text,
     pub rank: i64,
@@ -26,7 +26,7 @@ pub struct HitRow {
 pub type HitRows = Items<HitRow>;
 
 /// An offer: the job and the names of its resources.
-#[derive(Debug, Drop)]
+#[derive(Drop)]
 pub struct OfferRow {
     pub job: Text,
     pub names: Names,
@@ -36,7 +36,7 @@ pub struct OfferRow {
 pub type OfferRows = Items<OfferRow>;
 
 /// A user's turn in a spin: the slice that the user had, and what was offered.
-#[derive(Debug, Drop)]
+#[derive(Drop)]
 pub struct TurnRow {
     pub user: Text,
     pub slice: u64,
@@ -47,7 +47,7 @@ pub struct TurnRow {
 pub type TurnRows = Items<TurnRow>;
 
 /// A spin of a negotiation cycle: how many resources were free, and the users' turns.
-#[derive(Debug, Drop)]
+#[derive(Drop)]
 pub struct SpinRow {
     pub free: u64,
     pub turns: TurnRows,

@@ -14,7 +14,7 @@ pub(crate) const BLOCK_TOO_LONG: u8 = 5;
 
 /// A command of the pool. A name is 1 to 64 bytes, each an ASCII letter, a digit, `_`, `-`, `.` or `@`. A block is a
 /// text of at most 65,536 bytes whose lines all end and none of which is a dot. An expression has no line feed.
-#[derive(Debug, Drop)]
+#[derive(Drop)]
 pub enum Command {
     /// Sets the moment, from 0 to 10^12.
     Clock(u64),

@@ -3,7 +3,7 @@ ghost use Rattle.std.specs.Prelude.{◌≡◌, map};
 ghost use Rattle.pool_script.specs.Keywords.{keyword_in, keyword_of, opens_block};
 
 /// The words that a command may begin with.
-#[derive(Clone, Copy, Debug)]
+#[derive(Clone, Copy)]
 pub(crate) enum Keyword {
     Clock,
     Advertise,

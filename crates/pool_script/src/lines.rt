@@ -13,7 +13,7 @@ use std::collections::VecDeque;
 use std::marker::Model;
 
 /// A line of an input. All lines are given, those without words and comments too.
-#[derive(Debug, Drop)]
+#[derive(Drop)]
 pub enum Line {
     /// The bytes of the line, without its line feed and the one carriage return that may end it.
     Words(Text),
@@ -23,7 +23,7 @@ pub enum Line {
 
 /// The lines of an input that comes in pieces of any size. Where a call answers `OutOfMemory`, the lines are only to be
 /// dropped.
-#[derive(Debug, Drop)]
+#[derive(Drop)]
 pub struct Lines {
     alloc: Global,
     waiting: VecDeque<Line>,

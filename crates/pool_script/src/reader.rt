@@ -13,14 +13,14 @@ use std::alloc::Global;
 use std::collections::VecDeque;
 
 /// A block that has begun: the line that took it, and its text so far.
-#[derive(Debug, Drop)]
+#[derive(Drop)]
 pub(crate) struct Block {
     pub(crate) line: Text,
     pub(crate) text: Text,
 }
 
 /// The commands that wait, the block that has begun, and the line that has begun.
-#[derive(Debug, Drop)]
+#[derive(Drop)]
 pub(crate) struct Reader {
     alloc: Global,
     pub(crate) waiting: VecDeque<Command>,

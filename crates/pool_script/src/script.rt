@@ -14,7 +14,7 @@ use std::marker::Model;
 
 /// The commands of an input that comes in pieces of any size. Where a call answers `OutOfMemory`, the script is only to
 /// be dropped.
-#[derive(Debug, Drop)]
+#[derive(Drop)]
 pub struct Script {
     reader: Reader,
     over: bool,

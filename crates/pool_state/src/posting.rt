@@ -8,7 +8,7 @@ use pool_text::{Items, Names, Text};
 use std::convert::AsSlice;
 
 /// A line, which has no line feed, and the names that it goes to, each once.
-#[derive(Debug, Drop)]
+#[derive(Drop)]
 pub(crate) struct Notice {
     pub(crate) names: Names,
     pub(crate) line: Text,

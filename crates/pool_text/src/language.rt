@@ -4,7 +4,7 @@ ghost use Rattle.std.specs.Prelude.{◌≡◌, ◌↔◌, IsTrue};
 use crate::Text;
 
 /// A literal of the language. A parse never makes a negative `Integer`.
-#[derive(Debug, Drop)]
+#[derive(Drop)]
 pub enum Lit {
     Undefined,
     Error,
@@ -28,7 +28,7 @@ pub fn same_place(a: &AdPlace, b: &AdPlace) -> bool
 }
 
 /// An attribute of a frame of an ad, counted from 0 in the frame's order.
-#[derive(Clone, Copy, Debug, PartialEq, Eq)]
+#[derive(Clone, Copy, PartialEq, Eq)]
 pub struct Pos {
     pub ad: u32,
     pub frame: u32,
@@ -43,7 +43,7 @@ pub fn same_position(a: &Pos, b: &Pos) -> bool
 }
 
 /// The operators before one operand: `+ - ! ~`.
-#[derive(Clone, Copy, Debug, PartialEq, Eq)]
+#[derive(Clone, Copy, PartialEq, Eq)]
 pub enum UnOp {
     Plus,
     Minus,
@@ -59,7 +59,7 @@ pub fn same_unary(a: &UnOp, b: &UnOp) -> bool
 }
 
 /// The strict operators between two operands, with `is` (`Same`) and `isnt` (`NotSame`).
-#[derive(Clone, Copy, Debug, PartialEq, Eq)]
+#[derive(Clone, Copy, PartialEq, Eq)]
 pub enum BinOp {
     BitOr,
     BitXor,

@@ -7,7 +7,7 @@ use std::convert::AsSlice;
 use std::marker::Model;
 
 /// A growing list, which contracts see as the list of its items.
-#[derive(Debug, Drop)]
+#[derive(Drop)]
 pub struct Items<T> {
     items: Vec<T>,
 }

@@ -6,7 +6,7 @@ use pool_text::{OutOfMemory, Text, append_count};
 use std::alloc::Global;
 
 /// What commands come to, one or many.
-#[derive(Clone, Copy, Debug, PartialEq, Eq)]
+#[derive(Clone, Copy, PartialEq, Eq)]
 pub struct Summary {
     /// How many commands there are.
     pub commands: u64,

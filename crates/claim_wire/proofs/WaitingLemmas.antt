@@ -1,5 +1,5 @@
 -- Who waits: places in the list, and room for all.
-use Rattle.std.proofs.Common.{◌≡◌, ℕ, zero, suc, ◌+◌, ◌<◌, ◌≤◌, max, Bool, true, false, cond, not, eqb, ltb, leb, ◌&&◌, List, [], ◌∷◌, ◌++◌, length, map, get_or, set, take, drop, None, Some, refl, sym, ◌∙◌, ap, subst, inl, inr, arith, add-one}
+use Rattle.std.proofs.Common.{◌≡◌, ℕ, zero, suc, ◌+◌, ◌<◌, ◌≤◌, max, Bool, true, false, cond, not, eqb, ltb, leb, ◌&&◌, List, [], ◌∷◌, ◌++◌, length, map, get_or, set, take, drop, replicate, None, Some, refl, sym, ◌∙◌, ap, subst, inl, inr, arith, add-one}
 use Rattle.std.proofs.lemmas.Bool.{cases_Bool, and_parts, and_from, or_parts, or_cases, eqb-true, leb-true, ltb-true, le-leb, not-true, true≢false}
 use Rattle.std.proofs.lemmas.Bool.Decides.{nat_tests}
 use Rattle.std.proofs.lemmas.Map.Steps.{length-le_from_distinct_below}
@@ -183,9 +183,6 @@ pub zeros-length : (n : ℕ) → length (zeros n) ≡ n
 zeros-length zero = refl
 zeros-length (suc n) = omega (arith, zeros-length n)
 
-pub zeros-next : (n : ℕ) → zeros n ++ 0 ∷ [] ≡ zeros (n + 1)
-zeros-next n = by n ∙ ap zeros (sym (add-one n))
-  where
-    by : (m : ℕ) → zeros m ++ 0 ∷ [] ≡ zeros (suc m)
-    by zero = refl
-    by (suc m) = ap (λ (l : List ℕ). 0 ∷ l) (by m)
+pub zeros-replicate : (n : ℕ) → replicate n 0 ≡ zeros n
+zeros-replicate zero = refl
+zeros-replicate (suc n) = ap (λ (l : List ℕ). 0 ∷ l) (zeros-replicate n)

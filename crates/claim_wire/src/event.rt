@@ -1,7 +1,7 @@
 // What may happen next.
 
 /// What happens on the wire. Customers, resources and messages are numbered from 1.
-#[derive(Clone, Copy, PartialEq, Eq)]
+#[derive(Clone, Copy)]
 pub enum Event {
     /// The customer asks for the resource.
     Ask { customer: u32, resource: u32 },

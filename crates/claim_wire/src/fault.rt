@@ -1,7 +1,7 @@
 // Why an event or a line is refused.
 
 /// Why an event doesn't happen.
-#[derive(Clone, Copy, PartialEq, Eq)]
+#[derive(Clone, Copy)]
 pub enum WireFault {
     /// A customer asks that isn't idle.
     NotIdle,
@@ -18,7 +18,7 @@ pub enum WireFault {
 }
 
 /// Why a line names no event.
-#[derive(Clone, Copy, PartialEq, Eq)]
+#[derive(Clone, Copy)]
 pub enum LineFault {
     /// The first word is none that a line may begin with.
     Unknown,

@@ -27,7 +27,7 @@ pub struct Holder {
 }
 
 /// The messages that a resource sends for one that it took, in order.
-#[derive(Clone, Copy, PartialEq, Eq)]
+#[derive(Clone, Copy)]
 pub struct Answers {
     pub first: Option<Message>,
     pub second: Option<Message>,

@@ -1,5 +1,5 @@
 // The resource's end of a claim.
-ghost use Rattle.std.specs.Prelude.{◌≡◌, ◌<◌, ◌≤◌, ◌+◌, ◌++◌, ◌∷◌, ◌&&◌, [], true, false, length, max, slice_set, Option, Some, None, position, nat_le, ◌==◌, IfOk};
+ghost use Rattle.std.specs.Prelude.{◌≡◌, ◌<◌, ◌≤◌, ◌+◌, ◌++◌, ◌∷◌, ◌&&◌, [], true, false, length, max, slice_set, Option, Some, None, option_map, position, nat_le, ◌==◌, IfOk};
 ghost use Rattle.claim_wire.specs.Resources as spec;
 
 use crate::message::{Answers, Holder, Message, MessageKind};
@@ -35,10 +35,7 @@ impl Resource {
         ensures new { IfOk result (λ r. r ≡ spec.new_resource customers id) }
         ensures customers { IfOk result (λ r. length r.freed ≡ customers) }
     {
-        let mut freed = Vec::with_capacity(alloc, customers as usize)?;
-        for _customer in 0..customers {
-            freed.push(0)?;
-        }
+        let freed = vec![in alloc; 0; customers as usize]?;
         let waiting = Vec::with_capacity(alloc, customers as usize + 1)?;
         Ok(Resource {
             id,
@@ -175,11 +172,19 @@ impl Resource {
         match self.holder {
             Some(holder) if holder.customer == m.customer && holder.number <= freed => Answers {
                 first: Some(gone),
-                second: next_waiting(&self.waiting, m.customer, freed).map(|claim| grant(
-                    self.id, claim,
-                )),
+                second: self.next_grant(m.customer, freed),
             },
             _ => one(gone),
+        }
+    }
+
+    /// The grant to the first that waits once a customer freed a number.
+    fn next_grant(&self, customer: u32, freed: u64) -> Option<Message>
+        ensures { result ≡ option_map (spec.grant self.now.id) (spec.first_after customer freed self.now.waiting) }
+    {
+        match next_waiting(&self.waiting, customer, freed) {
+            None => None,
+            Some(claim) => Some(grant(self.id, claim)),
         }
     }
 

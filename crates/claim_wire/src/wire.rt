@@ -367,7 +367,7 @@ fn message_fault(message: Option<Message>) -> Option<WireFault>
 fn new_customers(alloc: Global, customers: u32) -> Result<Vec<Customer>, OutOfMemory>
     ensures { IfOk result (λ ends. ends.items ≡ spec.new_customers customers) }
 {
-    let mut ends = Vec::with_capacity(alloc, customers as usize)?;
+    let mut ends = Vec::new(alloc);
     for before in 0..customers {
         ends.push(Customer::new(before + 1))?;
     }
@@ -381,7 +381,7 @@ fn new_resources(
 ) -> Result<Vec<Resource>, OutOfMemory>
     ensures { IfOk result (λ ends. ends.items ≡ spec.new_resources customers resources) }
 {
-    let mut ends = Vec::with_capacity(alloc, resources as usize)?;
+    let mut ends = Vec::new(alloc);
     for before in 0..resources {
         ends.push(Resource::new(alloc, before + 1, customers)?)?;
     }

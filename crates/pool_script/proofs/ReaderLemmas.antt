@@ -1,5 +1,5 @@
 -- A reader stays sound, and gives the commands of what it has read.
-use Rattle.std.proofs.Common.{◌≡◌, ℕ, ◌-◌, ◌+◌, ◌≤◌, ◌<◌, Bool, true, false, not, ◌&&◌, min, List, [], ◌∷◌, ◌++◌, length, take, Option, None, Some, refl, sym, ◌∙◌, ap, subst, inl, inr, arith, append_assoc, length-append, codes}
+use Rattle.std.proofs.Common.{◌≡◌, ℕ, ◌-◌, ◌+◌, ◌≤◌, ◌<◌, Bool, true, false, not, ◌&&◌, min, List, [], ◌∷◌, ◌++◌, length, take, Option, None, Some, Result, Ok, Err, OnOk, OnErr, refl, sym, ◌∙◌, ap, subst, inl, inr, arith, append_assoc, length-append, codes}
 use Rattle.std.proofs.lemmas.Bool.{cases_Bool, eqb-true}
 use Rattle.std.proofs.lemmas.Bool.Decides.{nat_tests}
 use Rattle.std.proofs.lemmas.List.{append-nil}
@@ -171,3 +171,18 @@ end_sound old new sound waiting block line = record {
   one_line = rw line sound.one_line;
   short = rw line sound.short;
 }
+
+-- the block that the input ends within is refused, or there is no memory for that
+pub ended_sound : {T E : Type 0} (r : Result T E) (old new : Reader) → IsSound old → OnOk r (new.waiting.items ≡ old.waiting.items ++ cut_off old.block) → OnErr r (new.waiting.items ≡ old.waiting.items) → new.block ≡ None → new.line.items ≡ old.line.items → IsSound new
+ended_sound (Ok u) old new sound ok err block line = end_sound old new sound ok block line
+ended_sound (Err e) old new sound ok err block line = record {
+  form = rw err sound.form;
+  open_block = λ b is. let no : None ≡ Some b = sym block ∙ is in cc;
+  one_line = rw line sound.one_line;
+  short = rw line sound.short;
+}
+
+-- what holds anyway holds of a result
+pub anyway : {T E P : Type 0} (r : Result T E) → P → OnOk r P
+anyway (Ok u) is = is
+anyway (Err e) is = tt

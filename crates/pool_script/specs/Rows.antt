@@ -1,6 +1,6 @@
 -- What each command's words make of it. `words` are those behind the keyword, and `block` is the text of the block, or none where
 -- the input ended within the block.
-use Rattle.std.specs.Prelude.{ℕ, ◌^◌, ◌&&◌, nat_le, not, List, length, Option, None, Some, Result, Ok, Err, if◌then◌else◌}
+use Rattle.std.specs.Prelude.{ℕ, ◌^◌, ◌&&◌, nat_le, not, List, length, Option, None, Some, option_map, Result, Ok, Err, if◌then◌else◌}
 use Rattle.std.specs.Option.{option_map_or}
 use Rattle.pool_text.specs.Words.{is_empty, word_of, words_behind}
 use Rattle.pool_script.specs.Names.{is_name, sole_number}
@@ -77,6 +77,23 @@ priority words =
 -- `gang` and a block
 unfoldable pub gang : List ℕ → Option (List ℕ) → Command
 gang words block = if is_empty words then with_block command.Gang (block_text block) else wrong_words
+
+-- the names of a job and of its user, where the words are those
+abbrev pub submit_names : List ℕ → Option (List ℕ × List ℕ)
+submit_names words = if is_name (word_of words) then option_map (λ user. (word_of words, user)) (sole_name (words_behind words)) else None
+
+-- the command of a keyword that takes one name, and of no other
+abbrev pub name_command : Keyword → List ℕ → Command
+name_command word.Withdraw name = command.Withdraw name
+name_command word.Show name = command.Show name
+name_command word.Remove name = command.Remove name
+name_command word.Claim name = command.Claim name
+name_command word.Release name = command.Release name
+name_command word.Unlisten name = command.Unlisten name
+name_command _ name = wrong_words
+
+abbrev pub named_command : Keyword → Option (List ℕ) → Command
+named_command keyword name = option_map_or (name_command keyword) name wrong_words
 
 -- the command of a keyword
 unfoldable pub keyword_command : Keyword → List ℕ → Option (List ℕ) → Command

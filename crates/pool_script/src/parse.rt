@@ -1,7 +1,9 @@
 // The command that a line gives, by its keyword and the words behind it.
-ghost use Rattle.std.specs.Prelude.{◌≡◌, IfOk};
+ghost use Rattle.std.specs.Prelude.{◌≡◌, ℕ, List, Option, true, false, IfOk};
 ghost use Rattle.pool_script.specs.Commands.{line_command};
+ghost use Rattle.pool_script.specs.Keywords.{opens_block};
 ghost use Rattle.pool_script.specs.Rows as rows;
+ghost use Rattle.pool_script.specs.declared.command.Command.TheVariants as declared;
 
 use crate::Command;
 use crate::command::{BLOCK_NOT_ENDED, BLOCK_TOO_LONG, UNKNOWN_COMMAND, WRONG_WORDS};
@@ -28,7 +30,7 @@ pub(crate) fn line_command(
     }
 }
 
-#[tactic(auto, unfolding(crate::specs::Rows::keyword_command))]
+/// What a keyword commands with the words behind it.
 fn keyword_command(
     alloc: Global,
     keyword: Keyword,
@@ -37,41 +39,68 @@ fn keyword_command(
 ) -> Result<Command, OutOfMemory>
     ensures { IfOk result (λ command. command ≡ rows.keyword_command keyword words.now block) }
 {
+    if keyword.opens_block() {
+        block_command(alloc, keyword, words, block)
+    } else {
+        drop(block);
+        plain_command(alloc, keyword, words)
+    }
+}
+
+/// The command of a keyword whose line begins a block.
+#[tactic(auto, unfolding(crate::specs::Rows::keyword_command))]
+fn block_command(
+    alloc: Global,
+    keyword: Keyword,
+    words: &[u8],
+    block: Option<Text>,
+) -> Result<Command, OutOfMemory>
+    requires { opens_block keyword ≡ true }
+    ensures { IfOk result (λ command. command ≡ rows.keyword_command keyword words.now block) }
+{
+    match keyword {
+        Keyword::Advertise => advertise(alloc, words, block),
+        Keyword::Query => Ok(query(words, block)),
+        Keyword::Submit => submit(alloc, words, block),
+        _ => Ok(gang(words, block)),
+    }
+}
+
+/// The command of a keyword whose line begins no block.
+#[tactic(auto, unfolding(crate::specs::Rows::keyword_command))]
+fn plain_command(alloc: Global, keyword: Keyword, words: &[u8]) -> Result<Command, OutOfMemory>
+    requires { opens_block keyword ≡ false }
+    ensures { (block : Option (List ℕ)) → IfOk result (λ command. command ≡ rows.keyword_command keyword words.now block) }
+{
     match keyword {
         Keyword::Clock => Ok(clock(words)),
-        Keyword::Advertise => advertise(alloc, words, block),
-        Keyword::Withdraw => Ok(sole_name(alloc, words)?.map_or(
-            Command::Bad(WRONG_WORDS),
-            Command::Withdraw,
-        )),
-        Keyword::Show => Ok(sole_name(alloc, words)?.map_or(
-            Command::Bad(WRONG_WORDS),
-            Command::Show,
-        )),
         Keyword::List => Ok(without_words(words, Command::List)),
         Keyword::Eval => eval(alloc, words),
         Keyword::EvalIn => eval_in(alloc, words),
-        Keyword::Query => Ok(query(words, block)),
-        Keyword::Submit => submit(alloc, words, block),
-        Keyword::Remove => Ok(sole_name(alloc, words)?.map_or(
-            Command::Bad(WRONG_WORDS),
-            Command::Remove,
-        )),
         Keyword::Priority => priority(alloc, words),
-        Keyword::Gang => Ok(gang(words, block)),
         Keyword::Negotiate => Ok(without_words(words, Command::Negotiate)),
-        Keyword::Claim => Ok(sole_name(alloc, words)?.map_or(
-            Command::Bad(WRONG_WORDS),
-            Command::Claim,
-        )),
-        Keyword::Release => Ok(sole_name(alloc, words)?.map_or(
-            Command::Bad(WRONG_WORDS),
-            Command::Release,
-        )),
-        Keyword::Unlisten => Ok(sole_name(alloc, words)?.map_or(
-            Command::Bad(WRONG_WORDS),
-            Command::Unlisten,
-        )),
+        _ => Ok(named_command(keyword, sole_name(alloc, words)?)),
+    }
+}
+
+/// The command of a keyword that takes one name, and of no other.
+fn named_command(keyword: Keyword, name: Option<Text>) -> Command
+    ensures { result ≡ rows.named_command keyword name }
+{
+    let Some(name) = name else {
+        return Command::Bad(WRONG_WORDS);
+    };
+    match keyword {
+        Keyword::Withdraw => Command::Withdraw(name),
+        Keyword::Show => Command::Show(name),
+        Keyword::Remove => Command::Remove(name),
+        Keyword::Claim => Command::Claim(name),
+        Keyword::Release => Command::Release(name),
+        Keyword::Unlisten => Command::Unlisten(name),
+        _ => {
+            drop(name);
+            Command::Bad(WRONG_WORDS)
+        }
     }
 }
 
@@ -181,17 +210,34 @@ fn query(words: &[u8], block: Option<Text>) -> Command
 fn submit(alloc: Global, words: &[u8], block: Option<Text>) -> Result<Command, OutOfMemory>
     ensures { IfOk result (λ command. command ≡ rows.submit words.now block) }
 {
+    match submit_names(alloc, words)? {
+        Some((job, user)) => Ok(submit_job(job, user, block)),
+        None => Ok(Command::Bad(WRONG_WORDS)),
+    }
+}
+
+/// The name of the job and of its user, where the words are those.
+#[tactic(auto, unfolding(crate::specs::Rows::sole_name))]
+fn submit_names(alloc: Global, words: &[u8]) -> Result<Option<(Text, Text)>, OutOfMemory>
+    ensures { IfOk result (λ names. names ≡ rows.submit_names words.now) }
+{
     let job = word_of(words);
+    if !is_name(job) {
+        return Ok(None);
+    }
     match sole_name(alloc, words_behind(words))? {
-        Some(user) if is_name(job) => match block_text(block) {
-            Ok(block) => Ok(Command::Submit {
-                job: Text::from_bytes(alloc, job)?,
-                user,
-                block,
-            }),
-            Err(refusal) => Ok(Command::Bad(refusal)),
-        },
-        _ => Ok(Command::Bad(WRONG_WORDS)),
+        Some(user) => Ok(Some((Text::from_bytes(alloc, job)?, user))),
+        None => Ok(None),
+    }
+}
+
+/// The command that submits a job, or the refusal of its block.
+fn submit_job(job: Text, user: Text, block: Option<Text>) -> Command
+    ensures { result ≡ rows.with_block (declared.Submit job user) (rows.block_text block) }
+{
+    match block_text(block) {
+        Ok(block) => Command::Submit { job, user, block },
+        Err(refusal) => Command::Bad(refusal),
     }
 }
 

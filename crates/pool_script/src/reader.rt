@@ -1,7 +1,9 @@
 // The commands of lines, read one line at a time.
-ghost use Rattle.std.specs.Prelude.{◌≡◌, ◌++◌, ◌∷◌, [], true, None, Some, OnOk, OnErr};
-ghost use Rattle.pool_text.specs.Lines.{ended};
-ghost use Rattle.pool_script.specs.Commands.{cut_off, given};
+ghost use Rattle.std.specs.Prelude.{◌≡◌, ◌++◌, ◌∷◌, [], true, false, None, Some, IfOk, OnOk, OnErr};
+ghost use Rattle.pool_text.specs.Lines.{ended, without_return};
+ghost use Rattle.pool_script.specs.Commands.{cut_off, given, is_dot, line_command as command_of};
+ghost use Rattle.pool_script.specs.Reading.{kept_next};
+ghost use Rattle.pool_script.specs.Rows.{line_too_long};
 
 use crate::Command;
 use crate::command::LINE_TOO_LONG;
@@ -29,7 +31,7 @@ pub(crate) struct Reader {
 }
 
 impl Reader {
-    ghost use Rattle.pool_script.specs.Reading.{commands_from, kept_next, HasRead, IsSound};
+    ghost use Rattle.pool_script.specs.Reading.{commands_from, HasRead, IsSound};
 
     /// A reader of no bytes, which takes no memory yet.
     pub(crate) fn new(alloc: Global) -> Reader
@@ -101,9 +103,9 @@ impl Reader {
         let Some(block) = self.block.take() else {
             return Ok(());
         };
-        let command = line_command(self.alloc, block.line.bytes(), None)?;
-        self.waiting.push_back(command)?;
-        Ok(())
+        let refused = push_command(self.alloc, &mut self.waiting, block.line.bytes(), None);
+        drop(block);
+        refused
     }
 
     /// Reads bytes of the line.
@@ -155,17 +157,13 @@ impl Reader {
         ensures err_waiting { OnErr result (self.new.waiting.items ≡ self.old.waiting.items) }
         ensures err_block { OnErr result (self.new.block ≡ None) }
     {
-        let Block { line, mut text } = block;
         if is_dot(&self.line) {
-            let command = line_command(self.alloc, line.bytes(), Some(text))?;
-            self.waiting.push_back(command)?;
-            return Ok(());
+            let Block { line, text } = block;
+            let pushed = push_command(self.alloc, &mut self.waiting, line.bytes(), Some(text));
+            drop(line);
+            return pushed;
         }
-        if text.bytes().len() <= LONGEST_BLOCK {
-            text.append(without_return(&self.line))?;
-            text.append(b"\n")?;
-        }
-        self.block = Some(Block { line, text });
+        self.block = Some(longer_block(block, &self.line)?);
         Ok(())
     }
 
@@ -181,16 +179,74 @@ impl Reader {
         ensures err_block { OnErr result (self.new.block ≡ None) }
     {
         if self.line.len() > LONGEST_LINE {
-            self.waiting.push_back(Command::Bad(LINE_TOO_LONG))?;
+            refuse_line(&mut self.waiting)
         } else if takes_block(&self.line) {
-            self.block = Some(Block {
-                line: Text::from_bytes(self.alloc, &self.line)?,
-                text: Text::new(self.alloc),
-            });
-        } else if !is_silent(&self.line) {
-            let command = line_command(self.alloc, &self.line, None)?;
-            self.waiting.push_back(command)?;
+            self.block = Some(new_block(self.alloc, &self.line)?);
+            Ok(())
+        } else if is_silent(&self.line) {
+            Ok(())
+        } else {
+            push_command(self.alloc, &mut self.waiting, &self.line, None)
         }
-        Ok(())
     }
+}
+
+/// Puts the refusal of a line that is too long behind the commands that wait.
+fn refuse_line(waiting: &mut VecDeque<Command>) -> Result<(), OutOfMemory>
+    ensures ok { OnOk result (waiting.new.items ≡ waiting.old.items ++ line_too_long ∷ []) }
+    ensures err { OnErr result (waiting.new.items ≡ waiting.old.items) }
+{
+    waiting.push_back(Command::Bad(LINE_TOO_LONG))?;
+    Ok(())
+}
+
+/// Puts what a line commands behind the commands that wait. `block` is the text of its block, or none where it has none.
+fn push_command(
+    alloc: Global,
+    waiting: &mut VecDeque<Command>,
+    line: &[u8],
+    block: Option<Text>,
+) -> Result<(), OutOfMemory>
+    ensures ok { OnOk result (waiting.new.items ≡ waiting.old.items ++ command_of line.now block ∷ []) }
+    ensures err { OnErr result (waiting.new.items ≡ waiting.old.items) }
+{
+    let command = line_command(alloc, line, block)?;
+    waiting.push_back(command)?;
+    Ok(())
+}
+
+/// The block that a line begins.
+fn new_block(alloc: Global, line: &[u8]) -> Result<Block, OutOfMemory>
+    ensures { IfOk result (λ block. block ≡ record { line = line.now; text = [] }) }
+{
+    Ok(Block {
+        line: Text::from_bytes(alloc, line)?,
+        text: Text::new(alloc),
+    })
+}
+
+/// The block with a line more, of which no more is kept once its text is too long.
+#[tactic(auto, unfolding(crate::specs::Commands::next, crate::specs::Reading::kept_next))]
+fn longer_block(mut block: Block, line: &[u8]) -> Result<Block, OutOfMemory>
+    requires { is_dot line.now ≡ false }
+    ensures { IfOk result (λ longer. Some longer ≡ kept_next (Some block) line.now) }
+{
+    if block.text.bytes().len() > LONGEST_BLOCK {
+        return Ok(block);
+    }
+    match append_line(&mut block.text, line) {
+        Ok(()) => Ok(block),
+        Err(e) => {
+            drop(block);
+            Err(e)
+        }
+    }
+}
+
+/// Adds a line, without the carriage return that may end it, and a line feed.
+fn append_line(text: &mut Text, line: &[u8]) -> Result<(), OutOfMemory>
+    ensures { OnOk result (text.new ≡ text.old ++ without_return line.now ++ 10 ∷ []) }
+{
+    text.append(without_return(line))?;
+    text.append(b"\n")
 }

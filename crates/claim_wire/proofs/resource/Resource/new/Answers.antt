@@ -1,16 +1,21 @@
-use Rattle.std.proofs.Common.{◌≡◌, ℕ, List, [], ◌∷◌, ◌++◌, true, length, sym, subst, ap, ◌∙◌, refl, arith}
-use Rattle.claim_wire.specs.Resources.{are_waiting}
-use Rattle.claim_wire.proofs.WaitingLemmas.{zeros-length, zeros-next}
+use Rattle.std.proofs.Common.{◌≡◌, List, true, length, sym, subst, ap, ◌∙◌, refl, arith}
+use Rattle.claim_wire.specs.Resources.{ResourceState, are_waiting}
+use Rattle.claim_wire.proofs.WaitingLemmas.{zeros-length, zeros-replicate}
 use Rattle.claim_wire.proofs.resource.Resource.new.Goals as goal
 
 pub invariant_of-result : goal.invariant_of-result
-invariant_of-result c = (
-  subst (λ ws. are_waiting (length c.loop-customer.freed.items) ws ≡ true) (sym c.in_ok-waiting.ensures.items) refl,
-  omega (arith, ap length c.loop-customer.invariant, zeros-length c.loop-customer._customer, c.in_ok-waiting.ensures.capacity),
-)
+invariant_of-result c =
+    let same = c.in_ok-freed.ensures.items_if_clones_equal (λ y h. h) ∙ zeros-replicate c.args.customers in (
+      subst (λ ws. are_waiting (length c.in_ok-freed.freed.items) ws ≡ true) (sym c.in_ok-waiting.ensures.items) refl,
+      omega (arith, ap length same, zeros-length c.args.customers, c.in_ok-waiting.ensures.capacity),
+    )
 
-pub loop-customer-preserved : goal.loop-customer-preserved
-loop-customer-preserved c = c.in_ok-push.ensures.items ∙ ap (λ (l : List ℕ). l ++ 0 ∷ []) c.loop-customer.invariant ∙ zeros-next c.loop-customer._customer
+pub returns-clause-new : goal.returns-clause-new
+returns-clause-new c =
+    let same = c.in_ok-freed.ensures.items_if_clones_equal (λ y h. h) ∙ zeros-replicate c.args.customers in
+    rw (same, c.in_ok-waiting.ensures.items) refl
 
 pub returns-clause-customers : goal.returns-clause-customers
-returns-clause-customers c = omega (arith, ap length c.loop-customer.invariant, zeros-length c.loop-customer._customer)
+returns-clause-customers c =
+    let same = c.in_ok-freed.ensures.items_if_clones_equal (λ y h. h) ∙ zeros-replicate c.args.customers in
+    omega (arith, ap length same, zeros-length c.args.customers)

@@ -7,9 +7,11 @@ use Rattle.ad_store.specs.Stock.{Stock}
 use Rattle.bilateral_match.specs.Docks.{is_last_decided}
 use Rattle.claim_table.specs.declared.answers.ClaimFault.{ClaimFault}
 use Rattle.claim_table.specs.declared.answers.Freed.{Freed}
+use Rattle.claim_table.specs.declared.answers.JobFault.{JobFault}
 use Rattle.claim_table.specs.declared.answers.JobState.{JobState}
 use Rattle.claim_table.specs.declared.job.Job.{Job}
 use Rattle.claim_table.specs.declared.job.Standing.{Standing}
+use Rattle.claim_table.specs.Answers.{given_back, release_answer}
 use Rattle.claim_table.specs.Claims.{checked, claimed, claimed_at, entered_for, entered_in, first_failing, freed_all, granted, losers, offer_at, offer_named, sum_over, undecided_for}
 use Rattle.claim_table.specs.Jobs.{IsFilled, job_named, numbered, offer_of, slots_of, state_of, wanted, with_standing}
 
@@ -31,6 +33,31 @@ offer-few job filled = enough-few job.standing (wanted job.request) filled.enoug
 -- what is offered to the job of a number
 pub offer-found : (jobs : List Job) (i : ℕ) (job : Job) → slice_get jobs i ≡ Some job → offer_at i jobs ≡ offer_of job.standing
 offer-found jobs i job at = ap (λ o. option_map_or (λ j. offer_of j.standing) o []) at
+
+-- what a release answers
+module _ (name : List ℕ) (jobs : List Job) where
+  pub released-nobody : numbered name jobs ≡ None → release_answer name jobs ≡ Err JobFault.NoJob
+  released-nobody none = ap (λ o. option_map_or (λ j. given_back j.standing) (option_and_then (λ k. slice_get jobs k) o) (Err JobFault.NoJob)) none
+
+  module _ (i : ℕ) (job : Job) (number : numbered name jobs ≡ Some i) (at : slice_get jobs i ≡ Some job) where
+    given : release_answer name jobs ≡ given_back job.standing
+    given = ap (λ o. option_map_or (λ j. given_back j.standing) (option_and_then (λ k. slice_get jobs k) o) (Err JobFault.NoJob)) number ∙ ap (λ o. option_map_or (λ j. given_back j.standing) o (Err JobFault.NoJob)) at
+
+    pub released-idle : state_of job.standing ≡ JobState.Idle → release_answer name jobs ≡ Err (JobFault.WrongState JobState.Idle)
+    released-idle idle = given ∙ by job.standing idle
+      where
+        by : (s : Standing) → state_of s ≡ JobState.Idle → given_back s ≡ Err (JobFault.WrongState JobState.Idle)
+        by Standing.Idle is = refl
+        by (Standing.Matched slots) is = absurd (cc)
+        by (Standing.Claimed slots) is = absurd (cc)
+
+    pub released-held : state_of job.standing ≢ JobState.Idle → release_answer name jobs ≡ Ok (slots_of job.standing)
+    released-held busy = given ∙ by job.standing busy
+      where
+        by : (s : Standing) → state_of s ≢ JobState.Idle → given_back s ≡ Ok (slots_of s)
+        by Standing.Idle is = absurd (is refl)
+        by (Standing.Matched slots) is = refl
+        by (Standing.Claimed slots) is = refl
 
 module _ (moment : ℕ) (stock : Stock) (name : List ℕ) (jobs : List Job) where
   abbrev nobody : Result (List Freed) ClaimFault × List Job

@@ -2,7 +2,9 @@
 use Rattle.std.proofs.Common.{◌≡◌, ℕ, zero, suc, ◌+◌, ◌-◌, ◌<◌, ◌≤◌, Bool, true, false, not, if◌then◌else◌, List, [], ◌∷◌, ◌++◌, get_or, length, sum_by, take, None, Some, refl, sym, ◌∙◌, ap, arith, add-one, add-suc, add-zero}
 use Rattle.std.specs.Prelude.{find, option_map, slice_index}
 use Rattle.std.specs.List.{range_with_len}
+use Rattle.std.proofs.lemmas.List.{length_push}
 use Rattle.std.proofs.lemmas.List.Sums.{sum_by_push}
+use Rattle.ad_tree.specs.Ad.{ad_frames}
 use Rattle.ad_tree.specs.Frames.{Frame}
 use Rattle.ad_tree.specs.declared.request.Request.{Request}
 use Rattle.ad_store.specs.Stock.{Stock}
@@ -84,6 +86,19 @@ module _ (moment : ℕ) (stock : Stock) (request : Request) (slots : List ℕ) w
       → fs ≡ ad_in stock (get_or slots i 0) → v ≡ with_docked w fs → v ≡ world_at moment stock request slots i
   docked-at i w v fs within before ad docked =
       dock-next moment stock request slots i 0 w v fs within before ad docked ∙ ap (λ n. slots_world moment stock request (take n slots)) (add-one i)
+
+-- where one more is docked to the world of a request, the request is the same
+module _ (moment : ℕ) (stock : Stock) (request : Request) (slots : List ℕ) (w v : PlainWorld) (fs : List Frame) (before : w ≡ slots_world moment stock request slots) (docked : v ≡ with_docked w fs) where
+  pub docked-request : v.request ≡ ad_frames request.ad
+  docked-request = ap (λ (u : PlainWorld). u.request) docked ∙ ap (λ (u : PlainWorld). u.request) before
+
+  pub docked-ports : v.ports ≡ request.ports
+  docked-ports = ap (λ (u : PlainWorld). u.ports) docked ∙ ap (λ (u : PlainWorld). u.ports) before
+
+pub docked-some : (w v : PlainWorld) (fs : List Frame) → v ≡ with_docked w fs → 0 < length v.docked
+docked-some w v fs docked =
+    let long = ap {B = ℕ} (λ (u : PlainWorld). length u.docked) docked in
+    omega (arith, long, length_push w.docked fs)
 
 -- what is checked of the offer to a job
 module _ (moment : ℕ) (stock : Stock) (jobs : List Job) (job : Job) (slots : List ℕ) (offered : slots ≡ offer_of job.standing) where

@@ -3,8 +3,10 @@ use Rattle.std.proofs.Common.{◌≡◌, ◌≢◌, ℕ, zero, suc, ◌+◌, All
 use Rattle.std.specs.Prelude.{option_map}
 use Rattle.std.specs.List.{position_or_len}
 use Rattle.std.specs.Option.{option_and_then}
+use Rattle.std.proofs.lemmas.Bool.{true≢false}
 use Rattle.std.proofs.lemmas.Bool.Decides.{nat_tests}
 use Rattle.std.proofs.lemmas.List.Elements.{All-head, All-tail}
+use Rattle.std.proofs.lemmas.Option.{none-some, same_Some}
 use Rattle.ad_store.specs.Holdings.{Holding}
 use Rattle.claim_table.specs.declared.job.Job.{Job}
 use Rattle.claim_table.specs.declared.job.Standing.{Standing}
@@ -15,7 +17,7 @@ use Rattle.claim_table.proofs.NoteLemmas.{noted-passes, noted-position}
 
 -- a slot stands at its first place
 pub stands_at : (slots : List ℕ) (slot : ℕ) → lists slots slot ≡ true → slice_get slots (position_or_len (λ s. eqb s slot) slots) ≡ Some slot
-stands_at [] slot listed = absurd (cc)
+stands_at [] slot listed = absurd (true≢false (sym listed))
 stands_at (s ∷ slots) slot listed = by_slot (eqb s slot) refl listed (λ rest. stands_at slots slot rest)
   where
     by_slot : (b : Bool) → eqb s slot ≡ b → (b || lists slots slot) ≡ true
@@ -28,8 +30,8 @@ stands_at (s ∷ slots) slot listed = by_slot (eqb s slot) refl listed (λ rest.
 
 -- what holds of all jobs holds of each
 pub All-found : (P : Job → Type 0) (jobs : List Job) (i : ℕ) (job : Job) → All P jobs → slice_get jobs i ≡ Some job → P job
-All-found P [] i job all at = absurd (cc)
-All-found P (first ∷ jobs) zero job all at = let here : first ≡ job = cc in subst P here (All-head P first jobs all)
+All-found P [] i job all at = absurd (none-some job at)
+All-found P (first ∷ jobs) zero job all at = subst P (same_Some first job at) (All-head P first jobs all)
 All-found P (first ∷ jobs) (suc i) job all at = All-found P jobs i job (All-tail P first jobs all) at
 
 -- what holds of all that jobs hold holds of what the holder of a slot does
@@ -37,11 +39,11 @@ pub holder-found : (P : Holding → Type 0) (jobs : List Job) (slot : ℕ) (h : 
 holder-found P jobs slot h all holds = by_number (claimed_by slot jobs) holds
   where
     by_job : (i : ℕ) (o : Option Job) → slice_get jobs i ≡ o → option_map (holding_in slot) o ≡ Some h → P h
-    by_job i None at is = absurd (cc)
-    by_job i (Some job) at is = let same : holding_in slot job ≡ h = cc in subst P same (All-found (λ j. P (holding_in slot j)) jobs i job all at)
+    by_job i None at is = absurd (none-some h is)
+    by_job i (Some job) at is = subst P (same_Some (holding_in slot job) h is) (All-found (λ j. P (holding_in slot j)) jobs i job all at)
 
     by_number : (o : Option ℕ) → option_map (holding_in slot) (option_and_then (λ i. slice_get jobs i) o) ≡ Some h → P h
-    by_number None is = absurd (cc)
+    by_number None is = absurd (none-some h is)
     by_number (Some i) is = by_job i (slice_get jobs i) refl is
 
 enough_at : (standing : Standing) (n slot : ℕ) → (standing ≢ Standing.Idle → length (slots_of standing) ≡ n) → lists (claim_of standing) slot ≡ true → length (claim_of standing) ≡ n

@@ -6,28 +6,29 @@ use Rattle.std.specs.Option.{option_map_or}
 use Rattle.std.proofs.lemmas.Bool.Decides.{nat_tests}
 use Rattle.std.proofs.lemmas.List.Elements.{All-cons, All-head, All-tail}
 use Rattle.std.proofs.lemmas.List.Sums.{sum_by-cons}
+use Rattle.std.proofs.lemmas.Option.{none-some, same_Some}
+use Rattle.std.proofs.Math.Dec.{eqb-suc-suc, eqb-suc-zero, eqb-zero-suc}
 use Rattle.claim_table.specs.declared.job.Job.{Job}
 use Rattle.claim_table.specs.Kept.{passes_at}
 
 -- ---- a job in another's place
 
 pub passes_at-set : (test : Job → Bool) (jobs : List Job) (i k : ℕ) (old new : Job) → slice_get jobs i ≡ Some old → passes_at test (slice_set jobs i new) k ≡ cond (eqb i k) (test new) (passes_at test jobs k)
-passes_at-set test [] i k old new at = absurd (cc)
+passes_at-set test [] i k old new at = absurd (none-some old at)
 passes_at-set test (job ∷ jobs) zero zero old new at = refl
-passes_at-set test (job ∷ jobs) zero (suc k) old new at = let apart : eqb 0 (suc k) ≡ false = grind (arith, nat_tests) in sym (ap (λ b. cond b (test new) (passes_at test jobs k)) apart)
-passes_at-set test (job ∷ jobs) (suc i) zero old new at = let apart : eqb (suc i) 0 ≡ false = grind (arith, nat_tests) in sym (ap (λ b. cond b (test new) (test job)) apart)
+passes_at-set test (job ∷ jobs) zero (suc k) old new at = sym (ap (λ b. cond b (test new) (passes_at test jobs k)) (eqb-zero-suc k))
+passes_at-set test (job ∷ jobs) (suc i) zero old new at = sym (ap (λ b. cond b (test new) (test job)) (eqb-suc-zero i))
 passes_at-set test (job ∷ jobs) (suc i) (suc k) old new at =
-    let same : eqb i k ≡ eqb (suc i) (suc k) = grind (arith, nat_tests) in
-    passes_at-set test jobs i k old new at ∙ ap (λ b. cond b (test new) (passes_at test jobs k)) same
+    passes_at-set test jobs i k old new at ∙ ap (λ b. cond b (test new) (passes_at test jobs k)) (sym (eqb-suc-suc i k))
 
 pub map-set_same : {A : Type 0} (f : Job → A) (jobs : List Job) (i : ℕ) (old new : Job) → slice_get jobs i ≡ Some old → f new ≡ f old → map f (slice_set jobs i new) ≡ map f jobs
-map-set_same f [] i old new at same = absurd (cc)
-map-set_same f (job ∷ jobs) zero old new at same = let here : old ≡ job = cc in ap (λ a. a ∷ map f jobs) (same ∙ ap f here)
+map-set_same f [] i old new at same = absurd (none-some old at)
+map-set_same f (job ∷ jobs) zero old new at same = ap (λ a. a ∷ map f jobs) (same ∙ sym (ap f (same_Some job old at)))
 map-set_same f (job ∷ jobs) (suc i) old new at same = ap (λ l. f job ∷ l) (map-set_same f jobs i old new at same)
 
 pub sum_by-set_same : (f : Job → ℕ) (jobs : List Job) (i : ℕ) (old new : Job) → slice_get jobs i ≡ Some old → f new ≡ f old → sum_by f (slice_set jobs i new) ≡ sum_by f jobs
-sum_by-set_same f [] i old new at same = absurd (cc)
-sum_by-set_same f (job ∷ jobs) zero old new at same = let here : old ≡ job = cc in let size = same ∙ ap f here in omega (arith, sum_by-cons f new jobs, sum_by-cons f job jobs)
+sum_by-set_same f [] i old new at same = absurd (none-some old at)
+sum_by-set_same f (job ∷ jobs) zero old new at same = let size = same ∙ sym (ap f (same_Some job old at)) in omega (arith, sum_by-cons f new jobs, sum_by-cons f job jobs)
 sum_by-set_same f (job ∷ jobs) (suc i) old new at same =
     let rest = sum_by-set_same f jobs i old new at same in
     omega (arith, sum_by-cons f job (slice_set jobs i new), sum_by-cons f job jobs)
@@ -71,8 +72,8 @@ All-remove P (job ∷ jobs) zero all = All-tail P job jobs all
 All-remove P (job ∷ jobs) (suc i) all = All-cons P job (remove jobs i) (All-head P job jobs all) (All-remove P jobs i (All-tail P job jobs all))
 
 pub sum_by-remove_at : (f : Job → ℕ) (jobs : List Job) (i : ℕ) (job : Job) → slice_get jobs i ≡ Some job → sum_by f jobs ≡ sum_by f (remove jobs i) + f job
-sum_by-remove_at f [] i job at = absurd (cc)
-sum_by-remove_at f (first ∷ jobs) zero job at = let here : job ≡ first = cc in let size = ap f here in omega (arith, sum_by-cons f first jobs)
+sum_by-remove_at f [] i job at = absurd (none-some job at)
+sum_by-remove_at f (first ∷ jobs) zero job at = let size = ap f (same_Some first job at) in omega (arith, sum_by-cons f first jobs)
 sum_by-remove_at f (first ∷ jobs) (suc i) job at =
     let rest = sum_by-remove_at f jobs i job at in
     omega (arith, sum_by-cons f first jobs, sum_by-cons f first (remove jobs i))
@@ -121,7 +122,7 @@ position-map test f xs =
 -- ---- a job that is read
 
 pub read_at : {A : Type 0} (f : Job → A) (jobs : List Job) (i : ℕ) (x : A) (job : Job) → option_map f (slice_get jobs i) ≡ Some x → job ≡ get_or jobs i job → slice_get jobs i ≡ Some job
-read_at f [] i x job mapped read = absurd (cc)
+read_at f [] i x job mapped read = absurd (none-some x mapped)
 read_at f (j ∷ jobs) zero x job mapped read = ap (λ o. Some o) (sym read)
 read_at f (j ∷ jobs) (suc i) x job mapped read = read_at f jobs i x job mapped read
 

@@ -1,20 +1,27 @@
 -- Whether one resource of an offer passes, and what it takes to tell.
-use Rattle.std.proofs.Common.{◌≡◌, ◌<◌, ℕ, All, Contains, true, false, ◌&&◌, List, length, sym, ◌∙◌, ap}
+use Rattle.std.proofs.Common.{◌≡◌, ◌<◌, ◌+◌, ◌*◌, ℕ, All, Contains, Bool, true, false, ◌&&◌, if◌then◌else◌, int_lt, List, length, Option, None, Some, sym, ◌∙◌, ap, subst}
+use Rattle.std.specs.Prelude.{IfOk, Result, is_some, option_map}
+use Rattle.std.specs.Option.{option_map_or}
+use Rattle.std.proofs.lemmas.Bool.{true≢false}
 use Rattle.std.proofs.lemmas.List.Elements.{All-nil, All-weaker}
 use Rattle.pool_text.specs.declared.language.AdPlace.{AdPlace}
 use Rattle.ad_tree.specs.Ad.{ad_frames}
 use Rattle.ad_tree.specs.Frames.{Frame}
 use Rattle.ad_tree.specs.declared.request.Request.{Request}
 use Rattle.ad_store.specs.Stock.{Stock}
-use Rattle.eval_scope.specs.World.{PlainWorld, request_side}
+use Rattle.ad_store.specs.declared.holdings.Held.{Held}
+use Rattle.ad_store.specs.Holdings.{holding_of}
+use Rattle.eval_scope.specs.World.{PlainWorld, attribute_count, port_frame, request_side}
+use Rattle.ad_eval.specs.Dock.{is_docked}
 use Rattle.conjunct_plan.specs.Decided.{is_dock_decided}
 use Rattle.conjunct_plan.specs.Tests.{labels_of}
 use Rattle.bilateral_match.specs.Docks.{is_last_decided, last_ad}
-use Rattle.bilateral_match.specs.Pool.{AreStored}
+use Rattle.bilateral_match.specs.Pool.{AreStored, holder_world, regard_in}
 use Rattle.bilateral_match.proofs.DecidedLemmas.{not-docked}
+use Rattle.bilateral_match.proofs.DockingLemmas.{frame-there}
 use Rattle.claim_table.specs.declared.job.Job.{Job}
 use Rattle.claim_table.specs.declared.job.Standing.{Standing}
-use Rattle.claim_table.specs.Claims.{is_won, passes}
+use Rattle.claim_table.specs.Claims.{entered_in, is_won, passes}
 use Rattle.claim_table.specs.Holders.{holder_of}
 use Rattle.claim_table.specs.Jobs.{claim_of, slots_of}
 use Rattle.claim_table.proofs.HolderLemmas.{holder-found}
@@ -34,7 +41,35 @@ decided-here w request fs at side asked ports last =
 pub decided-fails : (moment : ℕ) (stock : Stock) (jobs : List Job) (slot : ℕ) (w : PlainWorld) → 0 < length w.docked → is_last_decided w ≡ true → false ≡ passes moment stock jobs slot w
 decided-fails moment stock jobs slot w some decided = sym (ap (λ b. b && is_won moment stock jobs slot w) (not-docked w some decided))
 
+-- a resource whose dock isn't true doesn't pass
+pub undocked-fails : (moment : ℕ) (stock : Stock) (jobs : List Job) (slot : ℕ) (w : PlainWorld) → is_docked w ≡ false → false ≡ passes moment stock jobs slot w
+undocked-fails moment stock jobs slot w undocked = sym (ap (λ b. b && is_won moment stock jobs slot w) undocked)
+
+-- one whose dock is true passes where the job wins it
+pub docked-wins : {E : Type 0} (r : Result Bool E) (moment : ℕ) (stock : Stock) (jobs : List Job) (slot : ℕ) (w : PlainWorld) → is_docked w ≡ true
+    → IfOk r (λ b. b ≡ is_won moment stock jobs slot w) → IfOk r (λ b. b ≡ passes moment stock jobs slot w)
+docked-wins r moment stock jobs slot w docked won = subst (λ d. IfOk r (λ b. b ≡ (d && is_won moment stock jobs slot w))) (sym docked) won
+
+-- the request's frame at which the last dock is, is one of its frames
+pub frame-here : (w : PlainWorld) (request : Request) (at : AdPlace) → at ≡ request_side w → w.ports ≡ request.ports → at.frame < length (ad_frames request.ad)
+frame-here w request at side ports =
+    let here : at.frame ≡ port_frame request.ports (length w.docked) = ap (λ (p : AdPlace). p.frame) side ∙ ap (λ ps. port_frame ps (length w.docked)) ports in
+    subst (λ n. n < length (ad_frames request.ad)) (sym here) (frame-there (ad_frames request.ad) request.ports (length w.docked) request.are_ports request.ad.is_ad.root)
+
+-- what an undecided dock may enter
+pub entered-open : (moment : ℕ) (stock : Stock) (jobs : List Job) (slot : ℕ) (w : PlainWorld) → is_last_decided w ≡ false
+    → entered_in moment stock jobs slot w ≡ 3 * attribute_count w + option_map_or (λ holding. attribute_count (holder_world moment stock holding)) (holder_of jobs slot) 0
+entered-open moment stock jobs slot w undecided =
+    ap (λ (b : Bool). if b then 0 else 3 * attribute_count w + option_map_or (λ holding. attribute_count (holder_world moment stock holding)) (holder_of jobs slot) 0) undecided
+
 -- ---- the holder
+
+-- a resource that nobody has claimed is won
+pub unclaimed-won : (moment : ℕ) (stock : Stock) (jobs : List Job) (slot : ℕ) (w : PlainWorld) (holder : Option Held) → is_some holder ≡ false → option_map holding_of holder ≡ holder_of jobs slot
+    → true ≡ is_won moment stock jobs slot w
+unclaimed-won moment stock jobs slot w None none who =
+    ap (λ holders. option_map_or (λ holding. int_lt (regard_in (holder_world moment stock holding)) (regard_in w)) holders true) who
+unclaimed-won moment stock jobs slot w (Some h) none who = absurd (true≢false none)
 
 -- what is claimed is listed
 claim-listed : (P : ℕ → Type 0) (standing : Standing) → All P (slots_of standing) → All P (claim_of standing)

@@ -1,8 +1,8 @@
 // The table of jobs.
-ghost use Rattle.std.specs.Prelude.{◌≡◌, ◌≢◌, ◌==◌, ◌<◌, ◌≤◌, ◌++◌, ◌∷◌, ℕ, [], All, AllPairs, false, bytes_eq, length, map, max, option_map, remove, slice_get, Err, IfSome, IfErr, IfOk, None, Ok, OnErr, OnOk, Some};
+ghost use Rattle.std.specs.Prelude.{◌≡◌, ◌≢◌, ◌==◌, ◌<◌, ◌≤◌, ◌+◌, ◌++◌, ◌∷◌, ℕ, [], All, AllPairs, false, bytes_eq, length, map, max, option_map, remove, slice_get, vec_capacity, vec_len, Err, IfNone, IfSome, IfErr, IfOk, None, Ok, OnErr, OnOk, Some};
 ghost use Rattle.std.specs.List.{list_any, position_or_len};
 ghost use Rattle.claim_table.specs.declared.job.Standing.{Standing};
-ghost use Rattle.claim_table.specs.Answers.{IsCause, freed_at, freed_by, no_job, release_answer, without_at};
+ghost use Rattle.claim_table.specs.Answers.{IsCause, freed_at, freed_by, freed_of, no_job, release_answer, without_at};
 ghost use Rattle.claim_table.specs.Kept.{IsKept};
 
 use crate::notes::{close_gap, note, put, widen};
@@ -86,29 +86,41 @@ impl ClaimTable {
         ensures cause { IfErr result (λ fault. IsCause fault (refusal name.now text_len (jobs_of self.old))) }
         ensures err { OnErr result (jobs_of self.new ≡ jobs_of self.old) }
     {
-        if self.names.get_index_of(name).is_some() {
-            return Err(SubmitFault::InUse);
+        if let Some(fault) = self.refusal(name, text_len) {
+            return Err(fault);
         }
-        if self.jobs.len() >= JOBS_LIMIT {
-            return Err(SubmitFault::Full);
-        }
-        if self.text.saturating_add(text_len) > TEXT_LIMIT {
-            return Err(SubmitFault::FullText);
-        }
-        let entered = enter(
-            self.alloc,
-            &mut self.names,
-            &mut self.jobs,
-            name,
-            user,
-            request,
-            text_len,
-        );
-        if entered.is_err() {
+        let Ok(titles) = enter(self.alloc, &mut self.names, &mut self.jobs, name, user) else {
             return Err(SubmitFault::OutOfMemory);
-        }
+        };
+        self.jobs.push_reserved(Job {
+            name: titles.job,
+            user: titles.user,
+            text_len,
+            request,
+            standing: Standing::Idle,
+        });
         self.text += text_len;
         Ok(())
+    }
+
+    // Why a job of this name with a text of so many bytes is not taken, if not for want of memory.
+    fn refusal(&self, name: &[u8], text_len: u64) -> Option<SubmitFault>
+        ensures cause { IfSome result (λ fault. IsCause fault (refusal name.now text_len (jobs_of self.now))) }
+        ensures none { IfNone result (refusal name.now text_len (jobs_of self.now) ≡ None) }
+        ensures new { IfNone result (list_any (λ key. bytes_eq name.now key.items) self.now.names.keys ≡ false) }
+        ensures few { IfNone result (length (jobs_of self.now) < jobs_limit) }
+        ensures light { IfNone result (self.now.text + text_len ≤ text_limit) }
+    {
+        if self.names.get_index_of(name).is_some() {
+            return Some(SubmitFault::InUse);
+        }
+        if self.jobs.len() >= JOBS_LIMIT {
+            return Some(SubmitFault::Full);
+        }
+        if self.text.saturating_add(text_len) > TEXT_LIMIT {
+            return Some(SubmitFault::FullText);
+        }
+        None
     }
 
     // The number of the job of a name.
@@ -268,12 +280,7 @@ impl ClaimTable {
         let Some(i) = number else {
             return Ok(());
         };
-        let job = &self.jobs[i];
-        freed.push(Freed {
-            job: job.name.copy()?,
-            user: job.user.copy()?,
-            slots: copy_of(self.alloc, job.standing.slots())?,
-        })
+        freed.push(freed_of(self.alloc, &self.jobs[i])?)
     }
 
     // Makes the job of a number idle, where there is one.
@@ -355,6 +362,19 @@ fn port_of(slots: &[usize], slot: usize) -> u32
     port
 }
 
+// A job that loses its slots, with those that it has.
+fn freed_of(alloc: Global, job: &Job) -> Result<Freed, OutOfMemory>
+    ensures { IfOk result (λ freed. freed ≡ freed_of job.now) }
+{
+    let slots = copy_of(alloc, job.standing.slots())?;
+    let user = job.user.copy()?;
+    Ok(Freed {
+        job: job.name.copy()?,
+        user,
+        slots,
+    })
+}
+
 // A list with these slots.
 fn copy_of(alloc: Global, slots: &[usize]) -> Result<Slots, OutOfMemory>
     ensures { IfOk result (λ list. list ≡ slots.now) }
@@ -366,31 +386,52 @@ fn copy_of(alloc: Global, slots: &[usize]) -> Result<Slots, OutOfMemory>
     Ok(list)
 }
 
-// Puts a name and its job last. Memory is taken first.
+// The name of a job, and its user's.
+#[derive(Drop)]
+struct Titles {
+    job: Text,
+    user: Text,
+}
+
+// Puts a name last, with room for its job. Memory is taken first.
 fn enter(
     alloc: Global,
     names: &mut IndexSet<Vec<u8>>,
     jobs: &mut Vec<Job>,
     name: &[u8],
     user: &[u8],
-    request: Request,
-    text_len: u64,
-) -> Result<(), OutOfMemory>
+) -> Result<Titles, OutOfMemory>
     requires { list_any (λ key. bytes_eq name.now key.items) names.old.keys ≡ false }
+    ensures job { IfOk result (λ titles. titles.job ≡ name.now) }
+    ensures user { IfOk result (λ titles. titles.user ≡ user.now) }
     ensures names { OnOk result (map (λ key. key.items) names.new.keys ≡ map (λ key. key.items) names.old.keys ++ name.now ∷ []) }
-    ensures jobs { OnOk result (jobs.new.items ≡ jobs.old.items ++ (record { name = name.now; user = user.now; text_len = text_len; request = request; standing = Standing.Idle }) ∷ []) }
-    ensures err { OnErr result ((names.new.keys ≡ names.old.keys) × (jobs.new.items ≡ jobs.old.items)) }
+    ensures room { OnOk result (vec_len jobs.new < vec_capacity jobs.new) }
+    ensures jobs { jobs.new.items ≡ jobs.old.items }
+    ensures err { OnErr result (names.new.keys ≡ names.old.keys) }
 {
-    let job = Job {
-        name: Text::from_bytes(alloc, name)?,
-        user: Text::from_bytes(alloc, user)?,
-        text_len,
-        request,
-        standing: Standing::Idle,
-    };
-    let key = Vec::from_slice(alloc, name)?;
+    let titles = titles_of(alloc, name, user)?;
     jobs.reserve(1)?;
+    add_name(alloc, names, name)?;
+    Ok(titles)
+}
+
+// A name and a user's, in memory of their own.
+fn titles_of(alloc: Global, name: &[u8], user: &[u8]) -> Result<Titles, OutOfMemory>
+    ensures job { IfOk result (λ titles. titles.job ≡ name.now) }
+    ensures user { IfOk result (λ titles. titles.user ≡ user.now) }
+{
+    let job = Text::from_bytes(alloc, name)?;
+    let user = Text::from_bytes(alloc, user)?;
+    Ok(Titles { job, user })
+}
+
+// Puts a new name last.
+fn add_name(alloc: Global, names: &mut IndexSet<Vec<u8>>, name: &[u8]) -> Result<(), OutOfMemory>
+    requires { list_any (λ key. bytes_eq name.now key.items) names.old.keys ≡ false }
+    ensures ok { OnOk result (map (λ key. key.items) names.new.keys ≡ map (λ key. key.items) names.old.keys ++ name.now ∷ []) }
+    ensures err { OnErr result (names.new.keys ≡ names.old.keys) }
+{
+    let key = Vec::from_slice(alloc, name)?;
     names.insert(key)?;
-    jobs.push_reserved(job);
     Ok(())
 }

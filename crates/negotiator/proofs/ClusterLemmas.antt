@@ -4,7 +4,7 @@ use Rattle.std.specs.Prelude.{IfSome, option_map}
 use Rattle.std.specs.Option.{option_map_or}
 use Rattle.std.proofs.Math.Path.{fun_ext}
 use Rattle.std.proofs.lemmas.List.{take_all}
-use Rattle.std.proofs.lemmas.Option.{slice_get_within}
+use Rattle.std.proofs.lemmas.Option.{none-some, same_Some, slice_get_within}
 use Rattle.std.proofs.lemmas.List.Elements.{All-head, All-nil, All-push, All-set, All-tail}
 use Rattle.ad_tree.specs.Ad.{ad_frames}
 use Rattle.ad_tree.specs.Frames.{Frame}
@@ -72,15 +72,15 @@ pub job-within : (jobs : List Job) (i : ℕ) (request : Request) → option_map 
 job-within jobs i request at = by (slice_get jobs i) refl at
   where
     by : (o : Option Job) → slice_get jobs i ≡ o → option_map (λ (job : Job). job.request) o ≡ Some request → i < length jobs
-    by None is e = absurd (cc)
+    by None is e = absurd (none-some request e)
     by (Some job) is e = slice_get_within jobs i job is
 
 pub ad-is : (jobs : List Job) (i : ℕ) (request : Request) → option_map (λ (job : Job). job.request) (slice_get jobs i) ≡ Some request → ad_at jobs i ≡ ad_frames request.ad
 ad-is jobs i request at = by (slice_get jobs i) at
   where
     by : (o : Option Job) → option_map (λ (job : Job). job.request) o ≡ Some request → option_map_or (λ (job : Job). ad_frames job.request.ad) o [] ≡ ad_frames request.ad
-    by None e = absurd (cc)
-    by (Some job) e = let same : job.request ≡ request = cc in ap (λ (r : Request). ad_frames r.ad) same
+    by None e = absurd (none-some request e)
+    by (Some job) e = ap (λ (r : Request). ad_frames r.ad) (same_Some job.request request e)
 
 ad-by : (jobs : List Job) (i : ℕ) → ad_at jobs i ≡ option_map_or (λ (r : Request). ad_frames r.ad) (slice_get (map (λ (job : Job). job.request) jobs) i) []
 ad-by jobs i = by (slice_get jobs i) ∙ sym (ap (λ o. option_map_or (λ (r : Request). ad_frames r.ad) o []) (get-map (λ (job : Job). job.request) jobs i))

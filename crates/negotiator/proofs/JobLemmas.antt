@@ -6,6 +6,7 @@ use Rattle.std.specs.Option.{option_map_or}
 use Rattle.std.proofs.lemmas.Bool.Decides.{nat_tests}
 use Rattle.std.proofs.lemmas.List.Elements.{All-cons, All-head, All-map, All-nil, All-tail}
 use Rattle.std.proofs.Math.ListN.{length-set}
+use Rattle.std.proofs.lemmas.Option.{none-some, same_Some}
 use Rattle.ad_tree.specs.Ad.{ad_frames}
 use Rattle.ad_tree.specs.Frames.{Frame}
 use Rattle.ad_tree.specs.declared.request.Port.{Port}
@@ -68,9 +69,9 @@ position-some p xs = by (ltb (position_or_len p xs) (length xs)) ∙ position-wi
     by false = refl
 
 any-set : {A : Type 0} (p : A → Bool) (xs : List A) (i : ℕ) (old new : A) → slice_get xs i ≡ Some old → p old ≡ false → list_any p xs ≡ true → list_any p (slice_set xs i new) ≡ true
-any-set p [] i old new at none some = absurd (cc)
+any-set p [] i old new at none some = absurd (none-some old at)
 any-set p (x ∷ xs) zero old new at none some =
-    let here : x ≡ old = cc in
+    let here = same_Some x old at in
     let rest : list_any p xs ≡ true = sym (ap (λ b. b || list_any p xs) (ap p here ∙ none)) ∙ some in
     rw rest (or-true (p new))
   where
@@ -84,7 +85,7 @@ any-set p (x ∷ xs) (suc i) old new at none some = by (p x) some (any-set p xs 
     by false some rest = rest some
 
 pub idle-set : (jobs : List Job) (i k : ℕ) (old new : Job) → slice_get jobs i ≡ Some old → is_idle new.standing ≡ false → is_idle_at (slice_set jobs i new) k ≡ (is_idle_at jobs k && not (i == k))
-idle-set [] i k old new at busy = absurd (cc)
+idle-set [] i k old new at busy = absurd (none-some old at)
 idle-set (j ∷ jobs) zero zero old new at busy = busy ∙ sym (none (is_idle j.standing))
   where
     none : (b : Bool) → b && not (eqb 0 0) ≡ false

@@ -4,6 +4,7 @@ use Rattle.std.specs.Prelude.{IfSome, option_and_then, option_map}
 use Rattle.std.specs.Option.{option_map_or}
 use Rattle.std.proofs.Math.Nat.{max-eq_right}
 use Rattle.std.proofs.lemmas.List.Elements.{All-cons, All-nil}
+use Rattle.std.proofs.lemmas.Option.{none-some, same_Some}
 use Rattle.ad_tree.specs.Ad.{ad_frames}
 use Rattle.ad_tree.specs.Frames.{Frame}
 use Rattle.ad_tree.specs.declared.request.Port.{Port}
@@ -19,8 +20,8 @@ use Rattle.claim_table.specs.Jobs.{AreFree, AreNamedApart, job_named, numbered, 
 use Rattle.conjunct_plan.specs.Tests.{tests_of}
 use Rattle.gang_ports.specs.Gangs.{attributes_open, docks_open, gang, looks_most}
 use Rattle.negotiator.specs.declared.answers.Offered.{Offered}
-use Rattle.negotiator.specs.Budget.{entries_by, entries_for, evaluations_by, evaluations_for, is_idle_at, looks_by, looks_for}
-use Rattle.negotiator.specs.Markets.{found_by, found_for, is_idle, name_at, offer_named, pool_for}
+use Rattle.negotiator.specs.Budget.{entries_by, entries_for, evaluations_by, evaluations_for, is_idle_at, looks_by, looks_for, price_at}
+use Rattle.negotiator.specs.Markets.{found, found_by, found_for, is_idle, name_at, offer_named, pool_for}
 use Rattle.negotiator.proofs.GangLemmas.{not-some}
 
 abbrev pub state_at : List Job → ℕ → Option JobState
@@ -32,9 +33,9 @@ pub state-by-name : (jobs : List Job) (i : ℕ) (name : List ℕ) → AreNamedAp
 state-by-name jobs i name apart named = by (slice_get jobs i) refl named
   where
     by : (o : Option Job) → slice_get jobs i ≡ o → option_map (λ (job : Job). job.name) o ≡ Some name → option_map (λ (job : Job). state_of job.standing) (job_named name jobs) ≡ option_map (λ (job : Job). state_of job.standing) (slice_get jobs i)
-    by None at e = absurd (cc)
+    by None at e = absurd (none-some name e)
     by (Some job) at e =
-        let same : job.name ≡ name = cc in
+        let same = same_Some job.name name e in
         let number : numbered name jobs ≡ Some i = ap (λ n. numbered n jobs) (sym same) ∙ apart i job at in
         ap (λ o. option_map (λ (job : Job). state_of job.standing) (option_and_then (λ k. slice_get jobs k) o)) number
 
@@ -123,14 +124,38 @@ module _ (moment : ℕ) (stock : Stock) (jobs : List Job) (request : Request) (s
 pub gang-wanted : (request : Request) → 0 < length request.ports → wanted request ≡ length request.ports
 gang-wanted request some = max-eq_right some
 
+-- ---- the request of a job
+
+module _ (moment : ℕ) (stock : Stock) (jobs : List Job) (i : ℕ) (request : Request) (at : option_map (λ (job : Job). job.request) (slice_get jobs i) ≡ Some request) where
+  pub request-found : found moment stock jobs i ≡ found_for moment stock jobs request
+  request-found = by (slice_get jobs i) at
+    where
+      by : (o : Option Job) → option_map (λ (job : Job). job.request) o ≡ Some request → option_and_then (λ (job : Job). found_for moment stock jobs job.request) o ≡ found_for moment stock jobs request
+      by None e = absurd (none-some request e)
+      by (Some job) e = ap (found_for moment stock jobs) (same_Some job.request request e)
+
+  pub request-price : (price : List Job → Request → ℕ) → price_at price jobs i ≡ price jobs request
+  request-price price = by (slice_get jobs i) at
+    where
+      by : (o : Option Job) → option_map (λ (job : Job). job.request) o ≡ Some request → option_map_or (λ (job : Job). price jobs job.request) o 0 ≡ price jobs request
+      by None e = absurd (none-some request e)
+      by (Some job) e = ap (price jobs) (same_Some job.request request e)
+
+  pub request-wanted : option_map (λ (job : Job). wanted job.request) (slice_get jobs i) ≡ Some (wanted request)
+  request-wanted = by (slice_get jobs i) at
+    where
+      by : (o : Option Job) → option_map (λ (job : Job). job.request) o ≡ Some request → option_map (λ (job : Job). wanted job.request) o ≡ Some (wanted request)
+      by None e = absurd (none-some request e)
+      by (Some job) e = ap (λ r. Some (wanted r)) (same_Some job.request request e)
+
 -- ---- names
 
 pub name-is : (jobs : List Job) (i : ℕ) (name : List ℕ) → option_map (λ (job : Job). job.name) (slice_get jobs i) ≡ Some name → name_at jobs i ≡ name
 name-is jobs i name at = by (slice_get jobs i) at
   where
     by : (o : Option Job) → option_map (λ (job : Job). job.name) o ≡ Some name → option_map_or (λ (job : Job). job.name) o [] ≡ name
-    by None e = absurd (cc)
-    by (Some job) e = cc
+    by None e = absurd (none-some name e)
+    by (Some job) e = same_Some job.name name e
 
 abbrev as-offered : List ℕ → List ℕ → Offered
 as-offered job slots = record { job = job; slots = slots }

@@ -7,6 +7,7 @@ use Rattle.std.specs.Option.{option_map_or}
 use Rattle.std.proofs.lemmas.Bool.Decides.{nat_tests}
 use Rattle.std.proofs.lemmas.List.{append-nil, length-map, map-id}
 use Rattle.std.proofs.lemmas.List.Elements.{All-cons, All-head, All-nil, All-tail}
+use Rattle.std.proofs.lemmas.Option.{none-some, same_Some}
 use Rattle.ad_store.specs.Stock.{Stock}
 use Rattle.claim_table.specs.declared.job.Job.{Job}
 use Rattle.claim_table.specs.declared.job.Standing.{Standing}
@@ -226,6 +227,6 @@ module _ (moment : ℕ) (stock : Stock) (settings : List Setting) where
 -- ---- a job as it waits
 
 pub user-of : (jobs : List Job) (i : ℕ) (user : List ℕ) (d : Waiting) → option_map (λ (job : Job). job.user) (slice_get jobs i) ≡ Some user → (get_or (map waiting_of jobs) i d).user ≡ user
-user-of [] i user d e = absurd (cc)
-user-of (j ∷ jobs) zero user d e = cc
+user-of [] i user d e = absurd (none-some user e)
+user-of (j ∷ jobs) zero user d e = same_Some j.user user e
 user-of (j ∷ jobs) (suc i) user d e = user-of jobs i user d e

@@ -2,6 +2,7 @@
 use Rattle.std.proofs.Common.{◌≡◌, ℕ, zero, suc, List, [], ◌∷◌, map, slice_get, Option, None, Some, refl, ap, ◌∙◌, subst}
 use Rattle.std.specs.Prelude.{option_map}
 use Rattle.std.proofs.lemmas.List.Elements.{All-head, All-tail}
+use Rattle.std.proofs.lemmas.Option.{none-some, same_Some}
 use Rattle.ad_tree.specs.Ad.{ad_frames}
 use Rattle.ad_tree.specs.Small.{IsSmall}
 use Rattle.ad_tree.specs.declared.request.Request.{Request}
@@ -14,10 +15,9 @@ use Rattle.negotiator.proofs.ShiftLemmas.{kept-all}
 
 -- the request of a small job is small
 pub small-job : (jobs : List Job) (i : ℕ) (request : Request) → option_map (λ (job : Job). job.request) (slice_get jobs i) ≡ Some request → AreSmallJobs jobs → IsSmall (ad_frames request.ad)
-small-job [] i request at small = absurd (cc)
+small-job [] i request at small = absurd (none-some request at)
 small-job (j ∷ jobs) zero request at small =
-    let same : j.request ≡ request = cc in
-    subst (λ (r : Request). IsSmall (ad_frames r.ad)) same (All-head (λ (job : Job). IsSmall (ad_frames job.request.ad)) j jobs small)
+    subst (λ (r : Request). IsSmall (ad_frames r.ad)) (same_Some j.request request at) (All-head (λ (job : Job). IsSmall (ad_frames job.request.ad)) j jobs small)
 small-job (j ∷ jobs) (suc i) request at small = small-job jobs i request at (All-tail (λ (job : Job). IsSmall (ad_frames job.request.ad)) j jobs small)
 
 -- jobs are small once offers are made to them

@@ -5,6 +5,7 @@ use Rattle.std.specs.List.{cons_option}
 use Rattle.std.specs.Ordering.{is_lt}
 use Rattle.std.proofs.lemmas.List.{get_or_default, length-map}
 use Rattle.std.proofs.lemmas.List.Elements.{All-append, All-cons, All-head, All-nil, All-tail}
+use Rattle.std.proofs.lemmas.Option.{none-some, same_Some}
 use Rattle.ad_tree.specs.Ad.{ad_frames}
 use Rattle.ad_tree.specs.Frames.{Frame}
 use Rattle.ad_tree.specs.declared.request.Port.{Port}
@@ -99,10 +100,9 @@ module _ (moment : ℕ) (stock : Stock) (beside : length stock.ads ≤ length st
   found-by jobs request [] slots e = by (best (pool_for moment stock jobs) request) (best-below (pool_for moment stock jobs) request (length stock.slots) beside) e
     where
       by : (o : Option Member) → IfSome o (λ m. m.place < length stock.slots) → option_map (λ slot. slot ∷ []) (option_map (λ (m : Member). slot_at stock m.place) o) ≡ Some slots → All (Contains stock.slots) slots
-      by None h e = absurd (cc)
+      by None h e = absurd (none-some slots e)
       by (Some m) h e =
-          let same : slot_at stock m.place ∷ [] ≡ slots = cc in
-          subst (All (Contains stock.slots)) same (All-cons (Contains stock.slots) (slot_at stock m.place) [] (at-place m.place h) (All-nil (Contains stock.slots)))
+          subst (All (Contains stock.slots)) (same_Some (slot_at stock m.place ∷ []) slots e) (All-cons (Contains stock.slots) (slot_at stock m.place) [] (at-place m.place h) (All-nil (Contains stock.slots)))
   found-by jobs request (port ∷ ports) slots e =
       subst (λ o. IfSome o (All (Contains stock.slots))) e
       (gang-all moment stock jobs request (port ∷ ports) (All (Contains stock.slots)) (λ places is. slots-stored moment stock jobs request (port ∷ ports) places is beside)
@@ -112,7 +112,7 @@ module _ (moment : ℕ) (stock : Stock) (beside : length stock.ads ≤ length st
   found-stored jobs i slots e = by (slice_get jobs i) e
     where
       by : (o : Option Job) → option_and_then (λ (job : Job). found_for moment stock jobs job.request) o ≡ Some slots → All (Contains stock.slots) slots
-      by None e = absurd (cc)
+      by None e = absurd (none-some slots e)
       by (Some job) e = found-by jobs (ad_frames job.request.ad) job.request.ports slots e
 
 -- ---- a store

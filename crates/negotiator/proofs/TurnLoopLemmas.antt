@@ -4,6 +4,7 @@ use Rattle.std.specs.Prelude.{option_map}
 use Rattle.std.specs.Option.{option_map_or}
 use Rattle.std.proofs.lemmas.Bool.Decides.{nat_tests}
 use Rattle.std.proofs.lemmas.List.{append-nil, drop_all, drop_more, length-map, map-append}
+use Rattle.std.proofs.lemmas.Option.{none-some, same_Some}
 use Rattle.claim_table.specs.declared.job.Job.{Job}
 use Rattle.claim_table.specs.declared.job.Standing.{Standing}
 use Rattle.claim_table.specs.Jobs.{wanted, with_standing}
@@ -32,15 +33,15 @@ named-later jobs made o =
 
 -- what is found, from the answer that names it
 pub found-from : (jobs : List Job) (i : ℕ) (o : Option (List ℕ)) (answer : Offered) → option_map (λ slots. offer_named jobs (offer i slots)) o ≡ Some answer → (o ≡ Some answer.slots) × (answer ≡ offer_named jobs (offer i answer.slots))
-found-from jobs i None answer e = absurd (cc)
+found-from jobs i None answer e = absurd (none-some answer e)
 found-from jobs i (Some slots) answer e =
-    let same : offer_named jobs (offer i slots) ≡ answer = cc in
+    let same = same_Some (offer_named jobs (offer i slots)) answer e in
     let its : slots ≡ answer.slots = ap (λ (a : Offered). a.slots) same in
     (ap Some its, sym same ∙ ap (λ l. offer_named jobs (offer i l)) its)
 
 pub none-from : (jobs : List Job) (i : ℕ) (o : Option (List ℕ)) → option_map (λ slots. offer_named jobs (offer i slots)) o ≡ None → o ≡ None
 none-from jobs i None e = refl
-none-from jobs i (Some slots) e = absurd (cc)
+none-from jobs i (Some slots) e = absurd (none-some (offer_named jobs (offer i slots)) (sym e))
 
 -- the test of the slice
 pub over-slice : (given : Bool) (left wants n : ℕ) → wants ≡ n → given ≡ true → left < wants → (given && nat_lt left n) ≡ true

@@ -1,5 +1,5 @@
 // Spins, and the cycle of them.
-ghost use Rattle.std.specs.Prelude.{◌≡◌, ◌≤◌, ◌<◌, ◌+◌, ◌*◌, ◌^◌, [], All, Contains, IfOk, OnErr, OnOk, filter, length, map};
+ghost use Rattle.std.specs.Prelude.{◌≡◌, ◌≤◌, ◌<◌, ◌+◌, ◌*◌, ◌^◌, [], All, Contains, IfOk, OnErr, OnOk, false, filter, length, map, replicate};
 ghost use Rattle.std.specs.List.{list_any};
 ghost use Rattle.ad_tree.specs.Ad.{ad_frames};
 ghost use Rattle.ad_store.specs.Store.{stock_of};
@@ -81,7 +81,7 @@ pub fn cycle<F: Ledger, E: Ledger, T: Ledger>(
         moment,
     };
     let queues = queues_of(&scene, claims)?;
-    let mut failed = vec![in alloc; false; claims.len()]?;
+    let mut failed = unmarked(alloc, claims.len())?;
     let mut clusters = Clusters::new(alloc);
     run_spins(
         &scene,
@@ -93,6 +93,14 @@ pub fn cycle<F: Ledger, E: Ledger, T: Ledger>(
         entry,
         touch,
     )
+}
+
+// Marks of so many jobs, none of which has failed.
+fn unmarked(alloc: Global, jobs: usize) -> Result<Vec<bool>, OutOfMemory>
+    ensures { IfOk result (λ marks. marks.items ≡ replicate jobs false) }
+{
+    let marks = vec![in alloc; false; jobs]?;
+    Ok(marks)
 }
 
 // The spins up to and with the first that makes no offer.

@@ -45,10 +45,64 @@ pub returns-in-Some-clause-clusters : goal.returns-in-Some-clause-clusters
 returns-in-Some-clause-clusters g c =
     one-changed c.args.scene.now.moment (stock_in c.args.scene.now) (jobs_of c.args.claims.now) c.args.clusters.now c.requires.clusters _ c.in-Some.k c.first.new.self refl refl c.first.ensures.kept
 
+pub returns-in-Some-clause-free : goal.returns-in-Some-clause-free
+returns-in-Some-clause-free g c = c.first.ensures.free
+
+pub returns-in-Some-clause-evaluations : goal.returns-in-Some-clause-evaluations
+returns-in-Some-clause-evaluations g c = omega arith
+
+pub returns-in-Some-clause-entries : goal.returns-in-Some-clause-entries
+returns-in-Some-clause-entries g c = omega arith
+
+pub returns-in-Some-clause-looks : goal.returns-in-Some-clause-looks
+returns-in-Some-clause-looks g c = omega arith
+
+pub returns-in-Some-clause-ratio : goal.returns-in-Some-clause-ratio
+returns-in-Some-clause-ratio g c ads small = omega arith
+
 -- ---- the ad was seen
 
 pub was_seen-requires : goal.was_seen-requires
 was_seen-requires g c = subst (All (λ place. place < length (jobs_of c.args.claims.now))) (sym c.as_slice-2.ensures.value) c.requires.clusters.seen
+
+pub rank-requires-clause-index : goal.rank-requires-clause-index
+rank-requires-clause-index g c = c.requires.index
+
+pub rank-requires-clause-stored : goal.rank-requires-clause-stored
+rank-requires-clause-stored g c = c.requires.stored
+
+pub rank-requires-clause-job : goal.rank-requires-clause-job
+rank-requires-clause-job g c = c.requires.job
+
+pub rank-requires-clause-single : goal.rank-requires-clause-single
+rank-requires-clause-single g c = c.requires.single
+
+pub returns-in_err-cluster-clause-clusters : goal.returns-in_err-cluster-clause-clusters
+returns-in_err-cluster-clause-clusters g c = c.requires.clusters
+
+pub returns-in_err-cluster-clause-evaluations : goal.returns-in_err-cluster-clause-evaluations
+returns-in_err-cluster-clause-evaluations g c = c.rank.ensures.evaluations
+
+pub returns-in_err-cluster-clause-entries : goal.returns-in_err-cluster-clause-entries
+returns-in_err-cluster-clause-entries g c = c.rank.ensures.entries
+
+pub returns-in_err-cluster-clause-looks : goal.returns-in_err-cluster-clause-looks
+returns-in_err-cluster-clause-looks g c = c.rank.ensures.looks
+
+pub returns-in_err-cluster-clause-ratio : goal.returns-in_err-cluster-clause-ratio
+returns-in_err-cluster-clause-ratio g c = c.rank.ensures.ratio
+
+pub returns-in_err-push-clause-evaluations : goal.returns-in_err-push-clause-evaluations
+returns-in_err-push-clause-evaluations g c = c.rank.ensures.evaluations
+
+pub returns-in_err-push-clause-entries : goal.returns-in_err-push-clause-entries
+returns-in_err-push-clause-entries g c = c.rank.ensures.entries
+
+pub returns-in_err-push-clause-looks : goal.returns-in_err-push-clause-looks
+returns-in_err-push-clause-looks g c = c.rank.ensures.looks
+
+pub returns-in_err-push-clause-ratio : goal.returns-in_err-push-clause-ratio
+returns-in_err-push-clause-ratio g c = c.rank.ensures.ratio
 
 pub returns-in_err-push-clause-clusters : goal.returns-in_err-push-clause-clusters
 returns-in_err-push-clause-clusters g c =
@@ -63,6 +117,21 @@ pub returns-then-was_seen-clause-clusters : goal.returns-then-was_seen-clause-cl
 returns-then-was_seen-clause-clusters g c =
     one-ranked c.args.scene.now.moment (stock_in c.args.scene.now) (jobs_of c.args.claims.now) c.args.clusters.now c.requires.clusters _ c.first-slot.new.self refl c.in_ok-push.ensures.items c.first-slot.ensures.kept
 
+pub returns-then-was_seen-clause-free : goal.returns-then-was_seen-clause-free
+returns-then-was_seen-clause-free g c = c.first-slot.ensures.free
+
+pub returns-then-was_seen-clause-evaluations : goal.returns-then-was_seen-clause-evaluations
+returns-then-was_seen-clause-evaluations g c = c.rank.ensures.evaluations
+
+pub returns-then-was_seen-clause-entries : goal.returns-then-was_seen-clause-entries
+returns-then-was_seen-clause-entries g c = c.rank.ensures.entries
+
+pub returns-then-was_seen-clause-looks : goal.returns-then-was_seen-clause-looks
+returns-then-was_seen-clause-looks g c = c.rank.ensures.looks
+
+pub returns-then-was_seen-clause-ratio : goal.returns-then-was_seen-clause-ratio
+returns-then-was_seen-clause-ratio g c = c.rank.ensures.ratio
+
 -- ---- the ad is new
 
 pub note-requires-clause-within : goal.note-requires-clause-within
@@ -74,6 +143,33 @@ note-requires-clause-all g c = c.requires.clusters.seen
 pub returns-in_err-note-clause-clusters : goal.returns-in_err-note-clause-clusters
 returns-in_err-note-clause-clusters g c =
     one-seen c.args.scene.now.moment (stock_in c.args.scene.now) (jobs_of c.args.claims.now) c.args.clusters.now c.requires.clusters _ c.note.ensures refl
+
+pub returns-in_err-note-clause-evaluations : goal.returns-in_err-note-clause-evaluations
+returns-in_err-note-clause-evaluations g c = omega arith
+
+pub returns-in_err-note-clause-entries : goal.returns-in_err-note-clause-entries
+returns-in_err-note-clause-entries g c = omega arith
+
+pub returns-in_err-note-clause-looks : goal.returns-in_err-note-clause-looks
+returns-in_err-note-clause-looks g c = omega arith
+
+pub returns-in_err-note-clause-ratio : goal.returns-in_err-note-clause-ratio
+returns-in_err-note-clause-ratio g c ads small = omega arith
+
+pub returns-clause-best : goal.returns-clause-best
+returns-clause-best g c = c.best.ensures.best
+
+pub returns-clause-free : goal.returns-clause-free
+returns-clause-free g c = c.best.ensures.free
+
+pub returns-clause-evaluations : goal.returns-clause-evaluations
+returns-clause-evaluations g c = c.best.ensures.evaluations
+
+pub returns-clause-entries : goal.returns-clause-entries
+returns-clause-entries g c = c.best.ensures.entries
+
+pub returns-clause-looks : goal.returns-clause-looks
+returns-clause-looks g c = c.best.ensures.looks
 
 pub returns-clause-clusters : goal.returns-clause-clusters
 returns-clause-clusters g c =

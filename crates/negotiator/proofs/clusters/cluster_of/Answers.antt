@@ -1,5 +1,5 @@
-use Rattle.std.proofs.Common.{◌≡◌, Some, get_or, slice_get, subst}
-use Rattle.std.proofs.lemmas.Option.{slice_get-get_or}
+use Rattle.std.proofs.Common.{◌≡◌, ◌∙◌, Some, get_or, slice_get, subst, sym}
+use Rattle.std.proofs.lemmas.Option.{same_Some, slice_get-get_or}
 use Rattle.ad_tree.specs.Ad.{ad_frames}
 use Rattle.bilateral_match.specs.Alike.{AreAlike}
 use Rattle.claim_table.specs.Table.{jobs_of}
@@ -18,5 +18,5 @@ pub returns-then-has_ad-clause-alike : goal.returns-then-has_ad-clause-alike
 returns-then-has_ad-clause-alike c = λ cluster at.
     let here : slice_get c.args.ranked.now c.loop-k.k ≡ Some (get_or c.args.ranked.now c.loop-k.k c.index-ranked-k.result) =
     slice_get-get_or c.args.ranked.now c.loop-k.k c.index-ranked-k.result c.loop-k-test.true in
-    let same : get_or c.args.ranked.now c.loop-k.k c.index-ranked-k.result ≡ cluster = cc in
+    let same = same_Some (get_or c.args.ranked.now c.loop-k.k c.index-ranked-k.result) cluster (sym here ∙ at) in
     subst (λ (one : Cluster). AreAlike (ad_at (jobs_of c.args.claims.now) one.place) (ad_frames c.args.request.now.ad)) same (c.has_ad.ensures c.if-has_ad.true)

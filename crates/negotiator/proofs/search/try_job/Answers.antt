@@ -1,8 +1,9 @@
-use Rattle.std.proofs.Common.{Some, ap, arith, refl, subst, sym, ◌∙◌}
-use Rattle.std.specs.Prelude.{option_map}
+use Rattle.std.proofs.Common.{◌≡◌, ◌≢◌, ℕ, AllPairs, List, Some, ap, arith, length, refl, slice_get, subst, sym, ◌∙◌}
+use Rattle.std.specs.Prelude.{IfSome, option_map}
 use Rattle.std.specs.Option.{option_map_or}
+use Rattle.claim_table.specs.declared.job.Job.{Job}
 use Rattle.claim_table.specs.declared.job.Standing.{Standing}
-use Rattle.claim_table.specs.Jobs.{with_standing}
+use Rattle.claim_table.specs.Jobs.{AreFree, wanted, with_standing}
 use Rattle.claim_table.specs.Table.{jobs_of}
 use Rattle.negotiator.specs.Budget.{ArePaid, counts}
 use Rattle.negotiator.specs.Markets.{offer_named}
@@ -11,6 +12,7 @@ use Rattle.negotiator.proofs.BudgetLemmas.{fail-paid, idle-within, offer-paid, p
 use Rattle.negotiator.proofs.ClusterLemmas.{clusters-later, same-clusters}
 use Rattle.negotiator.proofs.CycleLemmas.{offer}
 use Rattle.negotiator.proofs.ReadyLemmas.{ready-given, ready-marked}
+use Rattle.negotiator.proofs.SpinLoopLemmas.{on_err}
 use Rattle.negotiator.proofs.search.try_job.Goals as goal
 
 pub returns-then-failed-i-clause-offered : goal.returns-then-failed-i-clause-offered
@@ -35,8 +37,38 @@ returns-then-failed-i-clause-within g c =
     paid-within c.args.scene.now.moment (stock_in c.args.scene.now) jobs jobs c.args.failed.now c.args.failed.now here here
     (paid-none c.args.scene.now.moment (stock_in c.args.scene.now) jobs c.args.failed.now here)
 
+pub returns-then-failed-i-clause-ready : goal.returns-then-failed-i-clause-ready
+returns-then-failed-i-clause-ready g c = c.requires.ready
+
+pub returns-then-failed-i-clause-clusters : goal.returns-then-failed-i-clause-clusters
+returns-then-failed-i-clause-clusters g c = c.requires.clusters
+
+pub returns-then-failed-i-clause-ratio : goal.returns-then-failed-i-clause-ratio
+returns-then-failed-i-clause-ratio g c ads small = omega arith
+
 pub search-requires-clause-place : goal.search-requires-clause-place
 search-requires-clause-place g c = idle-within (jobs_of c.args.claims.now) c.args.i c.requires.idle
+
+pub search-requires-clause-index : goal.search-requires-clause-index
+search-requires-clause-index g c = c.requires.ready.index
+
+pub search-requires-clause-stored : goal.search-requires-clause-stored
+search-requires-clause-stored g c = c.requires.ready.stored
+
+pub search-requires-clause-ports : goal.search-requires-clause-ports
+search-requires-clause-ports g c = c.requires.ready.ports
+
+pub search-requires-clause-clusters : goal.search-requires-clause-clusters
+search-requires-clause-clusters g c = c.requires.clusters
+
+pub returns-in_err-slots-clause-ready : goal.returns-in_err-slots-clause-ready
+returns-in_err-slots-clause-ready g c = c.requires.ready
+
+pub returns-in_err-slots-clause-clusters : goal.returns-in_err-slots-clause-clusters
+returns-in_err-slots-clause-clusters g c = c.search.ensures.clusters
+
+pub returns-in_err-slots-clause-ratio : goal.returns-in_err-slots-clause-ratio
+returns-in_err-slots-clause-ratio g c = c.search.ensures.ratio
 
 pub returns-in_err-slots-clause-within : goal.returns-in_err-slots-clause-within
 returns-in_err-slots-clause-within g c =
@@ -72,6 +104,24 @@ returns-in_default-clause-within g c =
     search-within c.args.scene.now.moment (stock_in c.args.scene.now) jobs c.args.failed.now c.args.i c.requires.idle c.if-failed-i.false (omega (arith, place, c.requires.ready.marks))
     (counts c.args.tops.now c.args.entry.now c.args.touch.now) (counts c.search.new.tops c.search.new.entry c.search.new.touch) c.search.ensures.counted
 
+pub returns-in_default-clause-clusters : goal.returns-in_default-clause-clusters
+returns-in_default-clause-clusters g c = c.search.ensures.clusters
+
+pub returns-in_default-clause-ratio : goal.returns-in_default-clause-ratio
+returns-in_default-clause-ratio g c = c.search.ensures.ratio
+
+pub give-requires-clause-free : goal.give-requires-clause-free
+give-requires-clause-free g c = subst (λ o. IfSome o (λ list. AreFree list (jobs_of c.args.claims.now))) c.in-Some.is c.in_ok-slots.ensures.free
+
+pub give-requires-clause-distinct : goal.give-requires-clause-distinct
+give-requires-clause-distinct g c = subst (λ o. IfSome o (AllPairs (λ (a b : ℕ). a ≢ b))) c.in-Some.is c.in_ok-slots.ensures.distinct
+
+pub give-requires-clause-enough : goal.give-requires-clause-enough
+give-requires-clause-enough g c = subst (λ o. IfSome o (λ (list : List ℕ). option_map (λ (job : Job). wanted job.request) (slice_get (jobs_of c.args.claims.now) c.args.i) ≡ Some (length list))) c.in-Some.is c.in_ok-slots.ensures.enough
+
+pub returns-in_err-give-clause-err : goal.returns-in_err-give-clause-err
+returns-in_err-give-clause-err g c = on_err _ c.in_err-give.ensures.err
+
 pub returns-in_err-give-clause-ready : goal.returns-in_err-give-clause-ready
 returns-in_err-give-clause-ready g c = subst (λ js. IsReady c.args.scene.now js c.args.failed.now) (sym c.in_err-give.ensures.err) c.requires.ready
 
@@ -84,6 +134,9 @@ returns-in_err-give-clause-within g c =
     let place = idle-within jobs c.args.i c.requires.idle in
     search-within c.args.scene.now.moment (stock_in c.args.scene.now) jobs c.args.failed.now c.args.i c.requires.idle c.if-failed-i.false (omega (arith, place, c.requires.ready.marks))
     (counts c.args.tops.now c.args.entry.now c.args.touch.now) (counts c.search.new.tops c.search.new.entry c.search.new.touch) c.search.ensures.counted
+
+pub returns-in_err-give-clause-ratio : goal.returns-in_err-give-clause-ratio
+returns-in_err-give-clause-ratio g c = c.search.ensures.ratio
 
 pub returns-clause-offered : goal.returns-clause-offered
 returns-clause-offered g c =
@@ -120,3 +173,6 @@ returns-clause-within g c =
     let place = idle-within jobs c.args.i c.requires.idle in
     search-within c.args.scene.now.moment (stock_in c.args.scene.now) jobs c.args.failed.now c.args.i c.requires.idle c.if-failed-i.false (omega (arith, place, c.requires.ready.marks))
     (counts c.args.tops.now c.args.entry.now c.args.touch.now) (counts c.search.new.tops c.search.new.entry c.search.new.touch) c.search.ensures.counted
+
+pub returns-clause-ratio : goal.returns-clause-ratio
+returns-clause-ratio g c = c.search.ensures.ratio

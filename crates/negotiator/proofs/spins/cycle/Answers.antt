@@ -31,7 +31,7 @@ run_spins-requires-clause-queues g c =
 
 pub run_spins-requires-clause-ready : goal.run_spins-requires-clause-ready
 run_spins-requires-clause-ready g c =
-    let none = c.deref_mut.ensures.value ∙ c.in_ok-failed.ensures.items_if_clones_equal (λ y h. h) in
+    let none = c.deref_mut.ensures.value ∙ c.in_ok-failed.ensures in
     ready-start _ (jobs_of c.args.claims.now) c.deref_mut.result.now c.requires.index c.requires.stored c.requires.ports (subst (λ (n : ℕ). n ≤ 10000) c.len.ensures.len c.len.ensures.few)
     (none ∙ ap (λ (n : ℕ). replicate n false) c.len.ensures.len)
 
@@ -44,18 +44,18 @@ returns-clause-stored g c = cycle-stored c.args.store.now c.args.moment (setting
 
 pub returns-clause-evaluations : goal.returns-clause-evaluations
 returns-clause-evaluations g c =
-    let none = c.deref_mut.ensures.value ∙ c.in_ok-failed.ensures.items_if_clones_equal (λ y h. h) in
+    let none = c.deref_mut.ensures.value ∙ c.in_ok-failed.ensures in
     evaluations-start c.args.moment (stock_of c.args.store.now) (jobs_of c.args.claims.now) c.deref_mut.result.now (λ k. ap (λ (f : List Bool). is_marked f k) none ∙ none-marked c.len.result k)
     (counts c.args.tops.now c.args.entry.now c.args.touch.now) (counts c.run_spins.new.tops c.run_spins.new.entry c.run_spins.new.touch) c.run_spins.ensures.within
 
 pub returns-clause-entries : goal.returns-clause-entries
 returns-clause-entries g c =
-    let none = c.deref_mut.ensures.value ∙ c.in_ok-failed.ensures.items_if_clones_equal (λ y h. h) in
+    let none = c.deref_mut.ensures.value ∙ c.in_ok-failed.ensures in
     entries-start c.args.moment (stock_of c.args.store.now) (jobs_of c.args.claims.now) c.deref_mut.result.now (λ k. ap (λ (f : List Bool). is_marked f k) none ∙ none-marked c.len.result k)
     (counts c.args.tops.now c.args.entry.now c.args.touch.now) (counts c.run_spins.new.tops c.run_spins.new.entry c.run_spins.new.touch) c.run_spins.ensures.within
 
 pub returns-clause-looks : goal.returns-clause-looks
 returns-clause-looks g c =
-    let none = c.deref_mut.ensures.value ∙ c.in_ok-failed.ensures.items_if_clones_equal (λ y h. h) in
+    let none = c.deref_mut.ensures.value ∙ c.in_ok-failed.ensures in
     looks-start c.args.moment (stock_of c.args.store.now) (jobs_of c.args.claims.now) c.deref_mut.result.now (λ k. ap (λ (f : List Bool). is_marked f k) none ∙ none-marked c.len.result k)
     (counts c.args.tops.now c.args.entry.now c.args.touch.now) (counts c.run_spins.new.tops c.run_spins.new.entry c.run_spins.new.touch) c.run_spins.ensures.within

@@ -1,4 +1,4 @@
-use Rattle.std.proofs.Common.{◌≤◌, ◌<◌, ◌^◌, List, ℕ, All, ap, length, map, subst, sym, ◌∙◌}
+use Rattle.std.proofs.Common.{◌≤◌, ◌<◌, ◌^◌, List, ℕ, All, ap, arith, length, map, subst, sym, ◌∙◌}
 use Rattle.claim_table.specs.Table.{jobs_of}
 use Rattle.negotiator.specs.Budget.{counts}
 use Rattle.negotiator.specs.Priorities.{priority_of}
@@ -12,6 +12,15 @@ use Rattle.negotiator.proofs.spins.run_spin.Goals as goal
 pub returns-in_err-active-clause-part : goal.returns-in_err-active-clause-part
 returns-in_err-active-clause-part g c = on_err _ (part-none _ (jobs_of c.args.claims.now))
 
+pub returns-in_err-active-clause-ready : goal.returns-in_err-active-clause-ready
+returns-in_err-active-clause-ready g c = c.requires.ready
+
+pub returns-in_err-active-clause-clusters : goal.returns-in_err-active-clause-clusters
+returns-in_err-active-clause-clusters g c = c.requires.clusters
+
+pub returns-in_err-active-clause-ratio : goal.returns-in_err-active-clause-ratio
+returns-in_err-active-clause-ratio g c ads small = omega arith
+
 pub returns-in_err-active-clause-within : goal.returns-in_err-active-clause-within
 returns-in_err-active-clause-within g c =
     within-none c.args.scene.now.moment (stock_in c.args.scene.now) (jobs_of c.args.claims.now) c.args.failed.now (counts c.args.tops.now c.args.entry.now c.args.touch.now)
@@ -21,6 +30,15 @@ weights_of-requires g c = subst (All (λ (k : ℕ). k < length c.args.queues.now
 
 pub returns-in_err-weights-clause-part : goal.returns-in_err-weights-clause-part
 returns-in_err-weights-clause-part g c = on_err _ (part-none _ (jobs_of c.args.claims.now))
+
+pub returns-in_err-weights-clause-ready : goal.returns-in_err-weights-clause-ready
+returns-in_err-weights-clause-ready g c = c.requires.ready
+
+pub returns-in_err-weights-clause-clusters : goal.returns-in_err-weights-clause-clusters
+returns-in_err-weights-clause-clusters g c = c.requires.clusters
+
+pub returns-in_err-weights-clause-ratio : goal.returns-in_err-weights-clause-ratio
+returns-in_err-weights-clause-ratio g c ads small = omega arith
 
 pub returns-in_err-weights-clause-within : goal.returns-in_err-weights-clause-within
 returns-in_err-weights-clause-within g c =
@@ -40,6 +58,15 @@ slices-requires-clause-most g c = subst (All (λ (w : ℕ). w ≤ 10 ^ 12)) (sym
 pub returns-in_err-slices-clause-part : goal.returns-in_err-slices-clause-part
 returns-in_err-slices-clause-part g c = on_err _ (part-none _ (jobs_of c.args.claims.now))
 
+pub returns-in_err-slices-clause-ready : goal.returns-in_err-slices-clause-ready
+returns-in_err-slices-clause-ready g c = c.requires.ready
+
+pub returns-in_err-slices-clause-clusters : goal.returns-in_err-slices-clause-clusters
+returns-in_err-slices-clause-clusters g c = c.requires.clusters
+
+pub returns-in_err-slices-clause-ratio : goal.returns-in_err-slices-clause-ratio
+returns-in_err-slices-clause-ratio g c ads small = omega arith
+
 pub returns-in_err-slices-clause-within : goal.returns-in_err-slices-clause-within
 returns-in_err-slices-clause-within g c =
     within-none c.args.scene.now.moment (stock_in c.args.scene.now) (jobs_of c.args.claims.now) c.args.failed.now (counts c.args.tops.now c.args.entry.now c.args.touch.now)
@@ -56,11 +83,29 @@ run_turns-requires-clause-slices g c =
     let weights = c.as_slice-2.ensures ∙ c.in_ok-weights.ensures.weights ∙ ap (λ (l : List ℕ). map (λ user. weight_of (priority_of user (settings_of c.args.scene.now.priorities.now))) (users_at c.args.queues.now l)) (c.as_slice.ensures ∙ sym c.as_slice-3.ensures) in
     slices-length c.args.scene.now (jobs_of c.args.claims.now) c.args.queues.now c.as_slice-3.result.now c.as_slice-2.result.now c.as_slice-4.result.now c.free_count-free.result c.free_count-free.ensures.free users weights (c.as_slice-4.ensures ∙ c.in_ok-slices.ensures)
 
+pub run_turns-requires-clause-ready : goal.run_turns-requires-clause-ready
+run_turns-requires-clause-ready g c = c.requires.ready
+
+pub run_turns-requires-clause-clusters : goal.run_turns-requires-clause-clusters
+run_turns-requires-clause-clusters g c = c.requires.clusters
+
 pub returns-in_err-turns-clause-part : goal.returns-in_err-turns-clause-part
 returns-in_err-turns-clause-part g c =
     let users = ap (users_at c.args.queues.now) c.as_slice-3.ensures ∙ c.in_ok-active.ensures.users in
     let weights = c.as_slice-2.ensures ∙ c.in_ok-weights.ensures.weights ∙ ap (λ (l : List ℕ). map (λ user. weight_of (priority_of user (settings_of c.args.scene.now.priorities.now))) (users_at c.args.queues.now l)) (c.as_slice.ensures ∙ sym c.as_slice-3.ensures) in
     on_err _ (spin-part c.args.scene.now (jobs_of c.args.claims.now) c.args.queues.now c.as_slice-3.result.now c.as_slice-2.result.now c.as_slice-4.result.now c.free_count-free.result c.free_count-free.ensures.free users weights (c.as_slice-4.ensures ∙ c.in_ok-slices.ensures) (jobs_of c.run_turns.new.claims) c.in_err-turns.ensures.part)
+
+pub returns-in_err-turns-clause-ready : goal.returns-in_err-turns-clause-ready
+returns-in_err-turns-clause-ready g c = c.run_turns.ensures.ready
+
+pub returns-in_err-turns-clause-clusters : goal.returns-in_err-turns-clause-clusters
+returns-in_err-turns-clause-clusters g c = c.run_turns.ensures.clusters
+
+pub returns-in_err-turns-clause-within : goal.returns-in_err-turns-clause-within
+returns-in_err-turns-clause-within g c = c.run_turns.ensures.within
+
+pub returns-in_err-turns-clause-ratio : goal.returns-in_err-turns-clause-ratio
+returns-in_err-turns-clause-ratio g c = c.run_turns.ensures.ratio
 
 pub returns-clause-spin : goal.returns-clause-spin
 returns-clause-spin g c =
@@ -73,3 +118,18 @@ returns-clause-table g c =
     let users = ap (users_at c.args.queues.now) c.as_slice-3.ensures ∙ c.in_ok-active.ensures.users in
     let weights = c.as_slice-2.ensures ∙ c.in_ok-weights.ensures.weights ∙ ap (λ (l : List ℕ). map (λ user. weight_of (priority_of user (settings_of c.args.scene.now.priorities.now))) (users_at c.args.queues.now l)) (c.as_slice.ensures ∙ sym c.as_slice-3.ensures) in
     spin-table c.args.scene.now (jobs_of c.args.claims.now) c.args.queues.now c.as_slice-3.result.now c.as_slice-2.result.now c.as_slice-4.result.now c.free_count-free.result c.free_count-free.ensures.free users weights (c.as_slice-4.ensures ∙ c.in_ok-slices.ensures) (jobs_of c.run_turns.new.claims) c.in_ok-turns.ensures.table
+
+pub returns-clause-ready : goal.returns-clause-ready
+returns-clause-ready g c = c.run_turns.ensures.ready
+
+pub returns-clause-clusters : goal.returns-clause-clusters
+returns-clause-clusters g c = c.run_turns.ensures.clusters
+
+pub returns-clause-paid : goal.returns-clause-paid
+returns-clause-paid g c = c.in_ok-turns.ensures.paid
+
+pub returns-clause-within : goal.returns-clause-within
+returns-clause-within g c = c.run_turns.ensures.within
+
+pub returns-clause-ratio : goal.returns-clause-ratio
+returns-clause-ratio g c = c.run_turns.ensures.ratio

@@ -9,9 +9,12 @@ use Rattle.claim_table.specs.declared.answers.JobState.{JobState}
 use Rattle.claim_table.specs.declared.job.Job.{Job}
 use Rattle.claim_table.specs.Jobs.{IsFilled, slots_of, state_of}
 use Rattle.claim_table.specs.Table.{jobs_of}
-use Rattle.claim_table.proofs.ClaimLemmas.{claimed-granted, claimed-stale, entered-named, offer-few, offer-listed, offer-named, undecided-named}
+use Rattle.claim_table.proofs.ClaimLemmas.{claimed-granted, claimed-nobody, claimed-stale, entered-named, offer-few, offer-listed, offer-named, undecided-named}
 use Rattle.claim_table.proofs.HolderLemmas.{All-found}
 use Rattle.claim_table.proofs.table.ClaimTable.claim.Goals as goal
+
+pub returns-in_default-clause-claim : goal.returns-in_default-clause-claim
+returns-in_default-clause-claim g c = claimed-nobody c.args.moment (stock_of c.args.store.now) c.args.name.now (jobs_of c.args.self.now) (sym c.find.ensures.number ∙ c.in_default.is)
 
 pub first_failing-requires-clause-offered : goal.first_failing-requires-clause-offered
 first_failing-requires-clause-offered g c =

@@ -1,21 +1,40 @@
-use Rattle.std.proofs.Common.{◌≡◌, ℕ, ◌∙◌, All, Contains, ap, arith, get_or, if◌then◌else◌, subst, suc, sym, take, true}
+use Rattle.std.proofs.Common.{◌≡◌, ℕ, ◌∙◌, All, Contains, ap, arith, get_or, if◌then◌else◌, length, subst, suc, sym, take, true}
 use borrow.Author.Count.{below_more}
 use Rattle.ad_tree.specs.Ad.{ad_frames}
 use Rattle.ad_store.specs.Store.{stock_of}
 use Rattle.eval_scope.specs.Shown.{world_of}
 use Rattle.eval_scope.specs.World.{PlainWorld}
 use Rattle.bilateral_match.specs.Docks.{is_last_decided, last_ad}
-use Rattle.bilateral_match.proofs.DockingLemmas.{ad-looked, dock-next, last-docked}
+use Rattle.bilateral_match.proofs.DockingLemmas.{ad-looked, dock-next, docked-few, last-docked}
 use Rattle.bilateral_match.proofs.SmallLemmas.{slots-small}
 use Rattle.claim_table.specs.Claims.{entered_in, passes, world_at}
 use Rattle.claim_table.specs.Table.{jobs_of}
-use Rattle.claim_table.proofs.FailingLemmas.{all-pass, counted-most, counted-within, docked-at, first-found, upto-next}
+use Rattle.claim_table.proofs.FailingLemmas.{all-pass, counted-most, counted-within, docked-at, docked-ports, docked-request, docked-some, first-found, upto-next}
 use Rattle.claim_table.proofs.table.ClaimTable.first_failing.Goals as goal
 
 pub look-ad-requires : goal.look-ad-requires
 look-ad-requires g c =
     let all = subst (All (Contains (stock_of c.args.store.now).slots)) (sym c.offer-slots.ensures) c.requires.offered in
     all c.loop-slot.slot-index 0 c.loop-slot-test.true
+
+pub dock-requires : goal.dock-requires
+dock-requires g c =
+    let slots = c.offer-slots.result.now in
+    let few = ap {B = ℕ} length c.offer-slots.ensures in
+    docked-few c.args.moment (stock_of c.args.store.now) c.args.job.now.request slots c.loop-slot.slot-index (world_of c.loop-slot.world) c.loop-slot.invariant.world c.loop-slot-test.true (omega (arith, few, c.requires.few))
+
+pub passes-requires-clause-request : goal.passes-requires-clause-request
+passes-requires-clause-request g c =
+    let slots = take c.loop-slot.slot-index c.offer-slots.result.now in
+    docked-request c.args.moment (stock_of c.args.store.now) c.args.job.now.request slots (world_of c.loop-slot.world) (world_of c.dock.new.self) (ad_frames c.look-ad.result.now) c.loop-slot.invariant.world c.dock.ensures
+
+pub passes-requires-clause-ports : goal.passes-requires-clause-ports
+passes-requires-clause-ports g c =
+    let slots = take c.loop-slot.slot-index c.offer-slots.result.now in
+    docked-ports c.args.moment (stock_of c.args.store.now) c.args.job.now.request slots (world_of c.loop-slot.world) (world_of c.dock.new.self) (ad_frames c.look-ad.result.now) c.loop-slot.invariant.world c.dock.ensures
+
+pub passes-requires-clause-docked : goal.passes-requires-clause-docked
+passes-requires-clause-docked g c = docked-some (world_of c.loop-slot.world) (world_of c.dock.new.self) (ad_frames c.look-ad.result.now) c.dock.ensures
 
 pub passes-requires-clause-last : goal.passes-requires-clause-last
 passes-requires-clause-last g c = ap last_ad c.dock.ensures ∙ last-docked (world_of c.loop-slot.world) (ad_frames c.look-ad.result.now)

@@ -1,12 +1,17 @@
-use Rattle.std.proofs.Common.{arith}
+use Rattle.std.proofs.Common.{◌∙◌, ap, arith, not}
 use Rattle.ad_store.specs.Store.{stock_of}
+use Rattle.eval_scope.specs.Shown.{world_of}
 use Rattle.bilateral_match.proofs.MemberWeighLemmas.{holder-stands, holder-stored}
 use Rattle.bilateral_match.proofs.SmallLemmas.{holder-small}
 use Rattle.claim_table.specs.Holders.{holder_of}
 use Rattle.claim_table.specs.Table.{jobs_of}
-use Rattle.claim_table.proofs.PassingLemmas.{holders-stored}
+use Rattle.claim_table.proofs.PassingLemmas.{holders-stored, unclaimed-won}
 use Rattle.claim_table.proofs.SmallLemmas.{holders-small}
 use Rattle.claim_table.proofs.table.ClaimTable.wins.Goals as goal
+
+pub returns-then-is_none-clause-won : goal.returns-then-is_none-clause-won
+returns-then-is_none-clause-won g c =
+    unclaimed-won c.args.moment (stock_of c.args.store.now) (jobs_of c.args.self.now) c.args.slot (world_of c.args.world.now) c.holder-holder.result (c.is_none.ensures ∙ ap not c.if-is_none.true) c.holder-holder.ensures.who
 
 pub is_won-requires-clause-stored : goal.is_won-requires-clause-stored
 is_won-requires-clause-stored g c =

@@ -1,10 +1,10 @@
 use Rattle.std.proofs.Common.{◌≡◌, ◌∙◌, ◌∷◌, ◌++◌, [], ap, bytes_eq, cond, false, map, subst, sym}
 use Rattle.std.specs.List.{list_any}
 use Rattle.claim_table.proofs.ListLemmas.{map-push}
-use Rattle.claim_table.proofs.table.enter.Goals as goal
+use Rattle.claim_table.proofs.table.add_name.Goals as goal
 
-pub returns-clause-names : goal.returns-clause-names
-returns-clause-names c =
+pub returns-clause-ok : goal.returns-clause-ok
+returns-clause-ok c =
     let keys = c.args.names.now.keys in
     let key = c.in_ok-key.key in
     let new : list_any (λ k. bytes_eq key.items k.items) keys ≡ false = subst (λ n. list_any (λ k. bytes_eq n k.items) keys ≡ false) (sym c.in_ok-key.ensures.items) c.requires in

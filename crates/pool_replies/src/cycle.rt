@@ -1,25 +1,29 @@
 // The text of a negotiation cycle.
-ghost use Rattle.std.specs.Prelude.{◌≡◌, ◌≤◌, ◌+◌, ◌^◌, ◌++◌, IfNone, IfOk, IfSome, OnOk, sum_by};
+ghost use Rattle.std.specs.Prelude.{◌≡◌, ◌≤◌, ◌+◌, ◌^◌, ◌++◌, codes, decimal, IfNone, IfSome, OnOk, sum_by};
+ghost use Rattle.std.specs.List.{flat_map};
 ghost use Rattle.pool_replies.specs.Cycles as texts;
 
-use crate::writing::append_names;
+use crate::writing::{append_amount, append_amount_line, append_name, append_names_line};
 use crate::{OfferRow, SpinRow, SpinRows, TurnRow};
-use pool_text::{OutOfMemory, Text, append_count};
-use std::alloc::Global;
+use pool_text::{OutOfMemory, Text};
 use std::convert::AsSlice;
 
-/// The lines of a cycle: those of each spin, and how many offers there are.
-pub(crate) fn print_cycle(alloc: Global, spins: &SpinRows) -> Result<Text, OutOfMemory>
-    ensures { IfOk result (λ t. t ≡ texts.cycle_text spins.now) }
+/// Appends the lines of a cycle: those of each spin, and how many offers there are.
+pub(crate) fn append_cycle(out: &mut Text, spins: &SpinRows) -> Result<(), OutOfMemory>
+    ensures { OnOk result (out.new ≡ out.old ++ texts.cycle_text spins.now) }
 {
-    let mut text = Text::new(alloc);
-    append_spins(&mut text, spins.as_slice())?;
-    // More offers than 64 bits count have no room in memory.
-    let offers = offers_of_spins(spins.as_slice()).ok_or(OutOfMemory)?;
-    text.append(b"offers ")?;
-    append_count(&mut text, offers)?;
-    text.append(b"\n")?;
-    Ok(text)
+    append_spins(out, spins.as_slice())?;
+    append_total(out, spins.as_slice())
+}
+
+// More offers than 64 bits count have no room in memory.
+fn append_total(out: &mut Text, spins: &[SpinRow]) -> Result<(), OutOfMemory>
+    ensures { OnOk result (out.new ≡ out.old ++ codes "offers " ++ decimal (sum_by texts.offers_of_spin spins.now) ++ codes "\n") }
+{
+    match offers_of_spins(spins) {
+        Some(offers) => append_amount_line(out, b"offers ", offers),
+        None => Err(OutOfMemory),
+    }
 }
 
 fn append_spins(out: &mut Text, spins: &[SpinRow]) -> Result<(), OutOfMemory>
@@ -34,12 +38,15 @@ fn append_spins(out: &mut Text, spins: &[SpinRow]) -> Result<(), OutOfMemory>
 fn append_spin(out: &mut Text, number: u64, spin: &SpinRow) -> Result<(), OutOfMemory>
     ensures { OnOk result (out.new ≡ out.old ++ texts.spin_text number spin.now) }
 {
-    out.append(b"spin ")?;
-    append_count(out, number)?;
-    out.append(b" free ")?;
-    append_count(out, spin.free)?;
-    out.append(b"\n")?;
-    for turn in spin.turns.as_slice() {
+    append_amount(out, b"spin ", number)?;
+    append_amount_line(out, b" free ", spin.free)?;
+    append_turns(out, spin.turns.as_slice())
+}
+
+fn append_turns(out: &mut Text, turns: &[TurnRow]) -> Result<(), OutOfMemory>
+    ensures { OnOk result (out.new ≡ out.old ++ flat_map texts.turn_text turns.now) }
+{
+    for turn in turns {
         append_turn(out, turn)?;
     }
     Ok(())
@@ -51,11 +58,8 @@ fn append_turn(out: &mut Text, turn: &TurnRow) -> Result<(), OutOfMemory>
     if turn.offers.len() == 0 {
         return Ok(());
     }
-    out.append(b"slice ")?;
-    out.append(turn.user.bytes())?;
-    out.append(b" ")?;
-    append_count(out, turn.slice)?;
-    out.append(b"\n")?;
+    append_name(out, b"slice ", turn.user.bytes())?;
+    append_amount_line(out, b" ", turn.slice)?;
     append_offers(out, turn.user.bytes(), turn.offers.as_slice())
 }
 
@@ -71,12 +75,9 @@ fn append_offers(out: &mut Text, user: &[u8], offers: &[OfferRow]) -> Result<(),
 fn append_offer(out: &mut Text, user: &[u8], offer: &OfferRow) -> Result<(), OutOfMemory>
     ensures { OnOk result (out.new ≡ out.old ++ texts.offer_line user.now offer.now) }
 {
-    out.append(b"offer ")?;
-    out.append(offer.job.bytes())?;
-    out.append(b" ")?;
-    out.append(user)?;
-    append_names(out, &offer.names)?;
-    out.append(b"\n")
+    append_name(out, b"offer ", offer.job.bytes())?;
+    append_name(out, b" ", user)?;
+    append_names_line(out, &offer.names)
 }
 
 /// How many offers the spins made, where 64 bits count them.

@@ -1,16 +1,15 @@
 // Why a command is refused, and the line that says so.
-ghost use Rattle.std.specs.Prelude.{◌≡◌, IfOk, IsTrue};
+ghost use Rattle.std.specs.Prelude.{◌≡◌, ◌++◌, IsTrue, OnOk};
 ghost use Rattle.pool_replies.specs.Refusals as texts;
 
-use crate::writing::{print_line, print_name};
+use crate::writing::{append_amount, append_amount_line, append_name_line};
 use ad_lexer::LexKind;
 use ad_parser::ParseFault;
 use claim_table::JobState;
-use pool_text::{OutOfMemory, Text, append_count};
-use std::alloc::Global;
+use pool_text::{OutOfMemory, Text};
 
 /// What there is no room for.
-#[derive(Clone, Copy, PartialEq, Eq)]
+#[derive(Clone, Copy)]
 pub enum Room {
     Ads,
     AdText,
@@ -42,81 +41,77 @@ pub enum Refusal {
     BadPorts,
 }
 
-/// The line of a refusal.
+/// Appends the line of a refusal.
 #[tactic(auto, unfolding(crate::specs::Refusals::refusal_text, crate::specs::Refusals::is_printable_refusal))]
-pub(crate) fn print_refusal(alloc: Global, refusal: &Refusal) -> Result<Text, OutOfMemory>
+pub(crate) fn append_refusal(out: &mut Text, refusal: &Refusal) -> Result<(), OutOfMemory>
     requires { IsTrue (texts.is_printable_refusal refusal.now) }
-    ensures { IfOk result (λ t. t ≡ texts.refusal_text refusal.now) }
+    ensures { OnOk result (out.new ≡ out.old ++ texts.refusal_text refusal.now) }
 {
     match refusal {
-        Refusal::Line(number) => print_line_refusal(alloc, *number),
-        Refusal::AdText(fault) => print_fault(alloc, *fault),
-        Refusal::ClockBack => print_line(alloc, b"refused 7 clock goes back"),
-        Refusal::UnknownName => print_line(alloc, b"refused 8 name not known"),
-        Refusal::NameInUse => print_line(alloc, b"refused 9 name in use"),
-        Refusal::Full(room) => print_room(alloc, *room),
-        Refusal::WrongState(state) => print_state(alloc, *state),
-        Refusal::Stale(name) => print_name(alloc, b"refused 12 stale ", name.bytes()),
-        Refusal::BadPorts => print_line(alloc, b"refused 13 bad ports"),
+        Refusal::Line(number) => append_line_refusal(out, *number),
+        Refusal::AdText(fault) => append_fault(out, *fault),
+        Refusal::ClockBack => out.append(b"refused 7 clock goes back\n"),
+        Refusal::UnknownName => out.append(b"refused 8 name not known\n"),
+        Refusal::NameInUse => out.append(b"refused 9 name in use\n"),
+        Refusal::Full(room) => append_room(out, *room),
+        Refusal::WrongState(state) => append_state(out, *state),
+        Refusal::Stale(name) => append_name_line(out, b"refused 12 stale ", name.bytes()),
+        Refusal::BadPorts => out.append(b"refused 13 bad ports\n"),
     }
 }
 
 #[tactic(auto, unfolding(crate::specs::Refusals::line_refusal))]
-fn print_line_refusal(alloc: Global, number: u8) -> Result<Text, OutOfMemory>
-    ensures { IfOk result (λ t. t ≡ texts.line_refusal number) }
+fn append_line_refusal(out: &mut Text, number: u8) -> Result<(), OutOfMemory>
+    ensures { OnOk result (out.new ≡ out.old ++ texts.line_refusal number) }
 {
     match number {
-        1 => print_line(alloc, b"refused 1 line too long"),
-        2 => print_line(alloc, b"refused 2 unknown command"),
-        3 => print_line(alloc, b"refused 3 wrong words"),
-        4 => print_line(alloc, b"refused 4 block not ended"),
-        _ => print_line(alloc, b"refused 5 block too long"),
+        1 => out.append(b"refused 1 line too long\n"),
+        2 => out.append(b"refused 2 unknown command\n"),
+        3 => out.append(b"refused 3 wrong words\n"),
+        4 => out.append(b"refused 4 block not ended\n"),
+        _ => out.append(b"refused 5 block too long\n"),
     }
 }
 
-fn print_room(alloc: Global, room: Room) -> Result<Text, OutOfMemory>
-    ensures { IfOk result (λ t. t ≡ texts.room_text room) }
+fn append_room(out: &mut Text, room: Room) -> Result<(), OutOfMemory>
+    ensures { OnOk result (out.new ≡ out.old ++ texts.room_text room) }
 {
     match room {
-        Room::Ads => print_line(alloc, b"refused 10 too many ads"),
-        Room::AdText => print_line(alloc, b"refused 10 too much ad text"),
-        Room::Jobs => print_line(alloc, b"refused 10 too many jobs"),
-        Room::JobText => print_line(alloc, b"refused 10 too much job text"),
-        Room::Users => print_line(alloc, b"refused 10 too many users"),
+        Room::Ads => out.append(b"refused 10 too many ads\n"),
+        Room::AdText => out.append(b"refused 10 too much ad text\n"),
+        Room::Jobs => out.append(b"refused 10 too many jobs\n"),
+        Room::JobText => out.append(b"refused 10 too much job text\n"),
+        Room::Users => out.append(b"refused 10 too many users\n"),
     }
 }
 
-fn print_state(alloc: Global, state: JobState) -> Result<Text, OutOfMemory>
-    ensures { IfOk result (λ t. t ≡ texts.state_text state) }
+fn append_state(out: &mut Text, state: JobState) -> Result<(), OutOfMemory>
+    ensures { OnOk result (out.new ≡ out.old ++ texts.state_text state) }
 {
     match state {
-        JobState::Idle => print_line(alloc, b"refused 11 job is idle"),
-        JobState::Matched => Ok(Text::new(alloc)),
-        JobState::Claimed => print_line(alloc, b"refused 11 job is claimed"),
+        JobState::Idle => out.append(b"refused 11 job is idle\n"),
+        JobState::Matched => Ok(()),
+        JobState::Claimed => out.append(b"refused 11 job is claimed\n"),
     }
 }
 
-fn print_fault(alloc: Global, fault: ParseFault) -> Result<Text, OutOfMemory>
-    ensures { IfOk result (λ t. t ≡ texts.fault_text fault) }
+fn append_fault(out: &mut Text, fault: ParseFault) -> Result<(), OutOfMemory>
+    ensures { OnOk result (out.new ≡ out.old ++ texts.fault_text fault) }
 {
     match fault {
-        ParseFault::Lex { kind, place } => print_lexical(alloc, kind, place),
-        ParseFault::Nesting => print_line(alloc, b"refused 6 nesting"),
-        ParseFault::Grammar => print_line(alloc, b"refused 6 grammar"),
-        ParseFault::Depth => print_line(alloc, b"refused 6 depth"),
-        ParseFault::Frames => print_line(alloc, b"refused 6 frames"),
-        ParseFault::Attributes => print_line(alloc, b"refused 6 attributes"),
-        ParseFault::OutOfMemory => Ok(Text::new(alloc)),
+        ParseFault::Lex { kind, place } => append_lexical(out, kind, place),
+        ParseFault::Nesting => out.append(b"refused 6 nesting\n"),
+        ParseFault::Grammar => out.append(b"refused 6 grammar\n"),
+        ParseFault::Depth => out.append(b"refused 6 depth\n"),
+        ParseFault::Frames => out.append(b"refused 6 frames\n"),
+        ParseFault::Attributes => out.append(b"refused 6 attributes\n"),
+        ParseFault::OutOfMemory => Ok(()),
     }
 }
 
-fn print_lexical(alloc: Global, kind: LexKind, place: u32) -> Result<Text, OutOfMemory>
-    ensures { IfOk result (λ t. t ≡ texts.lexical_text kind place) }
+fn append_lexical(out: &mut Text, kind: LexKind, place: u32) -> Result<(), OutOfMemory>
+    ensures { OnOk result (out.new ≡ out.old ++ texts.lexical_text kind place) }
 {
-    let mut text = Text::from_bytes(alloc, b"refused 6 lexical ")?;
-    append_count(&mut text, u64::from(kind.number()))?;
-    text.append(b" at ")?;
-    append_count(&mut text, u64::from(place))?;
-    text.append(b"\n")?;
-    Ok(text)
+    append_amount(out, b"refused 6 lexical ", u64::from(kind.number()))?;
+    append_amount_line(out, b" at ", u64::from(place))
 }

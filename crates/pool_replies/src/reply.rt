@@ -1,14 +1,16 @@
 // The replies of the pool, and the text of each.
-ghost use Rattle.std.specs.Prelude.{◌≡◌, ◌≤◌, ◌^◌, ◌++◌, ◌∷◌, [], codes, decimal, length, IfNone, IfOk, IfSome, OnOk, IsTrue};
-ghost use Rattle.std.specs.Fmt.{signed_decimal};
+ghost use Rattle.std.specs.Prelude.{◌≡◌, ◌≤◌, ◌^◌, ◌++◌, codes, decimal, IfNone, IfOk, IfSome, OnOk, IsTrue};
 ghost use Rattle.std.specs.List.{flat_map};
 ghost use Rattle.pool_replies.specs.Replies as texts;
 
-use crate::cycle::{offers_of_spins, print_cycle};
-use crate::refusal::print_refusal;
-use crate::writing::{append_names, print_line, print_name};
+use crate::cycle::{append_cycle, offers_of_spins};
+use crate::refusal::append_refusal;
+use crate::writing::{
+    append_amount, append_amount_line, append_line, append_name, append_name_line, append_names,
+    append_names_line,
+};
 use crate::{AdRow, AdRows, HitRow, HitRows, Refusal, SpinRows};
-use pool_text::{Names, OutOfMemory, Text, append_count, append_number};
+use pool_text::{Names, OutOfMemory, Text, append_number};
 use std::alloc::Global;
 use std::convert::AsSlice;
 
@@ -98,111 +100,115 @@ pub fn offers(reply: &Reply) -> Option<u64>
 }
 
 /// The lines of a reply, each with its line feed.
-#[tactic(auto, unfolding(crate::specs::Replies::reply_text, crate::specs::Replies::is_printable))]
 pub fn print_reply(alloc: Global, reply: &Reply) -> Result<Text, OutOfMemory>
     requires { IsTrue (texts.is_printable reply.now) }
     ensures { IfOk result (λ t. t ≡ texts.reply_text reply.now) }
 {
+    let mut text = Text::new(alloc);
+    append_reply(&mut text, reply)?;
+    Ok(text)
+}
+
+#[tactic(auto, unfolding(crate::specs::Replies::reply_text, crate::specs::Replies::is_printable))]
+fn append_reply(out: &mut Text, reply: &Reply) -> Result<(), OutOfMemory>
+    requires { IsTrue (texts.is_printable reply.now) }
+    ensures { OnOk result (out.new ≡ out.old ++ texts.reply_text reply.now) }
+{
     match reply {
-        Reply::Clock { moment, expired } => print_clock(alloc, *moment, *expired),
-        Reply::Advertised(name) => print_name(alloc, b"advertised ", name.bytes()),
-        Reply::Replaced(name) => print_name(alloc, b"replaced ", name.bytes()),
-        Reply::Withdrawn(name) => print_name(alloc, b"withdrawn ", name.bytes()),
-        Reply::Shown(text) => print_line(alloc, text.bytes()),
-        Reply::Ads(rows) => print_ads(alloc, rows),
-        Reply::Evaluated(text) => print_line(alloc, text.bytes()),
-        Reply::Hits(rows) => print_hits(alloc, rows),
-        Reply::Submitted(job) => print_name(alloc, b"submitted ", job.bytes()),
-        Reply::Removed(job) => print_name(alloc, b"removed ", job.bytes()),
-        Reply::Priority { user, n } => print_priority(alloc, user.bytes(), *n),
-        Reply::Gang(names) => print_gang(alloc, names),
-        Reply::NoGang => print_line(alloc, b"gang none"),
-        Reply::Cycle(spins) => print_cycle(alloc, spins),
+        Reply::Clock { moment, expired } => append_clock(out, *moment, *expired),
+        Reply::Advertised(name) => append_name_line(out, b"advertised ", name.bytes()),
+        Reply::Replaced(name) => append_name_line(out, b"replaced ", name.bytes()),
+        Reply::Withdrawn(name) => append_name_line(out, b"withdrawn ", name.bytes()),
+        Reply::Shown(text) => append_line(out, text.bytes()),
+        Reply::Ads(rows) => append_ads(out, rows),
+        Reply::Evaluated(text) => append_line(out, text.bytes()),
+        Reply::Hits(rows) => append_hits(out, rows),
+        Reply::Submitted(job) => append_name_line(out, b"submitted ", job.bytes()),
+        Reply::Removed(job) => append_name_line(out, b"removed ", job.bytes()),
+        Reply::Priority { user, n } => append_priority(out, user.bytes(), *n),
+        Reply::Gang(names) => append_gang(out, names),
+        Reply::NoGang => out.append(b"gang none\n"),
+        Reply::Cycle(spins) => append_cycle(out, spins),
         Reply::Claimed {
             job,
             names,
             preempted,
-        } => print_claimed(alloc, job.bytes(), names, preempted),
-        Reply::Released(job) => print_name(alloc, b"released ", job.bytes()),
-        Reply::Unlistened(name) => print_name(alloc, b"unlistened ", name.bytes()),
-        Reply::Refused(refusal) => print_refusal(alloc, refusal),
+        } => append_claimed(out, job.bytes(), names, preempted),
+        Reply::Released(job) => append_name_line(out, b"released ", job.bytes()),
+        Reply::Unlistened(name) => append_name_line(out, b"unlistened ", name.bytes()),
+        Reply::Refused(refusal) => append_refusal(out, refusal),
     }
 }
 
-fn print_clock(alloc: Global, moment: u64, expired: u64) -> Result<Text, OutOfMemory>
-    ensures { IfOk result (λ t. t ≡ texts.clock_text moment expired) }
+fn append_clock(out: &mut Text, moment: u64, expired: u64) -> Result<(), OutOfMemory>
+    ensures { OnOk result (out.new ≡ out.old ++ texts.clock_text moment expired) }
 {
-    let mut text = Text::from_bytes(alloc, b"clock ")?;
-    append_count(&mut text, moment)?;
-    text.append(b" expired ")?;
-    append_count(&mut text, expired)?;
-    text.append(b"\n")?;
-    Ok(text)
+    append_amount(out, b"clock ", moment)?;
+    append_amount_line(out, b" expired ", expired)
 }
 
-fn print_priority(alloc: Global, user: &[u8], n: u64) -> Result<Text, OutOfMemory>
-    ensures { IfOk result (λ t. t ≡ texts.priority_text user.now n) }
+fn append_priority(out: &mut Text, user: &[u8], n: u64) -> Result<(), OutOfMemory>
+    ensures { OnOk result (out.new ≡ out.old ++ texts.priority_text user.now n) }
 {
-    let mut text = Text::from_bytes(alloc, b"priority ")?;
-    text.append(user)?;
-    text.append(b" ")?;
-    append_count(&mut text, n)?;
-    text.append(b"\n")?;
-    Ok(text)
+    append_name(out, b"priority ", user)?;
+    append_amount_line(out, b" ", n)
 }
 
-fn print_gang(alloc: Global, names: &Names) -> Result<Text, OutOfMemory>
-    ensures { IfOk result (λ t. t ≡ texts.gang_text names.now) }
+fn append_gang(out: &mut Text, names: &Names) -> Result<(), OutOfMemory>
+    ensures { OnOk result (out.new ≡ out.old ++ texts.gang_text names.now) }
 {
-    let mut text = Text::from_bytes(alloc, b"gang")?;
-    append_names(&mut text, names)?;
-    text.append(b"\n")?;
-    Ok(text)
+    out.append(b"gang")?;
+    append_names_line(out, names)
 }
 
-fn print_claimed(
-    alloc: Global,
+fn append_claimed(
+    out: &mut Text,
     job: &[u8],
     names: &Names,
     preempted: &Names,
-) -> Result<Text, OutOfMemory>
-    ensures { IfOk result (λ t. t ≡ texts.claimed_text job.now names.now preempted.now) }
+) -> Result<(), OutOfMemory>
+    ensures { OnOk result (out.new ≡ out.old ++ texts.claimed_text job.now names.now preempted.now) }
 {
-    let mut text = Text::from_bytes(alloc, b"claimed ")?;
-    text.append(job)?;
-    append_names(&mut text, names)?;
-    text.append(b"\n")?;
-    for loser in preempted.as_slice() {
-        text.append(b"preempted ")?;
-        text.append(loser.bytes())?;
-        text.append(b"\n")?;
-    }
-    Ok(text)
+    append_name(out, b"claimed ", job)?;
+    append_names_line(out, names)?;
+    append_losers(out, preempted)
 }
 
-fn print_ads(alloc: Global, rows: &AdRows) -> Result<Text, OutOfMemory>
-    ensures { IfOk result (λ t. t ≡ texts.ads_text rows.now) }
+fn append_losers(out: &mut Text, preempted: &Names) -> Result<(), OutOfMemory>
+    ensures { OnOk result (out.new ≡ out.old ++ flat_map (λ loser. texts.name_line (codes "preempted ") loser) preempted.now) }
 {
-    let mut text = Text::from_bytes(alloc, b"ads ")?;
-    append_count(&mut text, rows.len() as u64)?;
-    text.append(b"\n")?;
-    for row in rows.as_slice() {
-        append_ad(&mut text, row)?;
+    for loser in preempted.as_slice() {
+        append_name_line(out, b"preempted ", loser.bytes())?;
     }
-    Ok(text)
+    Ok(())
+}
+
+fn append_ads(out: &mut Text, rows: &AdRows) -> Result<(), OutOfMemory>
+    ensures { OnOk result (out.new ≡ out.old ++ texts.ads_text rows.now) }
+{
+    append_amount_line(out, b"ads ", rows.len() as u64)?;
+    for row in rows.as_slice() {
+        append_ad(out, row)?;
+    }
+    Ok(())
 }
 
 fn append_ad(out: &mut Text, row: &AdRow) -> Result<(), OutOfMemory>
     ensures { OnOk result (out.new ≡ out.old ++ texts.ad_line row.now) }
 {
-    out.append(row.name.bytes())?;
-    out.append(b" ")?;
-    append_count(out, row.born)?;
-    out.append(b" ")?;
-    append_count(out, row.lifetime)?;
-    out.append(b" ")?;
+    append_times(out, row)?;
     append_status(out, &row.claimed, &row.offered)?;
     out.append(b"\n")
+}
+
+// The name of an ad, the moment of its birth and its lifetime.
+fn append_times(out: &mut Text, row: &AdRow) -> Result<(), OutOfMemory>
+    ensures { OnOk result (out.new ≡ out.old ++ row.now.name ++ codes " " ++ decimal row.now.born ++ codes " " ++ decimal row.now.lifetime ++ codes " ") }
+{
+    out.append(row.name.bytes())?;
+    append_amount(out, b" ", row.born)?;
+    append_amount(out, b" ", row.lifetime)?;
+    out.append(b" ")
 }
 
 fn append_status(
@@ -214,39 +220,34 @@ fn append_status(
 {
     match (claimed, offered) {
         (None, None) => out.append(b"free"),
-        (None, Some(job)) => append_job(out, b"offered ", job.bytes()),
-        (Some(job), None) => append_job(out, b"claimed ", job.bytes()),
-        (Some(job), Some(other)) => {
-            append_job(out, b"claimed ", job.bytes())?;
-            append_job(out, b" offered ", other.bytes())
-        }
+        (None, Some(job)) => append_name(out, b"offered ", job.bytes()),
+        (Some(job), None) => append_name(out, b"claimed ", job.bytes()),
+        (Some(job), Some(other)) => append_both(out, job.bytes(), other.bytes()),
     }
 }
 
-fn append_job(out: &mut Text, word: &[u8], job: &[u8]) -> Result<(), OutOfMemory>
-    ensures { OnOk result (out.new ≡ out.old ++ word.now ++ job.now) }
+// An ad that a job claimed and that is offered to another.
+fn append_both(out: &mut Text, job: &[u8], other: &[u8]) -> Result<(), OutOfMemory>
+    ensures { OnOk result (out.new ≡ out.old ++ codes "claimed " ++ job.now ++ codes " offered " ++ other.now) }
 {
-    out.append(word)?;
-    out.append(job)
+    append_name(out, b"claimed ", job)?;
+    append_name(out, b" offered ", other)
 }
 
-fn print_hits(alloc: Global, rows: &HitRows) -> Result<Text, OutOfMemory>
-    ensures { IfOk result (λ t. t ≡ texts.hits_text rows.now) }
+fn append_hits(out: &mut Text, rows: &HitRows) -> Result<(), OutOfMemory>
+    ensures { OnOk result (out.new ≡ out.old ++ texts.hits_text rows.now) }
 {
-    let mut text = Text::from_bytes(alloc, b"hits ")?;
-    append_count(&mut text, rows.len() as u64)?;
-    text.append(b"\n")?;
+    append_amount_line(out, b"hits ", rows.len() as u64)?;
     for row in rows.as_slice() {
-        append_hit(&mut text, row)?;
+        append_hit(out, row)?;
     }
-    Ok(text)
+    Ok(())
 }
 
 fn append_hit(out: &mut Text, row: &HitRow) -> Result<(), OutOfMemory>
     ensures { OnOk result (out.new ≡ out.old ++ texts.hit_line row.now) }
 {
-    out.append(row.name.bytes())?;
-    out.append(b" ")?;
+    append_name(out, row.name.bytes(), b" ")?;
     append_number(out, row.rank)?;
     out.append(b"\n")
 }

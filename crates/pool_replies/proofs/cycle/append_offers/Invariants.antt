@@ -1,5 +1,4 @@
-use Rattle.std.proofs.Common.{◌≡◌, ◌++◌, take, codes}
-use Rattle.std.specs.List.{flat_map}
+use Rattle.std.proofs.Common.{◌≡◌, ◌++◌, take}
 use Rattle.pool_replies.specs.Cycles.{offers_text}
 use Rattle.pool_replies.proofs.cycle.append_offers.Given as goal
 

@@ -1,5 +1,4 @@
-use Rattle.std.proofs.Common.{◌≡◌, ◌++◌, take, codes}
-use Rattle.std.specs.List.{flat_map}
+use Rattle.std.proofs.Common.{◌≡◌, ◌++◌, take}
 use Rattle.pool_replies.specs.Cycles.{with_blanks}
 use Rattle.pool_replies.proofs.writing.append_names.Given as goal
 

@@ -1,7 +1,7 @@
 use Rattle.std.proofs.Common.{◌≡◌, ◌++◌, take, codes}
 use Rattle.std.specs.List.{flat_map}
 use Rattle.pool_replies.specs.Replies.{name_line}
-use Rattle.pool_replies.proofs.reply.print_claimed.Given as goal
+use Rattle.pool_replies.proofs.reply.append_losers.Given as goal
 
 abbrev pub invariant-loop-loser : goal.invariant-loop-loser
-invariant-loop-loser l = l.text ≡ l.initial.text ++ flat_map (λ loser. name_line (codes "preempted ") loser) (take l.loser-index l.preempted)
+invariant-loop-loser l = l.out ≡ l.initial.out ++ flat_map (λ loser. name_line (codes "preempted ") loser) (take l.loser-index l.preempted)

@@ -1,10 +1,11 @@
 -- The frames of a draft: the root, and those behind it.
-use Rattle.std.proofs.Common.{refl, arith, ◌≡◌, ◌≤◌, ◌<◌, ◌-◌, ℕ, zero, suc, List, [], ◌∷◌, ◌++◌, length, get_or, ap, sym, ◌∙◌, None, Some, option_map, slice_get, slice_set, Result, Ok, Err, OnOk, OnErr}
-use Rattle.std.proofs.lemmas.List.{length-map, map-append}
+use Rattle.std.proofs.Common.{refl, arith, ◌≡◌, ◌≤◌, ◌<◌, ◌-◌, ℕ, zero, suc, List, [], ◌∷◌, length, get_or, ap, sym, ◌∙◌, None, Some, option_map, slice_get, slice_set, Result, Ok, Err, OnOk, OnErr}
+use Rattle.std.proofs.lemmas.List.{length-map}
 use Rattle.std.proofs.lemmas.Option.{slice_get_read, slice_get_past, slice_get-map}
 use Rattle.ad_tree.specs.declared.frame.AdFrame.{AdFrame}
 use Rattle.ad_tree.specs.Tree.{Tree}
-use Rattle.ad_tree.specs.Frames.{Frame, defined_in, defined, parent_of}
+use Rattle.ad_tree.specs.Frames.{Frame, attributes_at, attributes_in, defined_in, defined, parent_of}
+use Rattle.ad_tree.specs.Entries.{attributes_of}
 use Rattle.ad_tree.specs.Table.{frame_of, frames_of}
 
 less_one : (f : ℕ) → suc f - 1 ≡ f
@@ -70,6 +71,12 @@ pub on_err : {A E : Type 0} (r : Result A E) {P Q : Type 0} → (P → Q) → On
 on_err (Ok a) f h = h
 on_err (Err e) f h = f h
 
--- a frame is put behind others
-pub frames_of-push : (xs ys : List AdFrame) (y : AdFrame) (f : Frame) → ys ≡ xs ++ y ∷ [] → frame_of y ≡ f → frames_of ys ≡ frames_of xs ++ f ∷ []
-frames_of-push xs ys y f h e = ap frames_of h ∙ map-append frame_of xs (y ∷ []) ∙ ap (λ g. frames_of xs ++ g ∷ []) e
+pub told_on_err : {A E : Type 0} (r : Result A E) {P : Type 0} → P → OnErr r P
+told_on_err (Ok a) h = tt
+told_on_err (Err e) h = h
+
+-- the attributes of a frame of an ad are read in the frame
+pub attributes-read : (fs : List AdFrame) (f : ℕ) (x : AdFrame) → f < length (frames_of fs) → x ≡ get_or fs f x → attributes_at (frames_of fs) f ≡ attributes_of x.attributes.entries
+attributes-read fs f x h e =
+    ap attributes_in (slice_get-map frame_of fs f
+    ∙ ap (option_map frame_of) (slice_get_read fs (length (frames_of fs)) f x (length-map fs frame_of) h e))

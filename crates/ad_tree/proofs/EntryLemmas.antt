@@ -1,8 +1,7 @@
 -- A frame's entries and its attributes: what the map does under the folded names is done under the names.
-use Rattle.std.proofs.Common.{refl, arith, ◌≡◌, ◌≤◌, ◌<◌, ℕ, zero, suc, ◌+◌, List, [], ◌∷◌, ◌++◌, length, map, take, drop, get_or, Bool, true, false, not, cond, ap, sym, ◌∙◌, None, Some, position, nat_lt, nat_eq, slice_get, slice_set, Vec, Result, Ok, Err, OnOk, OnErr, IsTrue, inl, inr, ◌⊎◌}
+use Rattle.std.proofs.Common.{refl, arith, ◌≡◌, ◌≤◌, ℕ, zero, suc, ◌+◌, List, [], ◌∷◌, length, map, Bool, true, false, not, cond, ap, sym, ◌∙◌, None, Some, position, nat_lt, nat_eq, slice_get, Vec, Result, Ok, Err, OnOk, OnErr, IsTrue, inl, inr, ◌⊎◌}
 use Rattle.std.specs.Cmp.Lexicographic.{pointwise}
 use Rattle.std.specs.List.{prefix_len}
-use Rattle.std.specs.Char.{to_ascii_lowercase}
 use Rattle.std.specs.Map.{keys_of}
 use Rattle.std.specs.declared.alloc.Global.{Global}
 use Rattle.std.proofs.lemmas.Bool.Decides.{Decides-eqb}
@@ -113,13 +112,6 @@ pub attribute-at : (es : List Entry) (k : ℕ) (a : Attribute) → slice_get (ma
 attribute-at [] k a h = absurd (cc)
 attribute-at (e ∷ es) zero a h = let same : e.1 ≡ a = cc in ap (λ b. Some (attribute_of b)) same
 attribute-at (e ∷ es) (suc k) a h = attribute-at es k a h
-
--- one byte more is folded
-pub folded-step : (s : List ℕ) (i : ℕ) → i < length s
-    → slice_set (folded (take i s) ++ drop i s) i (to_ascii_lowercase (get_or (folded (take i s) ++ drop i s) i 0)) ≡ folded (take (suc i) s) ++ drop (suc i) s
-folded-step [] i h = absurd (omega (arith, h))
-folded-step (x ∷ xs) zero h = refl
-folded-step (x ∷ xs) (suc i) h = ap (λ rest. to_ascii_lowercase x ∷ rest) (folded-step xs i (omega (arith, h)))
 
 -- the names of each frame of a list are apart
 pub apart-frames : (fs : List AdFrame) (f : ℕ) → IsTrue (are_apart (names_in (frames_of fs) f))

@@ -1,15 +1,16 @@
 -- What a finished draft is: its spelled tree in the numbering of the opening brackets.
-use Rattle.std.proofs.Common.{◌≡◌, ℕ, zero, suc, List, [], ◌∷◌, ◌++◌, length, map, ap, sym, ◌∙◌, subst, IsTrue, Result, Ok, Err, IfOk}
+use Rattle.std.proofs.Common.{refl, ◌≡◌, ℕ, zero, suc, List, [], ◌∷◌, ◌++◌, length, map, ap, sym, ◌∙◌, subst, IsTrue, Result, Ok, Err, IfOk}
 use Rattle.ad_tree.specs.declared.frame.AdFrame.{AdFrame}
 use Rattle.ad_tree.specs.Tree.{Tree}
 use Rattle.ad_tree.specs.Names.{are_apart}
 use Rattle.ad_tree.specs.Frames.{Frame, empty_frame, names_in, settled_frame, IsAd}
-use Rattle.ad_tree.specs.Inline.{Inline, frames, number, inlined, inside, opened, spelled, spelled_tree}
+use Rattle.ad_tree.specs.Inline.{Inline, frames, number, inlined, defs_of, inside, opened, spelled, spelled_tree}
 use Rattle.ad_tree.specs.Phrases.{IsPhrase}
-use Rattle.ad_tree.specs.Placed.{IsPlaced}
+use Rattle.ad_tree.specs.Placed.{IsPlaced, HasDefined}
 use Rattle.ad_tree.specs.Table.{frame_of, frames_of}
 use Rattle.ad_tree.proofs.AdLemmas.{IsAd-frames, IsAd-phrase, inside-apart, spelled_tree-apart}
 use Rattle.ad_tree.proofs.EntryLemmas.{apart-frames}
+use Rattle.ad_tree.proofs.PlacedLemmas.{defined-placed}
 use Rattle.ad_tree.proofs.SpellingLemmas.{settled_frame-frames, spelled_tree-frames}
 
 -- the names of each frame of a draft are apart
@@ -40,6 +41,11 @@ module _ (fs : List Frame) (apart : (f : ℕ) → IsTrue (are_apart (names_in fs
       placed.copied
       ∙ ap (λ gs. number (length gs) (inlined (inside fs n) t)) new
       ∙ ap (λ m. number 1 (inlined (inside fs m) t)) all
+
+-- the root's definitions, copied into a new draft
+pub finished_root : (root : Frame) (fs : List Frame) → ((f : ℕ) → IsTrue (are_apart (names_in (root ∷ fs) f))) → (n : ℕ) → n ≡ length fs → {after : List Frame}
+    → HasDefined 0 (defs_of (inside (root ∷ fs) n) root.attributes) [] after → after ≡ frames 0 0 (spelled (root ∷ fs))
+finished_root root fs apart n all h = finished (root ∷ fs) apart (suc n) (ap suc all) refl (defined-placed h)
 
 -- an expression and an ad that are numbered together are an expression that stands alone
 pub numbered_phrase : (x : Inline) {fs : List Frame} {t : Tree} → fs ≡ empty_frame 0 ∷ frames 0 1 x → t ≡ number 1 x → IsPhrase fs t

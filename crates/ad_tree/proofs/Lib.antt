@@ -8,6 +8,7 @@ pub mod Measures
 mod NameLemmas
 mod OrderLemmas
 pub mod PlacedLemmas
+pub mod ReadLemmas
 pub mod SpellingLemmas
 pub mod TreeLemmas
 mod WalkLemmas

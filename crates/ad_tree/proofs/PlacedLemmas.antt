@@ -1,9 +1,9 @@
 -- How copies of parts make up the copy of a whole, for whatever walks over a tree and fills an ad.
-use Rattle.std.proofs.Common.{refl, arith, ◌≡◌, ℕ, suc, ◌+◌, List, [], ◌∷◌, ◌++◌, length, map, ap, sym, ◌∙◌, length-append, append_assoc, slice_set}
+use Rattle.std.proofs.Common.{refl, arith, ◌≡◌, ◌≤◌, ℕ, suc, ◌+◌, List, [], ◌∷◌, ◌++◌, length, map, ap, sym, ◌∙◌, subst, length-append, append_assoc}
 use Rattle.std.proofs.lemmas.List.{append-nil, map-append, length-map}
 use Rattle.ad_tree.specs.Tree.{Label, Tree, node, frame, Trees, none, more}
 use Rattle.ad_tree.specs.Frames.{Frame, empty_frame, defined_in, defined, put_attribute, put_all, settled_frame}
-use Rattle.ad_tree.specs.Inline.{Inline, shape, inner, Inlines, end, next, Defs, no_defs, count, count_all, count_defs, number, number_all, attributes_from, frames, frames_all, frames_in}
+use Rattle.ad_tree.specs.Inline.{Inline, shape, inner, Inlines, end, next, Defs, no_defs, count, count_all, count_defs, number, number_all, attributes_from, frames, frames_all, frames_in, inlined, inlined_all}
 use Rattle.ad_tree.specs.Placed.{IsPlaced, AreAllPlaced, AreDefinitionsPlaced, HasDefined}
 use Rattle.ad_tree.proofs.AttributeLemmas.{put_all-push}
 use Rattle.ad_tree.proofs.InlineLemmas.{length-frames, length-frames_all, length-frames_in, more_last, next_last, def_last, number_all-last, attributes_from-last, frames_all-last, frames_in-last}
@@ -14,6 +14,9 @@ module _ {p : ℕ} where
   length-placed {i} {t} {before} {after} h =
       ap length h.opened ∙ length-append before (map settled_frame (frames p (length before) i))
       ∙ ap (λ n. length before + n) (length-map (frames p (length before) i) settled_frame ∙ length-frames p (length before) i)
+
+  pub longer-placed : {i : Inline} {t : Tree} {before after : List Frame} → IsPlaced p i t before after → length before ≤ length after
+  longer-placed h = omega (arith, length-placed h)
 
   pub length-all_placed : {is : Inlines} {ts : Trees} {before after : List Frame} → AreAllPlaced p is ts before after → length after ≡ length before + count_all is
   length-all_placed {is} {ts} {before} {after} h =
@@ -93,29 +96,9 @@ module _ {parent p : ℕ} where
         ∙ ap (map settled_frame) (sym (frames_in-last p (length before) ds name i)));
   }
 
--- a write to the frame behind those that were there
-pub set-behind : (before after : List Frame) (e f : Frame) → slice_set (before ++ e ∷ after) (length before) f ≡ before ++ f ∷ after
-set-behind [] after e f = refl
-set-behind (b ∷ bs) after e f = ap (λ fs. b ∷ fs) (set-behind bs after e f)
-
 -- a new frame with no definitions
 pub empty-placed : (parent : ℕ) (before : List Frame) → IsPlaced parent (inner no_defs) (frame (length before)) before (before ++ empty_frame parent ∷ [])
 empty-placed parent before = record { copied = refl; opened = refl }
-
--- a new frame whose definitions are placed behind it, and which is then put in its place
-pub frame-placed : (parent : ℕ) {ds : Defs} {f : Frame} {before after : List Frame}
-    → AreDefinitionsPlaced parent (length before) ds f (before ++ empty_frame parent ∷ []) after
-    → IsPlaced parent (inner ds) (frame (length before)) before (slice_set after (length before) f)
-frame-placed parent {ds} {f} {before} {after} h = record {
-  copied = refl;
-  opened = ap (λ fs. slice_set fs (length before) f) (h.opened ∙ append_assoc before (empty_frame parent ∷ []) (map settled_frame (frames_in (length before) (length (before ++ empty_frame parent ∷ [])) ds)))
-      ∙ set-behind before (map settled_frame (frames_in (length before) (length (before ++ empty_frame parent ∷ [])) ds)) (empty_frame parent) f
-      ∙ ap (λ g. before ++ g ∷ map settled_frame (frames_in (length before) (length (before ++ empty_frame parent ∷ [])) ds)) h.copied
-      ∙ ap (λ n. before ++ settled_frame (record { parent = parent; attributes = attributes_from n ds }) ∷ map settled_frame (frames_in (length before) n ds)) longer;
-}
-  where
-    longer : length (before ++ empty_frame parent ∷ []) ≡ suc (length before)
-    longer = omega (arith, length-append before (empty_frame parent ∷ []))
 
 -- a frame that stands there with its definitions, which are placed behind it
 pub own-placed : {ds : Defs} {f : Frame} {before after : List Frame}
@@ -180,3 +163,17 @@ next-defined {parent} {ds} name {i} {t} {before} {between} {placed} {after} h k 
 -- a frame that has all its definitions is placed
 pub defined-placed : {parent : ℕ} {ds : Defs} {before after : List Frame} → HasDefined parent ds before after → IsPlaced parent (inner ds) (frame (length before)) before after
 defined-placed h = record { copied = refl; opened = h.defined }
+
+-- an expression that was read as a node, and whose copy is made as one
+pub read-placed : {p : ℕ} (k : ℕ → Defs) {label : Label} {ts us : Trees} {e copy : Tree} {before after : List Frame}
+    → e ≡ node label ts → copy ≡ node label us → AreAllPlaced p (inlined_all k ts) us before after → IsPlaced p (inlined k e) copy before after
+read-placed {p} k {label} {ts} {us} {e} {copy} {before} {after} read made h =
+    subst (λ t. IsPlaced p (inlined k t) copy before after) (sym read)
+    (subst (λ t. IsPlaced p (shape label (inlined_all k ts)) t before after) (sym made) (node-placed label h))
+
+-- and one that was read as the number of a frame
+pub frame_read-placed : {p : ℕ} (k : ℕ → Defs) {f n : ℕ} {e copy : Tree} {before after : List Frame}
+    → e ≡ frame f → copy ≡ frame n → IsPlaced p (inner (k f)) (frame n) before after → IsPlaced p (inlined k e) copy before after
+frame_read-placed {p} k {f} {n} {e} {copy} {before} {after} read made h =
+    subst (λ t. IsPlaced p (inlined k t) copy before after) (sym read)
+    (subst (λ t. IsPlaced p (inner (k f)) t before after) (sym made) h)

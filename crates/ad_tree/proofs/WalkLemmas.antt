@@ -1,11 +1,11 @@
 -- The steps of the walk that copies a draft into an ad.
-use Rattle.std.proofs.Common.{refl, arith, ◌≡◌, ◌-◌, ℕ, zero, suc, ◌+◌, List, [], ◌∷◌, ◌++◌, length, take, ap, sym, ◌∙◌, subst, None, Some, slice_get, slice_set, add-one}
+use Rattle.std.proofs.Common.{refl, arith, ◌≡◌, ◌-◌, ℕ, zero, suc, ◌+◌, List, [], ◌∷◌, ◌++◌, length, take, ap, sym, ◌∙◌, subst, None, Some, slice_get, add-one, ◌<◌, length-append}
 use Rattle.ad_tree.specs.Tree.{Tree, frame, pack}
-use Rattle.ad_tree.specs.Frames.{Frame, empty_frame, attributes_in, defined_in}
+use Rattle.ad_tree.specs.Frames.{Frame, empty_frame, attributes_in, defined, defined_in}
 use Rattle.ad_tree.specs.Inline.{inner, Defs, no_defs, inlined, inlined_all, defs_of, inside, opened}
-use Rattle.ad_tree.specs.Placed.{IsPlaced, AreAllPlaced, AreDefinitionsPlaced}
+use Rattle.ad_tree.specs.Placed.{IsPlaced, AreAllPlaced, AreDefinitionsPlaced, HasDefined}
 use Rattle.ad_tree.proofs.InlineLemmas.{next_last, def_last, pack-push, inlined_all-last, defs_of-push}
-use Rattle.ad_tree.proofs.PlacedLemmas.{last-placed, def-placed, empty-placed, frame-placed}
+use Rattle.ad_tree.proofs.PlacedLemmas.{last-placed, def-placed, empty-placed, next-defined, defined-placed}
 
 -- one item more from the front
 pub take-next : {A : Type 0} (xs : List A) (j : ℕ) (x : A) → slice_get xs j ≡ Some x → take (j + 1) xs ≡ take j xs ++ x ∷ []
@@ -63,15 +63,34 @@ missing-placed parent n fs turns f {before} {after} at none push =
     (subst (λ ds. IsPlaced parent (inner ds) (frame (length before)) before after) (sym (inside-missing fs turns f none))
     (subst (λ gs. IsPlaced parent (inner no_defs) (frame (length before)) before gs) (sym push) (empty-placed parent before)))
 
-pub frame_opened : (parent n : ℕ) (fs : List Frame) (turns f : ℕ) (source copy : Frame) {before pushed after result : List Frame}
-    → n ≡ length before → (turns ≡ 0 → ⊥) → Some source ≡ slice_get fs f → pushed ≡ before ++ empty_frame parent ∷ []
-    → AreDefinitionsPlaced parent n (defs_of (inside fs (turns - 1)) source.attributes) copy pushed after → result ≡ slice_set after n copy
-    → IsPlaced parent (opened fs turns f) (frame n) before result
-frame_opened parent n fs turns f source copy {before} {pushed} {after} {result} at left found push placed write =
-    let ds : Defs = defs_of (inside fs (turns - 1)) source.attributes in
-    subst (λ m. IsPlaced parent (opened fs turns f) (frame m) before result) (sym at)
-    (subst (λ es. IsPlaced parent (inner es) (frame (length before)) before result) (sym (inside-turn fs turns f source left found))
-    (subst (λ gs. IsPlaced parent (inner ds) (frame (length before)) before gs) (sym (write ∙ ap (λ m. slice_set after m copy) at))
-    (frame-placed parent
-    (subst (λ m. AreDefinitionsPlaced parent m ds copy (before ++ empty_frame parent ∷ []) after) at
-    (subst (λ gs. AreDefinitionsPlaced parent n ds copy gs after) push placed)))))
+-- nor in one that is reached with no turns left
+pub closed-placed : (parent n : ℕ) (fs : List Frame) (turns f : ℕ) {before after : List Frame}
+    → n ≡ length before → turns ≡ 0 → after ≡ before ++ empty_frame parent ∷ []
+    → IsPlaced parent (opened fs turns f) (frame n) before after
+closed-placed parent n fs turns f {before} {after} at none push =
+    subst (λ m. IsPlaced parent (opened fs turns f) (frame m) before after) (sym at)
+    (subst (λ m. IsPlaced parent (opened fs m f) (frame (length before)) before after) (sym none)
+    (subst (λ gs. IsPlaced parent (inner no_defs) (frame (length before)) before gs) (sym push) (empty-placed parent before)))
+
+-- a new frame is within the frames
+pub new-within : (parent : ℕ) (before : List Frame) {n : ℕ} {after : List Frame} → n ≡ length before → after ≡ before ++ empty_frame parent ∷ [] → n < length after
+new-within parent before {n} {after} at push = omega (arith, at, ap length push, length-append before (empty_frame parent ∷ []))
+
+-- one definition of a frame more is made
+pub defs-defined : {parent : ℕ} (k : ℕ → Defs) (attributes : List (List ℕ × Tree)) (j : ℕ) (name : List ℕ) (t copy : Tree) (n : ℕ) {before between placed after : List Frame}
+    → n ≡ length before → slice_get attributes j ≡ Some (name, t)
+    → HasDefined parent (defs_of k (take j attributes)) before between → IsPlaced n (inlined k t) copy between placed → after ≡ defined placed n name copy
+    → HasDefined parent (defs_of k (take (j + 1) attributes)) before after
+defs-defined {parent} k attributes j name t copy n {before} {between} {placed} {after} here at h one define =
+    subst (λ ds. HasDefined parent ds before after)
+    (sym (ap (defs_of k) (take-next attributes j (name, t) at) ∙ defs_of-push k (take j attributes) name t))
+    (next-defined name h (subst (λ m. IsPlaced m (inlined k t) copy between placed) here one) (define ∙ ap (λ m. defined placed m name copy) here))
+
+pub frame_opened : (parent n : ℕ) (fs : List Frame) (turns f : ℕ) (source : Frame) {before after : List Frame}
+    → n ≡ length before → (turns ≡ 0 → ⊥) → Some source ≡ slice_get fs f
+    → HasDefined parent (defs_of (inside fs (turns - 1)) source.attributes) before after
+    → IsPlaced parent (opened fs turns f) (frame n) before after
+frame_opened parent n fs turns f source {before} {after} at left found defined =
+    subst (λ m. IsPlaced parent (opened fs turns f) (frame m) before after) (sym at)
+    (subst (λ es. IsPlaced parent (inner es) (frame (length before)) before after) (sym (inside-turn fs turns f source left found))
+    (defined-placed defined))

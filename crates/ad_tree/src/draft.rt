@@ -1,6 +1,7 @@
 // Drafts: ads while they are built. An expression has many kinds, so one that has served is dropped by a call, which is one
 // case of a proof in the place of one for each kind.
 ghost use Rattle.std.specs.Prelude.{◌≡◌, ◌+◌, ◌<◌, ◌^◌, ◌++◌, ◌∷◌, [], length, slice_get, option_map, IfOk, OnOk, OnErr};
+ghost use Rattle.ad_tree.specs.Ad.{ad_frames};
 ghost use Rattle.ad_tree.specs.Tree.{tree};
 ghost use Rattle.ad_tree.specs.Frames.{IsAd, defined, empty_frame};
 ghost use Rattle.ad_tree.specs.Inline.{frames, number, spelled, spelled_tree};
@@ -8,7 +9,7 @@ ghost use Rattle.ad_tree.specs.Table.{frame_of, frames_of};
 
 use crate::frame::AdFrame;
 use crate::order::{is_in_order, is_phrase_in_order};
-use crate::placing::{open, place};
+use crate::placing::{place, place_definitions};
 use crate::{Ad, Expr, Phrase};
 use pool_text::{OutOfMemory, Text};
 use std::alloc::Global;
@@ -16,7 +17,7 @@ use std::alloc::Global;
 /// An ad that is being built. Contracts see its frames in the order in which they were added, `draft_frames`.
 #[derive(Drop)]
 pub struct Draft {
-    alloc: Global,
+    pub(crate) alloc: Global,
     root: AdFrame,
     // Frames 1 and up.
     inner: Vec<AdFrame>,
@@ -24,7 +25,6 @@ pub struct Draft {
 }
 
 impl Draft {
-    ghost use Rattle.ad_tree.specs.Ad.{ad_frames};
     ghost use Rattle.ad_tree.specs.Draft.{draft_frames};
 
     /// A draft with the root alone, frame 0, and no definitions.
@@ -42,6 +42,15 @@ impl Draft {
     /// leaves the draft as it was; it is answered too where the numbers end.
     pub fn frame(&mut self, parent: u32) -> Result<u32, OutOfMemory>
         requires { parent < length (draft_frames self.old) }
+        ensures number { IfOk result (λ frame. frame ≡ length (draft_frames self.old)) }
+        ensures ok { OnOk result (draft_frames self.new ≡ draft_frames self.old ++ empty_frame parent ∷ []) }
+        ensures err { OnErr result (draft_frames self.new ≡ draft_frames self.old) }
+    {
+        self.add_frame(parent)
+    }
+
+    // The same of whatever parent.
+    pub(crate) fn add_frame(&mut self, parent: u32) -> Result<u32, OutOfMemory>
         ensures number { IfOk result (λ frame. frame ≡ length (draft_frames self.old)) }
         ensures ok { OnOk result (draft_frames self.new ≡ draft_frames self.old ++ empty_frame parent ∷ []) }
         ensures err { OnErr result (draft_frames self.new ≡ draft_frames self.old) }
@@ -88,13 +97,11 @@ impl Draft {
         ensures { IfOk result (λ ad. ad_frames ad ≡ frames 0 0 (spelled (draft_frames self))) }
     {
         if is_in_order(&self) {
-            let Draft { alloc, root, inner } = self;
-            let frames = behind_root(alloc, root, inner)?;
-            return Ad::from_frames(frames);
+            return self.into_ad();
         }
-        let mut frames = Vec::new(self.alloc);
-        open(self.alloc, &self, self.count(), 0, 0, &mut frames)?;
-        Ad::from_frames(frames)
+        let ad = self.copied_ad();
+        drop(self);
+        ad
     }
 
     /// The expression with the ad of its ad literals, whose root is empty. The frames are numbered from 1, as if the
@@ -119,6 +126,15 @@ impl Draft {
         }
     }
 
+    // The ad of copies of the frames.
+    fn copied_ad(&self) -> Result<Ad, OutOfMemory>
+        ensures { IfOk result (λ ad. ad_frames ad ≡ frames 0 0 (spelled (draft_frames self.now))) }
+    {
+        let mut copy = Draft::new(self.alloc);
+        place_definitions(self, self.inner.len(), 0, &self.root, &mut copy)?;
+        copy.into_ad()
+    }
+
     // The expression with copies of its frames.
     fn copied_phrase(&self, expr: &Expr) -> Result<Phrase, OutOfMemory>
         ensures frames { IfOk result (λ phrase.
@@ -126,10 +142,9 @@ impl Draft {
         ensures expr { IfOk result (λ phrase.
             tree phrase.expr ≡ number 1 (spelled_tree (draft_frames self.now) (tree expr.now))) }
     {
-        let mut frames = Vec::new(self.alloc);
-        frames.push(AdFrame::new(self.alloc, 0))?;
-        let expr = place(self.alloc, self, self.count(), 0, expr, &mut frames)?;
-        match Ad::from_frames(frames) {
+        let mut copy = Draft::new(self.alloc);
+        let expr = place(self, self.count(), 0, expr, &mut copy)?;
+        match copy.into_ad() {
             Ok(ad) => Ok(Phrase { ad, expr }),
             Err(error) => {
                 drop(expr);
@@ -144,8 +159,15 @@ impl Draft {
         ensures { IfOk result (λ ad. ad_frames ad ≡ empty_frame 0 ∷ frames_of self.inner.items) }
     {
         let root = AdFrame::new(self.alloc, 0);
-        let frames = behind_root(self.alloc, root, self.inner)?;
-        Ad::from_frames(frames)
+        ad_behind(root, self.inner)
+    }
+
+    // The ad of these frames, which are those of an ad already.
+    fn into_ad(self) -> Result<Ad, OutOfMemory>
+        requires { IsAd (draft_frames self) }
+        ensures { IfOk result (λ ad. ad_frames ad ≡ draft_frames self) }
+    {
+        ad_behind(self.root, self.inner)
     }
 
     pub(crate) fn count(&self) -> usize
@@ -168,16 +190,12 @@ impl Draft {
     }
 }
 
-// The root with the other frames behind it.
-fn behind_root(
-    alloc: Global,
-    root: AdFrame,
-    mut inner: Vec<AdFrame>,
-) -> Result<Vec<AdFrame>, OutOfMemory>
-    ensures { IfOk result (λ frames. frames.items ≡ root ∷ inner.items) }
+// The ad of a root with the other frames behind it.
+fn ad_behind(root: AdFrame, mut inner: Vec<AdFrame>) -> Result<Ad, OutOfMemory>
+    requires { IsAd (frame_of root ∷ frames_of inner.items) }
+    ensures { IfOk result (λ ad. ad_frames ad ≡ frame_of root ∷ frames_of inner.items) }
 {
-    let mut frames = Vec::with_capacity(alloc, inner.len() + 1)?;
-    frames.push(root)?;
-    frames.append(&mut inner)?;
-    Ok(frames)
+    inner.reserve_exact(1)?;
+    inner.insert(0, root)?;
+    Ad::from_frames(inner)
 }

@@ -63,14 +63,15 @@ impl AdFrame {
         ensures ok { OnOk result (frame_of self.new ≡ defined_in (frame_of self.old) name (tree expr)) }
         ensures err { OnErr result (frame_of self.new ≡ frame_of self.old) }
     {
-        let key = match self.new_key(alloc, name.bytes()) {
+        let attribute = Attribute { name, expr };
+        let key = match self.new_key(alloc, attribute.name.bytes()) {
             Ok(key) => key,
             Err(error) => {
-                drop(expr);
+                drop(attribute);
                 return Err(error);
             }
         };
-        let replaced = self.attributes.insert(key, Attribute { name, expr })?;
+        let replaced = self.attributes.insert(key, attribute)?;
         drop(replaced);
         Ok(())
     }
@@ -83,7 +84,7 @@ impl AdFrame {
         if self.attributes.len() >= u32::MAX as usize {
             return Err(OutOfMemory);
         }
-        folded_key(alloc, name)
+        Ok(name.to_ascii_lowercase(alloc)?)
     }
 
     pub fn count(&self) -> u32
@@ -119,7 +120,7 @@ impl AdFrame {
         let mut buffer = [0u8; SHORT_NAME];
         let key = &mut buffer[..name.len()];
         key.copy_from_slice(name);
-        fold_in_place(key);
+        key.make_ascii_lowercase();
         let key: &[u8] = key;
         self.attributes.get_index_of(key)
     }
@@ -137,20 +138,4 @@ fn place_of(attributes: &[Attribute], name: &[u8]) -> Option<usize>
     attributes
         .iter()
         .position(|attribute| attribute.is_named(name))
-}
-
-fn fold_in_place(bytes: &mut [u8])
-    ensures { bytes.new ≡ folded bytes.old }
-{
-    for i in 0..bytes.len() {
-        bytes[i] = bytes[i].to_ascii_lowercase();
-    }
-}
-
-fn folded_key(alloc: Global, name: &[u8]) -> Result<Vec<u8>, OutOfMemory>
-    ensures { IfOk result (λ key. key.items ≡ folded name.now) }
-{
-    let mut key = Vec::from_slice(alloc, name)?;
-    fold_in_place(&mut key);
-    Ok(key)
 }

@@ -1,12 +1,15 @@
-use Rattle.std.proofs.Common.{arith, sym}
-use Rattle.ad_tree.specs.Tree.{tree, trees}
-use Rattle.ad_tree.specs.Inline.{inside}
+use Rattle.std.proofs.Common.{arith, ap, subst, sym, take, ◌∙◌}
+use Rattle.std.proofs.lemmas.List.{take_all}
+use Rattle.ad_tree.specs.Tree.{pack, size, tree, trees}
+use Rattle.ad_tree.specs.Inline.{defs_of, inlined_all, inside}
+use Rattle.ad_tree.specs.Placed.{AreAllPlaced, AreDefinitionsPlaced}
 use Rattle.ad_tree.specs.Table.{frame_of}
 use Rattle.ad_tree.specs.Draft.{draft_frames}
 use Rattle.ad_tree.proofs.Measures.{attributes_size-at, weight-at, levels-down}
 use Rattle.ad_tree.proofs.OrderLemmas.{if_some, list-in_order, defs-in_order, frame-in_order}
-use Rattle.ad_tree.proofs.PlacedLemmas.{next-placed, one-placed}
-use Rattle.ad_tree.proofs.TreeLemmas.{size-at}
+use Rattle.ad_tree.proofs.PlacedLemmas.{next-placed, none-placed, one-placed, read-placed, frame_read-placed}
+use Rattle.ad_tree.proofs.ReadLemmas.{node_of_none, node_of_one, node_of_two, node_of_list, read-Cond}
+use Rattle.ad_tree.proofs.TreeLemmas.{size-at, tree-Frame}
 use Rattle.ad_tree.proofs.order.+ordering.Goals as goal
 
 pub follow_two-returns : goal.follow_two-returns
@@ -51,3 +54,66 @@ follow_frame-returns t c =
     frame-in_order (draft_frames c.args.draft.now) c.args.turns c.args.parent c.args.frame c.args.next (frame_of c.in_ok-source.source.now)
     c.if-turns-eq0.false c.if-frame-next.false c.in_ok-source.ensures c.if-source-parent.false h)
     c.follow_definitions.ensures
+
+pub follow-returns-in-Literal-2 : goal.follow-returns-in-Literal-2
+follow-returns-in-Literal-2 t c =
+    let is = node_of_none c.in-Literal.is in
+    read-placed (inside (draft_frames c.args.draft.now) c.args.turns) is.read is.read (none-placed _)
+
+pub follow-follow-requires : goal.follow-follow-requires
+follow-follow-requires t c = (omega (arith, c.decreases, ap size (node_of_one c.in-Unary.a c.in-Unary.is c.deref-in-Unary.ensures).read), tt)
+
+pub follow-returns-in-Unary : goal.follow-returns-in-Unary
+follow-returns-in-Unary t c =
+    let is = node_of_one c.in-Unary.a c.in-Unary.is c.deref-in-Unary.ensures in
+    if_some c.follow.result (λ after h. read-placed (inside (draft_frames c.args.draft.now) c.args.turns) is.read is.read (one-placed h)) c.follow.ensures
+
+pub follow-follow_two-requires : goal.follow-follow_two-requires
+follow-follow_two-requires t c = (omega (arith, c.decreases, ap size (node_of_two c.in-Binary.a c.in-Binary.b c.in-Binary.is c.deref-in-Binary.ensures c.deref-in-Binary-2.ensures).read), tt)
+
+pub follow-returns-in-Binary : goal.follow-returns-in-Binary
+follow-returns-in-Binary t c =
+    let is = node_of_two c.in-Binary.a c.in-Binary.b c.in-Binary.is c.deref-in-Binary.ensures c.deref-in-Binary-2.ensures in
+    if_some c.follow_two.result (λ after h. read-placed (inside (draft_frames c.args.draft.now) c.args.turns) is.read is.read h) c.follow_two.ensures
+
+pub follow-follow_all-requires : goal.follow-follow_all-requires
+follow-follow_all-requires t c = (omega (arith, c.decreases, ap size (node_of_list c.in-And.list c.in-And.is).read), tt)
+
+pub follow-returns-in-And : goal.follow-returns-in-And
+follow-returns-in-And t c =
+    let is = node_of_list c.in-And.list c.in-And.is in
+    if_some c.follow_all.result (λ after h. read-placed (inside (draft_frames c.args.draft.now) c.args.turns) is.read is.read h) c.follow_all.ensures
+
+pub follow-follow_three-requires : goal.follow-follow_three-requires
+follow-follow_three-requires t c = (omega (arith, c.decreases, ap size (read-Cond c.in-Cond.a c.in-Cond.b c.in-Cond.c c.in-Cond.is c.deref.ensures c.deref-in-Cond.ensures c.deref-in-Cond-2.ensures)), tt)
+
+pub follow-returns-in-Cond : goal.follow-returns-in-Cond
+follow-returns-in-Cond t c =
+    let is = read-Cond c.in-Cond.a c.in-Cond.b c.in-Cond.c c.in-Cond.is c.deref.ensures c.deref-in-Cond.ensures c.deref-in-Cond-2.ensures in
+    if_some c.follow_three.result (λ after h. read-placed (inside (draft_frames c.args.draft.now) c.args.turns) is is h) c.follow_three.ensures
+
+pub follow-follow_frame-requires : goal.follow-follow_frame-requires
+follow-follow_frame-requires t c = (omega (arith, c.decreases, ap size (ap tree c.in-Frame.is ∙ tree-Frame c.in-Frame.frame)), tt)
+
+pub follow-returns-in-Frame : goal.follow-returns-in-Frame
+follow-returns-in-Frame t c =
+    let is = ap tree c.in-Frame.is ∙ tree-Frame c.in-Frame.frame in
+    if_some c.follow_frame.result (λ after h. frame_read-placed (inside (draft_frames c.args.draft.now) c.args.turns) is is h) c.follow_frame.ensures
+
+pub follow_all-returns : goal.follow_all-returns
+follow_all-returns t c =
+    subst
+    (λ ts. AreAllPlaced c.args.parent (inlined_all (inside (draft_frames c.args.draft.now) c.args.turns) (pack ts)) (pack ts)
+    (take c.args.next (draft_frames c.args.draft.now)) (take c.loop-i.after (draft_frames c.args.draft.now)))
+    (take_all c.loop-i.i (trees c.args.list.now) (omega (arith, c.len-i-end.ensures, c.loop-i-test.false)))
+    c.loop-i.invariant
+
+pub follow_definitions-returns : goal.follow_definitions-returns
+follow_definitions-returns t c =
+    let source = frame_of c.args.source.now in
+    subst
+    (λ attributes. AreDefinitionsPlaced source.parent c.args.parent (defs_of (inside (draft_frames c.args.draft.now) c.args.turns) attributes)
+    (record { parent = source.parent; attributes = attributes })
+    (take c.args.next (draft_frames c.args.draft.now)) (take c.loop-i.after (draft_frames c.args.draft.now)))
+    (take_all c.loop-i.i source.attributes (omega (arith, c.count-i-end.ensures, c.loop-i-test.false)))
+    c.loop-i.invariant

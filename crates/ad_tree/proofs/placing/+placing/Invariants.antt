@@ -1,8 +1,9 @@
-use Rattle.std.proofs.Common.{◌+◌, ◌*◌, take}
+use Rattle.std.proofs.Common.{◌≡◌, ◌<◌, ◌+◌, ◌*◌, ℕ, List, [], ◌∷◌, ◌++◌, length, take}
 use Rattle.ad_tree.specs.Tree.{tree, trees, pack, size, size_all}
 use Rattle.ad_tree.specs.Inline.{inside, inlined_all, defs_of}
-use Rattle.ad_tree.specs.Placed.{AreAllPlaced, AreDefinitionsPlaced}
-use Rattle.ad_tree.specs.Table.{frame_of, frames_of}
+use Rattle.ad_tree.specs.Frames.{Frame, empty_frame}
+use Rattle.ad_tree.specs.Placed.{AreAllPlaced, HasDefined}
+use Rattle.ad_tree.specs.Table.{frame_of}
 use Rattle.ad_tree.specs.Draft.{draft_frames}
 use Rattle.ad_tree.proofs.Measures.{levels, attributes_size}
 use Rattle.ad_tree.proofs.placing.+placing.Given as goal
@@ -31,9 +32,11 @@ decreases-place_definitions l = levels l.turns (draft_frames l.draft.now) + 4 * 
 abbrev pub invariant-place_all-loop-i : goal.invariant-place_all-loop-i
 invariant-place_all-loop-i l =
     AreAllPlaced l.parent (inlined_all (inside (draft_frames l.draft) l.turns) (pack (take l.i (trees l.list)))) (pack (trees l.copies))
-    (frames_of l.initial.out.items) (frames_of l.out.items)
+    (draft_frames l.initial.out) (draft_frames l.out)
 
 abbrev pub invariant-place_definitions-loop-i : goal.invariant-place_definitions-loop-i
-invariant-place_definitions-loop-i l =
-    AreDefinitionsPlaced l.parent l.at (defs_of (inside (draft_frames l.draft) l.turns) (take l.i (frame_of l.source).attributes)) (frame_of l.copy)
-    (frames_of l.initial.out.items) (frames_of l.out.items)
+invariant-place_definitions-loop-i l = record {
+  within : l.at < length (draft_frames l.out);
+  defined : (parent : ℕ) (before : List Frame) → l.at ≡ length before → draft_frames l.initial.out ≡ before ++ empty_frame parent ∷ []
+      → HasDefined parent (defs_of (inside (draft_frames l.draft) l.turns) (take l.i (frame_of l.source).attributes)) before (draft_frames l.out);
+}

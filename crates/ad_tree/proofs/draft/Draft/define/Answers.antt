@@ -1,7 +1,9 @@
-use Rattle.std.proofs.Common.{arith, ◌<◌, ◌-◌, length}
+use Rattle.std.proofs.Common.{arith, ◌<◌, ◌-◌, ◌∙◌, ◌∷◌, ap, length, sym}
 use Rattle.std.proofs.lemmas.List.{length-map}
 use Rattle.ad_tree.specs.Tree.{tree}
-use Rattle.ad_tree.specs.Table.{frame_of}
+use Rattle.ad_tree.specs.Frames.{defined}
+use Rattle.ad_tree.specs.Table.{frame_of, frames_of}
+use Rattle.ad_tree.specs.Draft.{draft_frames}
 use Rattle.ad_tree.proofs.DraftLemmas.{inner-defined, inner-same, on_ok, on_err}
 use Rattle.ad_tree.proofs.draft.Draft.define.Goals as goal
 
@@ -21,3 +23,19 @@ returns-else-frame-eq0-clause-err c =
     on_err c.define-else-frame-eq0.result
     (inner-same (frame_of c.args.self.now.root) fs (c.args.frame - 1) c.define-else-frame-eq0.new.self c.index_mut.result.now within c.index_mut.ensures.value)
     c.define-else-frame-eq0.ensures.err
+
+pub returns-then-frame-eq0-clause-ok : goal.returns-then-frame-eq0-clause-ok
+returns-then-frame-eq0-clause-ok c =
+    on_ok c.define.result
+    (λ h.
+    ap (λ root. root ∷ frames_of c.args.self.now.inner.items) h
+    ∙ ap (λ k. defined (draft_frames c.args.self.now) k c.args.name (tree c.args.expr)) (sym c.if-frame-eq0.true))
+    c.define.ensures.ok
+
+pub returns-then-frame-eq0-clause-err : goal.returns-then-frame-eq0-clause-err
+returns-then-frame-eq0-clause-err c =
+    on_err c.define.result (λ h. ap (λ root. root ∷ frames_of c.args.self.now.inner.items) h) c.define.ensures.err
+
+pub index_mut-requires : goal.index_mut-requires
+index_mut-requires c =
+    omega (arith, c.args.self.now.inner.ok.0, length-map c.args.self.now.inner.items frame_of, c.requires, c.if-frame-eq0.false)

@@ -18,3 +18,16 @@ invariant_of-result c =
           (c.in-Ok.ensures ∙ ap (λ fs. empty_frame 0 ∷ fs) (c.is_phrase_in_order.ensures.frames c.if-not-is_phrase_in_order.false))
           (c.is_phrase_in_order.ensures.expr c.if-not-is_phrase_in_order.false) ∣₁;
     }
+
+pub returns-in-Ok-clause-frames : goal.returns-in-Ok-clause-frames
+returns-in-Ok-clause-frames c =
+    c.in-Ok.ensures ∙ ap (λ fs. empty_frame 0 ∷ fs) (c.is_phrase_in_order.ensures.frames c.if-not-is_phrase_in_order.false)
+
+pub returns-in-Ok-clause-expr : goal.returns-in-Ok-clause-expr
+returns-in-Ok-clause-expr c = c.is_phrase_in_order.ensures.expr c.if-not-is_phrase_in_order.false
+
+pub returns-then-not-is_phrase_in_order-clause-frames : goal.returns-then-not-is_phrase_in_order-clause-frames
+returns-then-not-is_phrase_in_order-clause-frames c = c.copied_phrase-phrase.ensures.frames
+
+pub returns-then-not-is_phrase_in_order-clause-expr : goal.returns-then-not-is_phrase_in_order-clause-expr
+returns-then-not-is_phrase_in_order-clause-expr c = c.copied_phrase-phrase.ensures.expr

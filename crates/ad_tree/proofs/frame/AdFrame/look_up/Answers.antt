@@ -6,5 +6,5 @@ use Rattle.ad_tree.proofs.frame.AdFrame.look_up.Goals as goal
 pub returns : goal.returns
 returns c =
     c.get_index_of.ensures.index
-    ∙ position-keys c.fold_in_place.new.bytes c.args.name.now (c.fold_in_place.ensures ∙ ap folded c.copy_from_slice.ensures.after)
+    ∙ position-keys c.make_ascii_lowercase.new.self c.args.name.now (c.make_ascii_lowercase.ensures.after ∙ ap folded c.copy_from_slice.ensures.after)
     c.args.self.now.attributes.entries c.args.self.now.keyed

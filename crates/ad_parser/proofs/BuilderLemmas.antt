@@ -159,9 +159,9 @@ ad-held b n outer rest st pop last h is =
     ad-finished n outer b.parent (draft_frames b.draft) st
     (subst (λ os. Laid true (map slot os) b.parent st (draft_frames b.draft)) (pop ∙ ap (λ os. operands.Open n outer ∷ os) last) h) is
 
-module _ {t : Tree} {b old : Builder} (st : List Inline) (last : HasPut (value t) b old) (alone_there : b.operands ≡ []) (h : Holds false old st) where
+module _ {t : Tree} (b : Builder) (st : List Inline) (only : map slot b.operands ≡ value t ∷ []) (h : Holds false b st) where
   alone : Laid false (value t ∷ []) b.parent st (draft_frames b.draft)
-  alone = subst (λ os. Laid false (value t ∷ map slot os) b.parent st (draft_frames b.draft)) alone_there (taken false st [] last h)
+  alone = subst (λ ss. Laid false ss b.parent st (draft_frames b.draft)) only h
 
   pub phrase-held : {result : List Frame} → result ≡ empty_frame 0 ∷ frames 0 1 (spelled_tree (draft_frames b.draft) t) → result ≡ phrase_of (top st)
   phrase-held is = phrase-finished t b.parent (draft_frames b.draft) st alone is

@@ -21,6 +21,10 @@ pub record HasPut (s : Slot) (before after : Builder) : Type 0 where
   pub parent : after.parent ≡ before.parent
   pub frames : draft_frames after.draft ≡ draft_frames before.draft
 
+-- a builder has two operands more than before, the second one last
+abbrev pub HavePut : Slot → Slot → Builder → Builder → Type 0
+HavePut first second before after = (between : Builder) × HasPut first before between × HasPut second between after
+
 -- the builder holds what the machine has on its stack
 abbrev pub Holds : Bool → Builder → List Inline → Type 0
 Holds is_ad builder st = Laid is_ad (map slot builder.operands) builder.parent st (draft_frames builder.draft)

@@ -3,15 +3,16 @@
 //
 // A program that asks for an operand that isn't there is answered by want of memory, which promises nothing. That none that
 // was read does is tested, and not proved.
-ghost use Rattle.std.specs.Prelude.{◌≡◌, ◌<◌, [], ◌∷◌, ◌++◌, length, true, false, List, IfOk, OnOk};
+ghost use Rattle.std.specs.Prelude.{◌≡◌, ◌<◌, [], ◌∷◌, ◌++◌, ℕ, length, true, false, List, IfOk, IfSome, IsTrue, OnOk};
 ghost use Rattle.std.specs.Vec.Iter.{into_iter_items, into_iter_len};
 ghost use Rattle.ad_tree.specs.Ad.{ad_frames};
 ghost use Rattle.ad_tree.specs.Draft.{draft_frames};
 ghost use Rattle.ad_tree.specs.Inline.{Inline, inner, no_defs, ad_of, phrase_of, phrase_tree};
-ghost use Rattle.ad_tree.specs.Tree.{tree, trees, node, all, any, pack};
+ghost use Rattle.ad_tree.specs.Tree.{tree, trees, node, all, any, call, list as list_label, pack};
 ghost use Rattle.ad_grammar.specs.Machine.{stack, run, top};
 ghost use Rattle.ad_grammar.specs.declared.program.Infix.TheVariants as infixes;
 ghost use Rattle.ad_parser.specs.JoinedTrees.{joined_tree, TakesElement};
+ghost use Rattle.ad_parser.specs.declared.builder.Operand.TheVariants as kinds;
 
 use crate::stack::Stack;
 use ad_grammar::{Infix, Instruction, Program};
@@ -72,7 +73,10 @@ fn behind_opening(program: Program) -> Result<IntoIter<Instruction>, OutOfMemory
     let mut instructions = program.into_instructions().into_iter();
     match instructions.next() {
         Some(Instruction::Ad) => Ok(instructions),
-        _ => Err(OutOfMemory),
+        other => {
+            drop(other);
+            Err(OutOfMemory)
+        }
     }
 }
 
@@ -90,7 +94,7 @@ pub fn build_phrase(alloc: Global, program: Program) -> Result<Phrase, OutOfMemo
 
 impl Builder {
     ghost use Rattle.ad_grammar.specs.declared.program.Instruction.TheVariants as instructions;
-    ghost use Rattle.ad_parser.specs.Builds.{HasPut, Holds, Carries};
+    ghost use Rattle.ad_parser.specs.Builds.{HasPut, HavePut, Holds, Carries};
     ghost use Rattle.ad_parser.specs.Laid.{value};
 
     /// Nothing but an empty root.
@@ -162,12 +166,26 @@ impl Builder {
         }
     }
 
-    /// The same in a box.
+    /// The last two trees, which are taken, the last one second.
+    fn two_values(&mut self) -> Result<(Expr, Expr), OutOfMemory>
+        ensures { IfOk result (λ both. HavePut (value (tree both.0)) (value (tree both.1)) self.new self.old) }
+    {
+        let second = self.value()?;
+        match self.value() {
+            Ok(first) => Ok((first, second)),
+            Err(error) => {
+                drop(second);
+                Err(error)
+            }
+        }
+    }
+
+    /// The last tree in a box.
     fn boxed(&mut self) -> Result<Box<Expr>, OutOfMemory>
         ensures { IfOk result (λ expr. HasPut (value (tree expr.value)) self.new self.old) }
     {
         let expr = self.value()?;
-        Ok(Box::new(self.alloc, expr)?)
+        boxed(self.alloc, expr)
     }
 
     fn unary(&mut self, operator: UnOp) -> Result<(), OutOfMemory>
@@ -180,8 +198,7 @@ impl Builder {
     fn infix(&mut self, operator: Infix) -> Result<(), OutOfMemory>
         ensures { Carries (instructions.Infix operator) self.old self.new result }
     {
-        let second = self.value()?;
-        let first = self.value()?;
+        let (first, second) = self.two_values()?;
         let expr = joined(self.alloc, operator, first, second)?;
         self.put(expr)
     }
@@ -214,9 +231,9 @@ impl Builder {
     fn element(&mut self) -> Result<(), OutOfMemory>
         ensures { Carries instructions.Element self.old self.new result }
     {
-        let element = self.value()?;
-        let whole = self.value()?;
-        self.put(with_element(whole, element)?)
+        let (whole, element) = self.two_values()?;
+        let whole = with_element(whole, element)?;
+        self.put(whole)
     }
 
     /// Opens a frame for an ad literal.
@@ -236,7 +253,10 @@ impl Builder {
         let value = self.value()?;
         match self.operands.last() {
             Some(Operand::Open(_, _)) => self.draft.define(self.parent, name, value),
-            _ => Err(OutOfMemory),
+            _ => {
+                drop(value);
+                Err(OutOfMemory)
+            }
         }
     }
 
@@ -247,7 +267,10 @@ impl Builder {
         let expr = Expr::Literal(literal);
         match self.operands.last() {
             Some(Operand::Open(_, _)) => self.draft.define(self.parent, name, expr),
-            _ => Err(OutOfMemory),
+            _ => {
+                drop(expr);
+                Err(OutOfMemory)
+            }
         }
     }
 
@@ -255,7 +278,7 @@ impl Builder {
     fn close(&mut self) -> Result<(), OutOfMemory>
         ensures { Carries instructions.Close self.old self.new result }
     {
-        let Some(Operand::Open(frame, outer)) = self.operands.pop() else {
+        let Some((frame, outer)) = take_open(&mut self.operands) else {
             return Err(OutOfMemory);
         };
         if outer >= self.parent {
@@ -266,28 +289,74 @@ impl Builder {
     }
 
     /// The ad of the root, where it is the only operand.
-    fn finish_ad(mut self) -> Result<Ad, OutOfMemory>
+    fn finish_ad(self) -> Result<Ad, OutOfMemory>
         ensures { (st : List Inline) → Holds true self st → IfOk result (λ ad. ad_frames ad ≡ ad_of (top st)) }
     {
-        let Some(Operand::Open(_, _)) = self.operands.pop() else {
-            return Err(OutOfMemory);
-        };
-        if !self.operands.is_empty() {
-            return Err(OutOfMemory);
+        let Builder {
+            draft,
+            operands,
+            ..
+        } = self;
+        if is_open_alone(operands) {
+            draft.finish()
+        } else {
+            drop(draft);
+            Err(OutOfMemory)
         }
-        self.draft.finish()
     }
 
     /// The only operand as an expression that stands alone.
-    fn finish_phrase(mut self) -> Result<Phrase, OutOfMemory>
+    fn finish_phrase(self) -> Result<Phrase, OutOfMemory>
         ensures { (st : List Inline) → Holds false self st → IfOk result (λ phrase.
             (ad_frames phrase.ad ≡ phrase_of (top st)) × (tree phrase.expr ≡ phrase_tree (top st))) }
     {
-        let expr = self.value()?;
-        if !self.operands.is_empty() {
-            return Err(OutOfMemory);
+        let Builder {
+            draft,
+            operands,
+            ..
+        } = self;
+        match sole_value(operands) {
+            Ok(expr) => draft.finish_phrase(expr),
+            Err(error) => {
+                drop(draft);
+                Err(error)
+            }
         }
-        self.draft.finish_phrase(expr)
+    }
+}
+
+/// The ad literal that is the last operand, which is taken: its frame, and the frame in which it stands.
+fn take_open(operands: &mut Stack<Operand>) -> Option<(u32, u32)>
+    ensures { IfSome result (λ frames. operands.old ≡ kinds.Open frames.0 frames.1 ∷ operands.new) }
+{
+    match operands.pop() {
+        Some(Operand::Open(frame, outer)) => Some((frame, outer)),
+        other => {
+            drop(other);
+            None
+        }
+    }
+}
+
+/// Whether an ad literal that is open is the only operand.
+fn is_open_alone(operands: Stack<Operand>) -> bool
+    ensures { IsTrue result → (n : ℕ) × (outer : ℕ) × (operands ≡ kinds.Open n outer ∷ []) }
+{
+    let mut operands = operands;
+    take_open(&mut operands).is_some() && operands.is_empty()
+}
+
+/// The tree that is the only operand.
+fn sole_value(operands: Stack<Operand>) -> Result<Expr, OutOfMemory>
+    ensures { IfOk result (λ expr. operands ≡ kinds.Value expr ∷ []) }
+{
+    let mut operands = operands;
+    match operands.pop() {
+        Some(Operand::Value(expr)) if operands.is_empty() => Ok(expr),
+        other => {
+            drop(other);
+            Err(OutOfMemory)
+        }
     }
 }
 
@@ -299,11 +368,33 @@ fn joined(alloc: Global, operator: Infix, first: Expr, second: Expr) -> Result<E
         Infix::And => Ok(Expr::And(conjuncts(alloc, first, second)?)),
         Infix::Or => Ok(Expr::Or(disjuncts(alloc, first, second)?)),
         Infix::Binary(operator) => {
-            let first = Box::new(alloc, first)?;
-            let second = Box::new(alloc, second)?;
+            let (first, second) = boxed_pair(alloc, first, second)?;
             Ok(Expr::Binary(operator, first, second))
         }
     }
+}
+
+fn boxed_pair(
+    alloc: Global,
+    first: Expr,
+    second: Expr,
+) -> Result<(Box<Expr>, Box<Expr>), OutOfMemory>
+    ensures first { IfOk result (λ both. both.0.value ≡ first) }
+    ensures second { IfOk result (λ both. both.1.value ≡ second) }
+{
+    match boxed(alloc, second) {
+        Ok(second) => Ok((boxed(alloc, first)?, second)),
+        Err(error) => {
+            drop(first);
+            Err(error)
+        }
+    }
+}
+
+fn boxed(alloc: Global, expr: Expr) -> Result<Box<Expr>, OutOfMemory>
+    ensures { IfOk result (λ made. made.value ≡ expr) }
+{
+    Ok(Box::new(alloc, expr)?)
 }
 
 fn conjuncts(alloc: Global, first: Expr, second: Expr) -> Result<Exprs, OutOfMemory>
@@ -327,10 +418,26 @@ fn disjuncts(alloc: Global, first: Expr, second: Expr) -> Result<Exprs, OutOfMem
 fn pair(alloc: Global, first: Expr, second: Expr) -> Result<Exprs, OutOfMemory>
     ensures { IfOk result (λ list. trees list ≡ tree first ∷ tree second ∷ []) }
 {
-    let mut list = Exprs::with_capacity(alloc, 2)?;
-    list.push(first)?;
-    list.push(second)?;
-    Ok(list)
+    match one(alloc, first) {
+        Ok(list) => with_last(list, second),
+        Err(error) => {
+            drop(second);
+            Err(error)
+        }
+    }
+}
+
+/// A list of one tree, with room for another.
+fn one(alloc: Global, first: Expr) -> Result<Exprs, OutOfMemory>
+    ensures { IfOk result (λ list. trees list ≡ tree first ∷ []) }
+{
+    match Exprs::with_capacity(alloc, 2) {
+        Ok(list) => with_last(list, first),
+        Err(error) => {
+            drop(first);
+            Err(error)
+        }
+    }
 }
 
 /// The same with one tree more.
@@ -346,8 +453,32 @@ fn with_element(whole: Expr, element: Expr) -> Result<Expr, OutOfMemory>
     ensures { IfOk result (λ expr. TakesElement (tree whole) (tree element) (tree expr)) }
 {
     match whole {
-        Expr::List(list) => Ok(Expr::List(with_last(list, element)?)),
-        Expr::Call(name, list) => Ok(Expr::Call(name, with_last(list, element)?)),
-        _ => Err(OutOfMemory),
+        Expr::List(list) => list_with(list, element),
+        Expr::Call(name, list) => call_with(name, list, element),
+        other => {
+            drop(other);
+            drop(element);
+            Err(OutOfMemory)
+        }
+    }
+}
+
+/// A list with one element more.
+fn list_with(list: Exprs, element: Expr) -> Result<Expr, OutOfMemory>
+    ensures { IfOk result (λ expr. tree expr ≡ node list_label (pack (trees list ++ tree element ∷ []))) }
+{
+    Ok(Expr::List(with_last(list, element)?))
+}
+
+/// A call with one argument more.
+fn call_with(name: Text, list: Exprs, element: Expr) -> Result<Expr, OutOfMemory>
+    ensures { IfOk result (λ expr. tree expr ≡ node (call name) (pack (trees list ++ tree element ∷ []))) }
+{
+    match with_last(list, element) {
+        Ok(list) => Ok(Expr::Call(name, list)),
+        Err(error) => {
+            drop(name);
+            Err(error)
+        }
     }
 }

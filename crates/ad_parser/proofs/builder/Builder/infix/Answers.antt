@@ -3,4 +3,5 @@ use Rattle.ad_parser.proofs.builder.Builder.infix.Goals as goal
 
 pub returns : goal.returns
 returns c = λ is_ad st h.
-    on_ok c.put.result (λ put. infix-carried is_ad st c.args.operator c.in_ok-second.ensures c.in_ok-first.ensures c.in_ok-expr.ensures put h) c.put.ensures
+    let both = c.in_ok-first.ensures in
+    on_ok c.put.result (λ put. infix-carried is_ad st c.args.operator both.2 both.1 c.in_ok-expr.ensures put h) c.put.ensures

@@ -28,7 +28,7 @@ pub fn same_place(a: &AdPlace, b: &AdPlace) -> bool
 }
 
 /// An attribute of a frame of an ad, counted from 0 in the frame's order.
-#[derive(Clone, Copy, PartialEq, Eq)]
+#[derive(Clone, Copy, Debug, PartialEq, Eq)]
 pub struct Pos {
     pub ad: u32,
     pub frame: u32,

@@ -10,7 +10,7 @@ use std::marker::Model;
 const INLINE: usize = 16;
 
 /// A growing list of bytes, which contracts see as that list. It needs not be UTF-8.
-#[derive(Drop)]
+#[derive(Debug, Drop)]
 pub struct Text {
     bytes: SmallVec<u8, INLINE>,
 }

@@ -1,5 +1,5 @@
 -- A sink that is sure of all replies doesn't fail.
-use Rattle.std.proofs.Common.{◌≡◌, ◌≢◌, ℕ, ◌+◌, ◌≤◌, List, [], ◌∷◌, ◌++◌, length, Option, None, Some, IfSome, refl, sym, ◌∙◌, ap, inl, inr, arith, length-append, append_assoc}
+use Rattle.std.proofs.Common.{◌≡◌, ◌≢◌, ℕ, ◌+◌, ◌≤◌, List, [], ◌∷◌, ◌++◌, length, Option, None, Some, Result, Err, IfSome, refl, sym, ◌∙◌, ap, inl, inr, arith, length-append, append_assoc}
 use Rattle.std.proofs.lemmas.List.{append-nil}
 use Rattle.std.specs.Io.KnownBytes.{Consumes}
 use Rattle.pool_io.specs.Flow.{Supply}
@@ -57,3 +57,32 @@ Ends-sure s t k m BadWords ends = always s.left _ (λ bytes sure is. absurd (cc)
 Ends-sure s t k m ReadFault ends = always s.left _ (λ bytes sure is. absurd (cc))
 Ends-sure s t k m TooLong ends = always s.left _ (λ bytes sure is. absurd (cc))
 Ends-sure s t k m OutOfMemory ends = always s.left _ (λ bytes sure is. absurd (cc))
+
+-- ---- ends that differ
+
+pub memory-words : OutOfMemory ≢ BadWords
+memory-words is = absurd (cc)
+
+pub memory-read : OutOfMemory ≢ ReadFault
+memory-read is = absurd (cc)
+
+pub memory-write : OutOfMemory ≢ WriteFault
+memory-write is = absurd (cc)
+
+pub write-words : WriteFault ≢ BadWords
+write-words is = absurd (cc)
+
+pub write-read : WriteFault ≢ ReadFault
+write-read is = absurd (cc)
+
+pub done-words : (refused : ℕ) → Done refused ≢ BadWords
+done-words refused is = absurd (cc)
+
+pub done-read : (refused : ℕ) → Done refused ≢ ReadFault
+done-read refused is = absurd (cc)
+
+pub done-write : (refused : ℕ) → Done refused ≢ WriteFault
+done-write refused is = absurd (cc)
+
+pub err-words : ◌≢◌ {A = Result ℕ RunEnd} (Err ReadFault) (Err BadWords)
+err-words is = absurd (cc)

@@ -1,6 +1,7 @@
 mod Cases
 mod EndLemmas
 mod EventLemmas
+mod PairLemmas
 mod ReadingLemmas
 mod RunningLemmas
 mod SummingLemmas

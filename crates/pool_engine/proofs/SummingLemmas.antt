@@ -1,9 +1,11 @@
 -- The commands of a workload one by one, and the sum of their replies.
-use Rattle.std.proofs.Common.{◌≡◌, ℕ, ◌+◌, List, [], ◌∷◌, ◌++◌, Result, Ok, Err, OnErr, length, sym, ◌∙◌, ap, subst, arith, append_assoc, length-append}
+use Rattle.std.proofs.Common.{◌≡◌, ℕ, ◌+◌, List, [], ◌∷◌, ◌++◌, Bool, true, Result, Ok, Err, OnErr, OnOk, length, sym, ◌∙◌, ap, subst, arith, append_assoc, length-append}
 use Rattle.std.proofs.lemmas.List.{append-nil}
 use Rattle.std.proofs.lemmas.List.Sums.{sum_by-append}
 use Rattle.std.proofs.lemmas.Grind.{flat_map-append}
 use Rattle.workload.specs.declared.summary.Summary.{Summary}
+use Rattle.pool_script.specs.Commands.{commands_of, whole_commands}
+use Rattle.pool_script.specs.Standing.{Kept, Stands}
 use Rattle.pool_script.specs.declared.command.Command.{Command}
 use Rattle.pool_replies.specs.Replies.{hit_count, offer_count, reply_text}
 use Rattle.pool_engine.specs.declared.run.RunEnd.TheVariants.{OutOfMemory}
@@ -19,6 +21,10 @@ use Rattle.pool_engine.proofs.TookLemmas.{Stopped-none, Stopped-within, Took-app
 pub always_err : {T E : Type 0} (r : Result T E) (P : Type 0) → P → OnErr r P
 always_err (Ok x) P p = tt
 always_err (Err e) P p = p
+
+pub from_err : {T E P : Type 0} (r : Result T E) (e : E) → r ≡ Err e → OnErr r P → P
+from_err (Ok x) e is p = absurd (cc)
+from_err (Err x) e is p = p
 
 -- ---- summaries
 
@@ -69,6 +75,11 @@ Summing-stopped s t k m n all waiting rest command summary summing is stopped =
 -- memory was wanting behind commands
 pub Took-stopped : (s t : Heard) (k m : Effects) (a : List Command) (p q : ℕ) → Took s t k m a p q → Stopped s k m a OutOfMemory
 Took-stopped s t k m a p q took = subst (λ (l : List Command). Stopped s k m l OutOfMemory) (append-nil a) (Stopped-within s t k m m a [] [] p q OutOfMemory took (Stopped-none t m []))
+
+-- the commands that wait behind the end of an input of which none was taken
+pub whole-waits : {T E : Type 0} (r : Result T E) (s t : Kept) (bytes : List ℕ) → Stands s bytes 0 → OnOk r ((all : List ℕ) (n : ℕ) → Stands s all n → Stands t all n) → OnOk r (t.over ≡ true) → OnOk r (t.waiting ≡ whole_commands bytes)
+whole-waits (Ok u) s t bytes stands keeps over = sym (keeps bytes 0 stands).follows.waits ∙ ap (λ (o : Bool). commands_of o bytes) over
+whole-waits (Err e) s t bytes stands keeps over = tt
 
 -- ---- the ends
 

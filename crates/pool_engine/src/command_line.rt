@@ -1,5 +1,5 @@
 // What the words of a command line ask for.
-ghost use Rattle.std.specs.Prelude.{◌≡◌, IfOk, IfSome};
+ghost use Rattle.std.specs.Prelude.{◌≡◌, drop, map, string_bytes, IfOk, IfSome};
 ghost use Rattle.claim_wire.specs.Wires.{IsNumber};
 ghost use Rattle.pool_script.specs.Names.{number_within};
 ghost use Rattle.pool_engine.specs.CommandLine.{IsWithin, asked_by, asked_mails, wire_asked, wire_of};
@@ -21,6 +21,26 @@ pub enum Asked {
     Workload { machines: u64 },
     /// A wire of so many resources and customers, which runs a schedule of the claiming protocol.
     Wire { resources: u32, customers: u32 },
+}
+
+/// The words of a command line: its arguments behind the first, which is the program's name, in their order.
+pub fn words_of(alloc: Global, args: &[String]) -> Result<Vec<Text>, OutOfMemory>
+    ensures { IfOk result (λ words. words.items ≡ map string_bytes (drop 1 args.now)) }
+{
+    let [_, behind @ ..] = args else {
+        return Ok(Vec::new(alloc));
+    };
+    texts_of(alloc, behind)
+}
+
+fn texts_of(alloc: Global, args: &[String]) -> Result<Vec<Text>, OutOfMemory>
+    ensures { IfOk result (λ texts. texts.items ≡ map string_bytes args.now) }
+{
+    let mut texts = Vec::new(alloc);
+    for arg in args {
+        texts.push(Text::from_bytes(alloc, arg.as_bytes())?)?;
+    }
+    Ok(texts)
 }
 
 /// Reads the words. A pool: no words, or `--mail NAME=FILE` any number of times, where each name stands once and no file is

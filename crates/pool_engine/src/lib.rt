@@ -14,7 +14,7 @@ mod wire_laws;
 mod wire_session;
 mod workload_run;
 
-pub use command_line::{Asked, mails, read_words};
+pub use command_line::{Asked, mails, read_words, words_of};
 pub use laws::the_first_reply_is_offered_at_once;
 pub use mail::Mail;
 pub use pool_state::Pool;

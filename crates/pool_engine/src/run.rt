@@ -1,5 +1,6 @@
 // The run of a script over a source and a sink.
 ghost use Rattle.std.specs.Prelude.{◌≡◌, ◌≢◌, ◌↔◌, ◌+◌, ◌*◌, ◌≤◌, ◌<◌, [], false, length, IsTrue, IfOk, IfSome};
+ghost use Rattle.std.specs.Process.{exit_status};
 ghost use Rattle.pool_io.specs.Flow.{Reads, Rose};
 ghost use Rattle.pool_script.specs.Commands.{whole_commands};
 ghost use Rattle.pool_script.specs.Standing.{Stands};
@@ -20,6 +21,7 @@ use pool_io::{Failed, Sink, Source};
 use pool_steps::Steps;
 use pool_text::{OutOfMemory, Text};
 use std::alloc::Global;
+use std::process::ExitCode;
 use std::sync::ledger::Ledger;
 
 // An input may have so many bytes.
@@ -69,6 +71,13 @@ impl RunEnd {
             RunEnd::TooLong => 5,
             RunEnd::OutOfMemory => 6,
         }
+    }
+
+    /// That status as the program's.
+    pub fn exit_code(&self) -> ExitCode
+        ensures { exit_status result ≡ status_of self.now }
+    {
+        ExitCode::from(self.status())
     }
 }
 

@@ -1,7 +1,10 @@
 // The run of a workload: its commands run as those of a script do, and a summary is offered in the place of replies.
-ghost use Rattle.std.specs.Prelude.{◌≡◌, ◌≢◌, ◌+◌, ◌*◌, ◌≤◌, ◌∷◌, [], false, length, IfOk, IsTrue, OnErr};
-ghost use Rattle.pool_io.specs.Flow.{Rose};
+ghost use Rattle.std.specs.Prelude.{◌≡◌, ◌≢◌, ◌+◌, ◌*◌, ◌≤◌, ◌∷◌, [], false, length, IfOk, IsTrue, OnErr, OnOk};
+ghost use Rattle.workload.specs.Summary.{summary_text};
+ghost use Rattle.pool_io.specs.Flow.{Rose, WritesAll};
+ghost use Rattle.pool_script.specs.Commands.{whole_commands};
 ghost use Rattle.pool_script.specs.Form.{is_within_form};
+ghost use Rattle.pool_script.specs.Standing.{Stands};
 ghost use Rattle.pool_replies.specs.Replies.{hit_count, is_printable, offer_count, refusal_count, reply_text};
 ghost use Rattle.pool_engine.specs.Ends.{IsDoneOrOutOfMemory, effects};
 ghost use Rattle.pool_engine.specs.Events.{event_of, events_of};
@@ -12,7 +15,7 @@ ghost use Rattle.pool_engine.specs.Workloads.{IsSummaryOf, WorkloadEnds, silent,
 
 use crate::RunEnd;
 use notice_desk::Notices;
-use pool_io::{Sink, write_all};
+use pool_io::{Failed, Sink, write_all};
 use pool_replies::{Reply, hits, offers, print_reply, refusals};
 use pool_script::{Command, Script};
 use pool_state::Pool;
@@ -45,15 +48,31 @@ pub(crate) fn run_workload<K: Sink, D: Notices, F: Ledger, E: Ledger, T: Ledger>
     let Ok(summary) = summed(alloc, machines, desk, tops, entry, touch) else {
         return RunEnd::OutOfMemory;
     };
-    let Ok(text) = summary.print(alloc) else {
+    let Ok(offered) = offer_summary(alloc, &summary, sink) else {
         return RunEnd::OutOfMemory;
     };
-    let Ok(()) = write_all(sink, text.bytes()) else {
+    let Ok(()) = offered else {
         return RunEnd::WriteFault;
     };
     RunEnd::Done {
         refused: summary.refused,
     }
+}
+
+// Offers the text of a summary as one piece. Answers whether the sink took it.
+fn offer_summary<K: Sink>(
+    alloc: Global,
+    summary: &Summary,
+    sink: &mut K,
+) -> Result<Result<(), Failed>, OutOfMemory>
+    ensures offered { IfOk result (λ offered. WritesAll (K.shows sink.old) (K.shows sink.new) offered
+        (summary_text summary.now.commands summary.now.refused summary.now.hits summary.now.offers summary.now.bytes)) }
+    ensures unwritten { OnErr result (sink.new ≡ sink.old) }
+{
+    let text = summary.print(alloc)?;
+    let offered = write_all(sink, text.bytes());
+    drop(text);
+    Ok(offered)
 }
 
 // Runs the commands of a workload, and sums up their replies.
@@ -111,15 +130,40 @@ fn sum_waiting<D: Notices, F: Ledger, E: Ledger, T: Ledger>(
 }
 
 // The script of a workload, whose commands wait.
-#[tactic(auto, unfolding(crate::specs::Workloads::workload_commands))]
 fn script_of(alloc: Global, machines: u64) -> Result<Script, OutOfMemory>
     ensures { IfOk result (λ script. script.waiting ≡ workload_commands machines) }
 {
     let mut script = Script::new(alloc);
+    match read_workload(alloc, machines, &mut script) {
+        Ok(()) => Ok(script),
+        Err(e) => {
+            drop(script);
+            Err(e)
+        }
+    }
+}
+
+// Reads the text of a workload into a new script.
+#[tactic(auto, unfolding(crate::specs::Workloads::workload_commands))]
+fn read_workload(alloc: Global, machines: u64, script: &mut Script) -> Result<(), OutOfMemory>
+    requires stands { Stands script.old [] 0 }
+    requires over { script.old.over ≡ false }
+    ensures { OnOk result (script.new.waiting ≡ workload_commands machines) }
+{
     let text = generated(alloc, machines)?;
-    script.feed(text.bytes())?;
-    script.end()?;
-    Ok(script)
+    let read = read_whole(text.bytes(), script);
+    drop(text);
+    read
+}
+
+// Reads a whole text into a new script.
+fn read_whole(text: &[u8], script: &mut Script) -> Result<(), OutOfMemory>
+    requires stands { Stands script.old [] 0 }
+    requires over { script.old.over ≡ false }
+    ensures { OnOk result (script.new.waiting ≡ whole_commands text.now) }
+{
+    script.feed(text)?;
+    script.end()
 }
 
 // Runs a command, and sums up its reply.

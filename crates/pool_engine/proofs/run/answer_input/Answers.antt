@@ -3,6 +3,7 @@ use Rattle.std.proofs.lemmas.Result.{err_from_is_err_and}
 use Rattle.pool_state.specs.Heard.{heard}
 use Rattle.pool_state.specs.Pool.{state_of}
 use Rattle.pool_state.specs.State.{State}
+use Rattle.pool_engine.proofs.EndLemmas.{err-words}
 use Rattle.pool_engine.proofs.ReadingLemmas.{Reading-finish, Reading-lost, Reading-past, Reading-piece, Reading-room, Reading-room_last, Reading-start, Reading-stopped, take_one}
 use Rattle.pool_engine.proofs.run.answer_input.Goals as goal
 
@@ -53,3 +54,9 @@ returns-in-Err-clause-ends g c = Reading-lost _ _ _ _ _ _ _ _ _ _ _ c.loop-left.
 
 pub returns-in_default-clause-ends : goal.returns-in_default-clause-ends
 returns-in_default-clause-ends g c = Reading-lost _ _ _ _ _ _ _ _ _ _ _ c.loop-left.invariant.reading c.in_default.ensures.reads
+
+pub returns-in_default-clause-words : goal.returns-in_default-clause-words
+returns-in_default-clause-words g c = err-words
+
+pub returns-in-Err-clause-words : goal.returns-in-Err-clause-words
+returns-in-Err-clause-words g c = err-words

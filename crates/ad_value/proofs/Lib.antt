@@ -1,4 +1,5 @@
 pub mod IdentityLemmas
 pub mod LogicLemmas
+pub mod OperatorLemmas
 pub mod PlainLemmas
 pub mod WeightLemmas

@@ -1,5 +1,5 @@
 -- The items of a string list.
-use Rattle.std.proofs.Common.{◌≡◌, ℕ, ◌<◌, ◌≤◌, ◌+◌, ◌⊎◌, inl, inr, get_or, replicate, ◌||◌, arith, Bool, true, false, cond, ltb, eqb, List, [], ◌∷◌, length, filter, refl, ◌∙◌, ap}
+use Rattle.std.proofs.Common.{◌≡◌, ℕ, ◌<◌, ◌≤◌, ◌+◌, ◌⊎◌, inl, inr, get_or, replicate, ◌||◌, ◌&&◌, arith, Bool, true, false, cond, ltb, eqb, List, [], ◌∷◌, length, filter, refl, ◌∙◌, ap}
 use Rattle.std.proofs.lemmas.Bool.{cases_lt}
 use Rattle.std.proofs.lemmas.List.{get_or-replicate, get_or_past, length-replicate}
 use Rattle.std.specs.List.{list_any, onto_first, slice_split}
@@ -13,6 +13,15 @@ slice_split-same p q same (x ∷ xs) =
 
 pub items_of-marks : (delimiters : List ℕ) (marked : ℕ → Bool) → ((byte : ℕ) → marked byte ≡ list_any (λ d. eqb d byte) delimiters) → (bytes : List ℕ) → filter (λ part. ltb 0 (length part)) (slice_split marked bytes) ≡ items_of delimiters bytes
 items_of-marks delimiters marked same bytes = ap (filter (λ part. ltb 0 (length part))) (slice_split-same marked _ same bytes)
+
+-- to find one that passes two tests is to find one that passes the second among those that pass the first
+any_kept : {X : Type 0} (first : Bool) (test : X → Bool) (x : X) (xs : List X) (found : Bool) → found ≡ list_any test xs → (first && test x || found) ≡ list_any test (cond first (x ∷ xs) xs)
+any_kept true test x xs found is = ap (λ b. test x || b) is
+any_kept false test x xs found is = is
+
+pub any-filter : {X : Type 0} (first test : X → Bool) (xs : List X) → list_any (λ x. first x && test x) xs ≡ list_any test (filter first xs)
+any-filter first test [] = refl
+any-filter first test (x ∷ xs) = any_kept (first x) test x (filter first xs) (list_any (λ y. first y && test y) xs) (any-filter first test xs)
 
 at_or_past : (n i : ℕ) → (i < n) ⊎ (n ≤ i) → get_or (replicate n false) i false ≡ false
 at_or_past n i (inl within) = get_or-replicate n i false false within

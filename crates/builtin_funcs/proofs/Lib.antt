@@ -1,5 +1,6 @@
 pub mod ListLemmas
 pub mod NameLemmas
+pub mod RowLemmas
 pub mod Running
 pub mod NumberLemmas
 pub mod ValueLemmas

@@ -1,10 +1,10 @@
 // The rows that look through a list: `member`, `identicalMember`, `anyCompare` and `allCompare`.
-ghost use Rattle.std.specs.Prelude.{◌≡◌};
+ghost use Rattle.std.specs.Prelude.{◌≡◌, map};
 ghost use Rattle.std.specs.List.{list_all, list_any};
 ghost use Rattle.std.specs.Option.{option_map_or};
 ghost use Rattle.ad_value.specs.Plain.{boolean, error, plain, plains};
 ghost use Rattle.ad_value.specs.Operators.{is_same};
-ghost use Rattle.builtin_funcs.specs.Lists.{all_compare_value, any_compare_value, compares, comparison_named, identical_member_value, member_value};
+ghost use Rattle.builtin_funcs.specs.Lists.{all_compare_value, any_compare_value, comparison_in, comparison_named, compares, identical_member_value, member_value};
 
 use crate::kinds::{is_scalar, is_true};
 use ad_value::{Value, Values, binary, same};
@@ -76,21 +76,38 @@ fn all_by_spelling(spelling: &[u8], items: &Values, x: &Value) -> Value
     }
 }
 
+// The operators by their spellings.
+const COMPARISONS: [(&[u8], BinOp); 10] = [
+    (b"<", BinOp::Less),
+    (b"<=", BinOp::AtMost),
+    (b"==", BinOp::Equal),
+    (b"!=", BinOp::Unequal),
+    (b">=", BinOp::AtLeast),
+    (b">", BinOp::Greater),
+    (b"is", BinOp::Same),
+    (b"isnt", BinOp::NotSame),
+    (b"=?=", BinOp::Same),
+    (b"=!=", BinOp::NotSame),
+];
+
 // The operator that is spelled so.
 fn comparison_named(spelling: &[u8]) -> Option<BinOp>
     ensures { result ≡ comparison_named spelling.now }
 {
-    match spelling {
-        b"<" => Some(BinOp::Less),
-        b"<=" => Some(BinOp::AtMost),
-        b"==" => Some(BinOp::Equal),
-        b"!=" => Some(BinOp::Unequal),
-        b">=" => Some(BinOp::AtLeast),
-        b">" => Some(BinOp::Greater),
-        b"is" | b"=?=" => Some(BinOp::Same),
-        b"isnt" | b"=!=" => Some(BinOp::NotSame),
-        _ => None,
+    comparison_in(&COMPARISONS, spelling)
+}
+
+// The first operator of the table that is spelled so.
+fn comparison_in(mut table: &[(&[u8], BinOp)], spelling: &[u8]) -> Option<BinOp>
+    ensures { result ≡ comparison_in (map (λ k. (k.0.now, k.1)) table.entry.now) spelling.now }
+{
+    while let [entry, rest @ ..] = table {
+        if entry.0 == spelling {
+            return Some(entry.1);
+        }
+        table = rest;
     }
+    None
 }
 
 fn compares(op: BinOp, a: &Value, b: &Value) -> bool

@@ -38,8 +38,7 @@ fn has_item(x: &[u8], list: &[u8], delimiters: &[u8]) -> bool
 {
     let marks = marks(delimiters);
     list.split(|byte| is_marked(&marks, *byte))
-        .filter(|part| part.len() > 0)
-        .any(|part| x == part)
+        .any(|part| part.len() > 0 && x == part)
 }
 
 fn count_items(list: &[u8], delimiters: &[u8]) -> usize

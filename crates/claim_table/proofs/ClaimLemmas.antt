@@ -1,8 +1,9 @@
 -- What a claim answers, and what it may count.
-use Rattle.std.proofs.Common.{◌≡◌, ◌≢◌, ℕ, ◌≤◌, All, List, [], if◌then◌else◌, length, slice_get, Option, None, Some, refl, sym, ◌∙◌, ap, arith}
-use Rattle.std.specs.Prelude.{Err, Ok, Result}
-use Rattle.std.specs.Option.{option_and_then, option_map_or}
+use Rattle.std.proofs.Common.{◌≡◌, ◌≢◌, ℕ, ◌≤◌, All, List, [], ◌∷◌, ◌++◌, if◌then◌else◌, length, slice_get, Option, None, Some, refl, sym, ◌∙◌, ap, arith}
+use Rattle.std.specs.Prelude.{Err, Ok, Result, option_map}
+use Rattle.std.specs.Option.{option_and_then, option_map_or, option_to_list}
 use Rattle.std.proofs.lemmas.List.Elements.{All-nil}
+use Rattle.std.proofs.lemmas.Option.{same_Some}
 use Rattle.ad_store.specs.Stock.{Stock}
 use Rattle.bilateral_match.specs.Docks.{is_last_decided}
 use Rattle.claim_table.specs.declared.answers.ClaimFault.{ClaimFault}
@@ -11,7 +12,7 @@ use Rattle.claim_table.specs.declared.answers.JobFault.{JobFault}
 use Rattle.claim_table.specs.declared.answers.JobState.{JobState}
 use Rattle.claim_table.specs.declared.job.Job.{Job}
 use Rattle.claim_table.specs.declared.job.Standing.{Standing}
-use Rattle.claim_table.specs.Answers.{given_back, release_answer}
+use Rattle.claim_table.specs.Answers.{freed_at, freed_of, given_back, release_answer}
 use Rattle.claim_table.specs.Claims.{checked, claimed, claimed_at, entered_for, entered_in, first_failing, freed_all, granted, losers, offer_at, offer_named, sum_over, undecided_for}
 use Rattle.claim_table.specs.Jobs.{IsFilled, job_named, numbered, offer_of, slots_of, state_of, wanted, with_standing}
 
@@ -34,6 +35,11 @@ offer-few job filled = enough-few job.standing (wanted job.request) filled.enoug
 pub offer-found : (jobs : List Job) (i : ℕ) (job : Job) → slice_get jobs i ≡ Some job → offer_at i jobs ≡ offer_of job.standing
 offer-found jobs i job at = ap (λ o. option_map_or (λ j. offer_of j.standing) o []) at
 
+-- one more is told
+pub told-one : (jobs : List Job) (i : ℕ) (job : Job) → slice_get jobs i ≡ Some job → (freed : Freed) (before after : List Freed) → freed ≡ freed_of job → after ≡ before ++ freed ∷ [] → after ≡ before ++ freed_at (Some i) jobs
+told-one jobs i job at freed before after is told =
+    told ∙ ap (λ f. before ++ f ∷ []) is ∙ sym (ap (λ o. before ++ option_to_list (option_map freed_of o)) at)
+
 -- what a release answers
 module _ (name : List ℕ) (jobs : List Job) where
   pub released-nobody : numbered name jobs ≡ None → release_answer name jobs ≡ Err JobFault.NoJob
@@ -51,8 +57,10 @@ module _ (name : List ℕ) (jobs : List Job) where
         by (Standing.Matched slots) is = absurd (cc)
         by (Standing.Claimed slots) is = absurd (cc)
 
-    pub released-held : state_of job.standing ≢ JobState.Idle → release_answer name jobs ≡ Ok (slots_of job.standing)
-    released-held busy = given ∙ by job.standing busy
+    pub released-held : (slots : List ℕ) → state_of job.standing ≢ JobState.Idle → option_map (λ (j : Job). slots_of j.standing) (slice_get jobs i) ≡ Some slots → Ok slots ≡ release_answer name jobs
+    released-held slots busy listed =
+        let held : slots_of job.standing ≡ slots = same_Some (slots_of job.standing) slots (sym (ap (option_map (λ (j : Job). slots_of j.standing)) at) ∙ listed) in
+        sym (given ∙ by job.standing busy ∙ ap (λ l. Ok l) held)
       where
         by : (s : Standing) → state_of s ≢ JobState.Idle → given_back s ≡ Ok (slots_of s)
         by Standing.Idle is = absurd (is refl)

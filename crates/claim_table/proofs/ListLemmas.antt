@@ -126,5 +126,10 @@ read_at f [] i x job mapped read = absurd (none-some x mapped)
 read_at f (j ∷ jobs) zero x job mapped read = ap (λ o. Some o) (sym read)
 read_at f (j ∷ jobs) (suc i) x job mapped read = read_at f jobs i x job mapped read
 
+pub within_at : {A : Type 0} (f : Job → A) (jobs : List Job) (i : ℕ) (x : A) → option_map f (slice_get jobs i) ≡ Some x → i < length jobs
+within_at f [] i x mapped = absurd (none-some x mapped)
+within_at f (j ∷ jobs) zero x mapped = omega arith
+within_at f (j ∷ jobs) (suc i) x mapped = let rest = within_at f jobs i x mapped in omega (arith, rest)
+
 pub value_at : {A : Type 0} (f : Job → A) (jobs : List Job) (i : ℕ) (x : A) (job : Job) → slice_get jobs i ≡ Some job → option_map f (slice_get jobs i) ≡ Some x → f job ≡ x
 value_at f jobs i x job at mapped = ap (λ o. option_map_or (λ y. y) o x) (sym (ap (option_map f) at) ∙ mapped)

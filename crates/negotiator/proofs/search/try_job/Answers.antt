@@ -15,6 +15,16 @@ use Rattle.negotiator.proofs.ReadyLemmas.{ready-given, ready-marked}
 use Rattle.negotiator.proofs.SpinLoopLemmas.{on_err}
 use Rattle.negotiator.proofs.search.try_job.Goals as goal
 
+pub bounds-failed-i : goal.bounds-failed-i
+bounds-failed-i g c =
+    let place = idle-within (jobs_of c.args.claims.now) c.args.i c.requires.idle in
+    omega (arith, place, c.requires.ready.marks)
+
+pub bounds-failed-i-in_default : goal.bounds-failed-i-in_default
+bounds-failed-i-in_default g c =
+    let place = idle-within (jobs_of c.args.claims.now) c.args.i c.requires.idle in
+    omega (arith, place, c.requires.ready.marks)
+
 pub returns-then-failed-i-clause-offered : goal.returns-then-failed-i-clause-offered
 returns-then-failed-i-clause-offered g c =
     let jobs = jobs_of c.args.claims.now in

@@ -1,4 +1,4 @@
-use Rattle.std.proofs.Common.{◌≡◌, ◌∙◌, ℕ, All, Contains, Some, ap, arith, length, refl, rules, slice_get, sym}
+use Rattle.std.proofs.Common.{◌≡◌, ◌≢◌, ◌∙◌, ℕ, All, Contains, Some, ap, arith, length, refl, rules, slice_get, sym}
 use Rattle.std.specs.Prelude.{Err, option_map}
 use Rattle.std.proofs.lemmas.Option.{slice_get_read}
 use Rattle.ad_tree.specs.Ad.{ad_frames}
@@ -9,12 +9,40 @@ use Rattle.claim_table.specs.declared.answers.JobState.{JobState}
 use Rattle.claim_table.specs.declared.job.Job.{Job}
 use Rattle.claim_table.specs.Jobs.{IsFilled, slots_of, state_of}
 use Rattle.claim_table.specs.Table.{jobs_of}
-use Rattle.claim_table.proofs.ClaimLemmas.{claimed-granted, claimed-nobody, claimed-stale, entered-named, offer-few, offer-listed, offer-named, undecided-named}
+use Rattle.claim_table.proofs.ClaimLemmas.{claimed-granted, claimed-nobody, claimed-stale, claimed-unmatched, entered-named, offer-few, offer-listed, offer-named, undecided-named}
 use Rattle.claim_table.proofs.HolderLemmas.{All-found}
 use Rattle.claim_table.proofs.table.ClaimTable.claim.Goals as goal
 
 pub returns-in_default-clause-claim : goal.returns-in_default-clause-claim
 returns-in_default-clause-claim g c = claimed-nobody c.args.moment (stock_of c.args.store.now) c.args.name.now (jobs_of c.args.self.now) (sym c.find.ensures.number ∙ c.in_default.is)
+
+pub returns-in_default-clause-evaluations : goal.returns-in_default-clause-evaluations
+returns-in_default-clause-evaluations g c = omega arith
+
+pub returns-in_default-clause-entries : goal.returns-in_default-clause-entries
+returns-in_default-clause-entries g c = omega arith
+
+pub returns-in_default-clause-looks : goal.returns-in_default-clause-looks
+returns-in_default-clause-looks g c = omega arith
+
+pub returns-then-ne-clause-claim : goal.returns-then-ne-clause-claim
+returns-then-ne-clause-claim g c =
+    let jobs = jobs_of c.args.self.now in
+    let i = c.in-Some.i in
+    let job = c.index-job.result.now in
+    let at : slice_get jobs i ≡ Some job = slice_get_read jobs (length jobs) i job refl c.in-Some.ensures.within c.index-job.ensures in
+    let other : state_of job.standing ≢ JobState.Matched = search rules in
+    claimed-unmatched c.args.moment (stock_of c.args.store.now) c.args.name.now jobs i job (sym c.in-Some.ensures.number) at other
+    ∙ ap (λ state. (Err (ClaimFault.WrongState state), jobs)) (sym c.state-state.ensures)
+
+pub returns-then-ne-clause-evaluations : goal.returns-then-ne-clause-evaluations
+returns-then-ne-clause-evaluations g c = omega arith
+
+pub returns-then-ne-clause-entries : goal.returns-then-ne-clause-entries
+returns-then-ne-clause-entries g c = omega arith
+
+pub returns-then-ne-clause-looks : goal.returns-then-ne-clause-looks
+returns-then-ne-clause-looks g c = omega arith
 
 pub first_failing-requires-clause-offered : goal.first_failing-requires-clause-offered
 first_failing-requires-clause-offered g c =

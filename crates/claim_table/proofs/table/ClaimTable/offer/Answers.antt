@@ -5,9 +5,14 @@ use Rattle.claim_table.specs.declared.job.Standing.{Standing}
 use Rattle.claim_table.specs.Jobs.{lists, wanted}
 use Rattle.claim_table.specs.Kept.{IsKept, note_at}
 use Rattle.claim_table.proofs.ChangeLemmas.{offered_kept}
-use Rattle.claim_table.proofs.ListLemmas.{read_at, value_at}
+use Rattle.claim_table.proofs.ListLemmas.{read_at, value_at, within_at}
 use Rattle.claim_table.proofs.NoteLemmas.{marked-everywhere}
 use Rattle.claim_table.proofs.table.ClaimTable.offer.Goals as goal
+
+pub index_mut-requires : goal.index_mut-requires
+index_mut-requires c =
+    let within = within_at (λ j. j.standing) c.args.self.now.jobs.items c.args.i Standing.Idle c.requires.idle in
+    omega (arith, within, c.args.self.now.jobs.ok.0)
 
 pub invariant_of-self-2 : goal.invariant_of-self-2
 invariant_of-self-2 c =

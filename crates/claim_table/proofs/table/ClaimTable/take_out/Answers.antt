@@ -3,8 +3,13 @@ use Rattle.std.proofs.lemmas.Option.{slice_get_within}
 use Rattle.claim_table.specs.declared.job.Standing.{Standing}
 use Rattle.claim_table.specs.Kept.{IsKept}
 use Rattle.claim_table.proofs.ChangeLemmas.{gone_kept}
-use Rattle.claim_table.proofs.ListLemmas.{read_at, value_at}
+use Rattle.claim_table.proofs.ListLemmas.{read_at, sum_by-remove_at, value_at, within_at}
 use Rattle.claim_table.proofs.table.ClaimTable.take_out.Goals as goal
+
+pub remove-job-requires : goal.remove-job-requires
+remove-job-requires c =
+    let within = within_at (λ j. j.standing) c.args.self.now.jobs.items c.args.i Standing.Idle c.requires in
+    omega (arith, within, c.args.self.now.jobs.ok.0)
 
 pub invariant_of-self : goal.invariant_of-self
 invariant_of-self c =
@@ -21,3 +26,13 @@ invariant_of-self c =
           (omega (arith, c.close_gap-2.ensures.len, c.close_gap-2.new.notes.ok.0, t.claims.ok.0))
           c.close_gap.ensures.notes c.close_gap-2.ensures.notes);
     }
+
+pub overflow_sub-self : goal.overflow_sub-self
+overflow_sub-self c =
+    let t = c.args.self.now in
+    let job = c.remove-job.result in
+    let at : slice_get t.jobs.items c.args.i ≡ Some job = read_at (λ j. j.standing) t.jobs.items c.args.i Standing.Idle job c.requires c.remove-job.ensures.value in
+    omega (arith, sum_by-remove_at (λ j. j.text_len) t.jobs.items c.args.i job at, t.kept.counted)
+
+pub returns : goal.returns
+returns c = c.remove-job.ensures.items

@@ -1,6 +1,10 @@
-use Rattle.std.proofs.Common.{◌∙◌, ap, arith, not}
+use Rattle.std.proofs.Common.{◌∙◌, ℕ, Option, ap, arith, not}
+use Rattle.std.specs.Option.{option_map_or}
+use Rattle.ad_store.specs.Holdings.{Holding}
 use Rattle.ad_store.specs.Store.{stock_of}
 use Rattle.eval_scope.specs.Shown.{world_of}
+use Rattle.eval_scope.specs.World.{attribute_count}
+use Rattle.bilateral_match.specs.Pool.{holder_world}
 use Rattle.bilateral_match.proofs.MemberWeighLemmas.{holder-stands, holder-stored}
 use Rattle.bilateral_match.proofs.SmallLemmas.{holder-small}
 use Rattle.claim_table.specs.Holders.{holder_of}
@@ -12,6 +16,21 @@ use Rattle.claim_table.proofs.table.ClaimTable.wins.Goals as goal
 pub returns-then-is_none-clause-won : goal.returns-then-is_none-clause-won
 returns-then-is_none-clause-won g c =
     unclaimed-won c.args.moment (stock_of c.args.store.now) (jobs_of c.args.self.now) c.args.slot (world_of c.args.world.now) c.holder-holder.result (c.is_none.ensures ∙ ap not c.if-is_none.true) c.holder-holder.ensures.who
+
+pub returns-then-is_none-clause-evaluations : goal.returns-then-is_none-clause-evaluations
+returns-then-is_none-clause-evaluations g c = omega arith
+
+pub returns-then-is_none-clause-entries : goal.returns-then-is_none-clause-entries
+returns-then-is_none-clause-entries g c = omega arith
+
+pub returns-then-is_none-clause-ratio : goal.returns-then-is_none-clause-ratio
+returns-then-is_none-clause-ratio g c world ads jobs = omega arith
+
+pub returns-in_err-regard-clause-evaluations : goal.returns-in_err-regard-clause-evaluations
+returns-in_err-regard-clause-evaluations g c = omega (arith, c.rank.ensures.evaluations)
+
+pub returns-in_err-regard-clause-entries : goal.returns-in_err-regard-clause-entries
+returns-in_err-regard-clause-entries g c = omega (arith, c.rank.ensures.entries)
 
 pub is_won-requires-clause-stored : goal.is_won-requires-clause-stored
 is_won-requires-clause-stored g c =
@@ -25,6 +44,16 @@ is_won-requires-clause-stands g c =
 
 pub returns-in_err-regard-clause-ratio : goal.returns-in_err-regard-clause-ratio
 returns-in_err-regard-clause-ratio g c world ads jobs = omega (arith, c.rank.ensures.ratio world)
+
+pub returns-clause-evaluations : goal.returns-clause-evaluations
+returns-clause-evaluations g c = omega (arith, c.rank.ensures.evaluations, c.is_won.ensures.evaluations)
+
+pub returns-clause-entries : goal.returns-clause-entries
+returns-clause-entries g c =
+    let moment = c.args.moment in
+    let stock = stock_of c.args.store.now in
+    let held = ap {B = ℕ} (λ (holders : Option Holding). option_map_or (λ holding. attribute_count (holder_world moment stock holding)) holders 0) c.holder-holder.ensures.who in
+    omega (arith, held, c.rank.ensures.entries, c.is_won.ensures.entries)
 
 pub returns-clause-ratio : goal.returns-clause-ratio
 returns-clause-ratio g c world ads jobs =

@@ -9,10 +9,12 @@ use Rattle.builtin_funcs.specs.Calls.{is_known}
 use Rattle.ad_tree.specs.Names.{same_name}
 use Rattle.ad_tree.specs.Tree.{Tree, none, more, pack, three}
 use Rattle.ad_tree.proofs.TreeLemmas.{pack-drop}
+use Rattle.ad_eval.specs.declared.chain.Chain.{Chain}
+use Rattle.ad_eval.specs.Chain.{chained, is_decided, joined}
 use Rattle.ad_eval.specs.declared.scene.Scene.{Scene as TheScene}
 use Rattle.ad_eval.specs.Node.{called, conditional, function_value}
 use Rattle.ad_eval.specs.Scene.{results_in, values_in, world_in}
-use Rattle.ad_eval.proofs.NodeLemmas.{all_demanded-end, all_demanded-next, conjunction-next, disjunction-next, values_and}
+use Rattle.ad_eval.proofs.NodeLemmas.{all_demanded-end, all_demanded-next, conjunction-decided, conjunction-next, disjunction-decided, disjunction-next, values_and}
 use Rattle.ad_eval.proofs.SceneLemmas.{results-more, results-none}
 
 -- the results from a place of a list on
@@ -20,11 +22,15 @@ module _ (s : TheScene) (ts : List Tree) (i : ℕ) (t : Tree) (at : slice_get ts
   pub results-from : results_in s (pack (drop i ts)) n ≡ values_in s t n ∷ results_in s (pack (drop (i + 1) ts)) n
   results-from = ap (λ us. results_in s us n) (pack-drop ts i t at) ∙ results-more s t (pack (drop (i + 1) ts)) n
 
-  pub conjunction-from : (v : Plain) → and_is_decided v ≡ false → conjunction v (results_in s (pack (drop i ts)) n) ≡ option_and_then (λ p. conjunction (and_value v p) (results_in s (pack (drop (i + 1) ts)) n)) (values_in s t n)
+  conjunction-from : (v : Plain) → and_is_decided v ≡ false → conjunction v (results_in s (pack (drop i ts)) n) ≡ option_and_then (λ p. conjunction (and_value v p) (results_in s (pack (drop (i + 1) ts)) n)) (values_in s t n)
   conjunction-from v open_yet = ap (conjunction v) results-from ∙ conjunction-next v (values_in s t n) (results_in s (pack (drop (i + 1) ts)) n) open_yet
 
-  pub disjunction-from : (v : Plain) → or_is_decided v ≡ false → disjunction v (results_in s (pack (drop i ts)) n) ≡ option_and_then (λ p. disjunction (or_value v p) (results_in s (pack (drop (i + 1) ts)) n)) (values_in s t n)
+  disjunction-from : (v : Plain) → or_is_decided v ≡ false → disjunction v (results_in s (pack (drop i ts)) n) ≡ option_and_then (λ p. disjunction (or_value v p) (results_in s (pack (drop (i + 1) ts)) n)) (values_in s t n)
   disjunction-from v open_yet = ap (disjunction v) results-from ∙ disjunction-next v (values_in s t n) (results_in s (pack (drop (i + 1) ts)) n) open_yet
+
+  pub chained-from : (kind : Chain) (v : Plain) → is_decided kind v ≡ false → chained kind v (results_in s (pack (drop i ts)) n) ≡ option_and_then (λ p. chained kind (joined kind v p) (results_in s (pack (drop (i + 1) ts)) n)) (values_in s t n)
+  chained-from Chain.And v open_yet = conjunction-from v open_yet
+  chained-from Chain.Or v open_yet = disjunction-from v open_yet
 
   pub all_demanded-from : (vs : List Plain) → values_and vs (all_demanded (results_in s (pack (drop i ts)) n)) ≡ option_and_then (λ p. values_and (vs ++ p ∷ []) (all_demanded (results_in s (pack (drop (i + 1) ts)) n))) (values_in s t n)
   all_demanded-from vs = ap (λ rs. values_and vs (all_demanded rs)) results-from ∙ all_demanded-next vs (values_in s t n) (results_in s (pack (drop (i + 1) ts)) n)
@@ -34,14 +40,22 @@ module _ (s : TheScene) (ts : List Tree) (i : ℕ) (past : length ts ≤ i) (n :
   pub results-end : results_in s (pack (drop i ts)) n ≡ []
   results-end = ap (λ us. results_in s (pack us) n) (drop_all i ts past) ∙ results-none s n
 
-  pub conjunction-end : (v : Plain) → conjunction v (results_in s (pack (drop i ts)) n) ≡ Some v
+  conjunction-end : (v : Plain) → conjunction v (results_in s (pack (drop i ts)) n) ≡ Some v
   conjunction-end v = ap (conjunction v) results-end
 
-  pub disjunction-end : (v : Plain) → disjunction v (results_in s (pack (drop i ts)) n) ≡ Some v
+  disjunction-end : (v : Plain) → disjunction v (results_in s (pack (drop i ts)) n) ≡ Some v
   disjunction-end v = ap (disjunction v) results-end
+
+  pub chained-end : (kind : Chain) (v : Plain) → chained kind v (results_in s (pack (drop i ts)) n) ≡ Some v
+  chained-end Chain.And v = conjunction-end v
+  chained-end Chain.Or v = disjunction-end v
 
   pub values-end : (vs : List Plain) → values_and vs (all_demanded (results_in s (pack (drop i ts)) n)) ≡ Some vs
   values-end vs = ap (λ rs. values_and vs (all_demanded rs)) results-end ∙ all_demanded-end vs
+
+pub chained-decided : (kind : Chain) (v : Plain) (rs : List (Option Plain)) → is_decided kind v ≡ true → chained kind v rs ≡ Some v
+chained-decided Chain.And v rs decided = conjunction-decided v rs decided
+chained-decided Chain.Or v rs decided = disjunction-decided v rs decided
 
 -- ---- conditionals
 

@@ -1,5 +1,5 @@
 -- How an evaluation goes from part to part: what was reached, and what is left to evaluate.
-use Rattle.std.proofs.Common.{◌≡◌, ◌≤◌, ◌<◌, ℕ, zero, suc, true, refl, Option, None, Some, IsSome, List, option_map, max, ap, sym, ◌∙◌, subst, arith, ◌⊎◌, inl, inr}
+use Rattle.std.proofs.Common.{◌≡◌, ◌≤◌, ◌<◌, ℕ, zero, suc, true, refl, Option, None, Some, IsSome, Ok, Err, List, option_map, max, ap, sym, ◌∙◌, subst, arith, ◌⊎◌, inl, inr}
 use Rattle.std.specs.Option.{is_some, option_and_then}
 use Rattle.pool_text.specs.declared.language.Pos.{Pos}
 use Rattle.cycle_guard.specs.declared.guard.Guard.{Guard}
@@ -9,6 +9,7 @@ use Rattle.eval_scope.specs.World.{PlainWorld}
 use Rattle.ad_value.specs.Plain.{Plain, plain, plains}
 use Rattle.ad_eval.specs.declared.outcome.Outcome.{Outcome}
 use Rattle.ad_eval.specs.declared.outcome.Several.{Several}
+use Rattle.ad_eval.specs.declared.stop.Stop.{Stop}
 use Rattle.ad_eval.specs.Kept.{Answers, AnswersAll, Counts, HasHeight, IsReached, IsReady, Ready, is_pending}
 
 -- ---- options
@@ -215,37 +216,45 @@ pub is_ready : {A : Type 0} (w : PlainWorld) (g : Guard) (f : ℕ → Option A) 
 unfolding Ready
 is_ready w g f h = h
 
-pub answer_none : (w : PlainWorld) (f : ℕ → Option Plain) (left : ℕ) (old new : Guard) → Answers w f left old new None → f left ≡ None
+-- the same function of the references under another name
+pub ready_as : {A : Type 0} (w : PlainWorld) (f e : ℕ → Option A) (g : Guard) → ((n : ℕ) → f n ≡ e n) → Ready w g f → Ready w g e
+ready_as w f e g same ready = is_ready w g e (ready_of w f e g same (ready_is w g f ready))
+
+pub answer_none : (w : PlainWorld) (f : ℕ → Option Plain) (left : ℕ) (old new : Guard) → Answers w f left old new (Err Stop.References) → f left ≡ None
 unfolding Answers
 answer_none w f left old new h = h
 
-pub answers_none : (w : PlainWorld) (f : ℕ → Option Plain) (left : ℕ) (old new : Guard) → f left ≡ None → Answers w f left old new None
-unfolding Answers
-answers_none w f left old new h = h
-
-pub answer_some : (w : PlainWorld) (f : ℕ → Option Plain) (left : ℕ) (old new : Guard) (o : Outcome) → Answers w f left old new (Some o) → IsReached w f left old new (plain o.value) o.height
+pub answer_some : (w : PlainWorld) (f : ℕ → Option Plain) (left : ℕ) (old new : Guard) (o : Outcome) → Answers w f left old new (Ok o) → IsReached w f left old new (plain o.value) o.height
 unfolding Answers
 answer_some w f left old new o h = h
 
-pub answers_some : (w : PlainWorld) (f : ℕ → Option Plain) (left : ℕ) (old new : Guard) (o : Outcome) → IsReached w f left old new (plain o.value) o.height → Answers w f left old new (Some o)
+pub answers_some : (w : PlainWorld) (f : ℕ → Option Plain) (left : ℕ) (old new : Guard) (o : Outcome) → IsReached w f left old new (plain o.value) o.height → Answers w f left old new (Ok o)
 unfolding Answers
 answers_some w f left old new o h = h
 
-pub answer_all_none : (w : PlainWorld) (f : ℕ → Option (List Plain)) (left : ℕ) (old new : Guard) → AnswersAll w f left old new None → f left ≡ None
+-- a stop, which says nothing where memory is wanting
+pub stops_by : (w : PlainWorld) (f : ℕ → Option Plain) (left : ℕ) (old new : Guard) (stop : Stop) → (stop ≡ Stop.References → f left ≡ None) → Answers w f left old new (Err stop)
+unfolding Answers
+stops_by w f left old new Stop.References h = h refl
+stops_by w f left old new Stop.OutOfMemory h = tt
+
+pub answer_all_none : (w : PlainWorld) (f : ℕ → Option (List Plain)) (left : ℕ) (old new : Guard) → AnswersAll w f left old new (Err Stop.References) → f left ≡ None
 unfolding AnswersAll
 answer_all_none w f left old new h = h
 
-pub answers_all_none : (w : PlainWorld) (f : ℕ → Option (List Plain)) (left : ℕ) (old new : Guard) → f left ≡ None → AnswersAll w f left old new None
-unfolding AnswersAll
-answers_all_none w f left old new h = h
-
-pub answer_all_some : (w : PlainWorld) (f : ℕ → Option (List Plain)) (left : ℕ) (old new : Guard) (o : Several) → AnswersAll w f left old new (Some o) → IsReached w f left old new (plains o.values) o.height
+pub answer_all_some : (w : PlainWorld) (f : ℕ → Option (List Plain)) (left : ℕ) (old new : Guard) (o : Several) → AnswersAll w f left old new (Ok o) → IsReached w f left old new (plains o.values) o.height
 unfolding AnswersAll
 answer_all_some w f left old new o h = h
 
-pub answers_all_some : (w : PlainWorld) (f : ℕ → Option (List Plain)) (left : ℕ) (old new : Guard) (o : Several) → IsReached w f left old new (plains o.values) o.height → AnswersAll w f left old new (Some o)
+pub answers_all_some : (w : PlainWorld) (f : ℕ → Option (List Plain)) (left : ℕ) (old new : Guard) (o : Several) → IsReached w f left old new (plains o.values) o.height → AnswersAll w f left old new (Ok o)
 unfolding AnswersAll
 answers_all_some w f left old new o h = h
+
+-- a stop, which says nothing where memory is wanting
+pub stops_all_by : (w : PlainWorld) (f : ℕ → Option (List Plain)) (left : ℕ) (old new : Guard) (stop : Stop) → (stop ≡ Stop.References → f left ≡ None) → AnswersAll w f left old new (Err stop)
+unfolding AnswersAll
+stops_all_by w f left old new Stop.References h = h refl
+stops_all_by w f left old new Stop.OutOfMemory h = tt
 
 pub counts_same : (w : PlainWorld) (n : ℕ) (g : Guard) → Counts w n n g g
 unfolding Counts

@@ -9,5 +9,6 @@ mod NodeLemmas
 mod PartLemmas
 mod ReferenceLemmas
 mod SceneLemmas
+mod ShapeLemmas
 mod TopLemmas
 mod ValueLemmas

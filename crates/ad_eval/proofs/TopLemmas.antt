@@ -1,9 +1,10 @@
 -- Whole evaluations, which begin with nothing entered and 24 references.
-use Rattle.std.proofs.Common.{◌≡◌, ◌≤◌, ◌+◌, ℕ, Option, None, Some, unwrap_or, take, refl, ap, sym, ◌∙◌, subst, arith}
+use Rattle.std.proofs.Common.{◌≡◌, ◌≤◌, ◌+◌, ℕ, Option, Result, Ok, Err, IfOk, unwrap_or, take, refl, ap, sym, ◌∙◌, subst, arith}
 use Rattle.std.proofs.lemmas.List.{length-map, length-take}
 use Rattle.std.proofs.lemmas.List.Sums.{sum_by-le}
-use Rattle.std.specs.Option.{option_map_or}
 use Rattle.pool_text.specs.declared.language.Pos.{Pos}
+use Rattle.pool_text.specs.declared.memory.OutOfMemory.{OutOfMemory}
+use Rattle.ad_value.specs.declared.value.Value.{Value}
 use Rattle.ad_value.specs.Plain.{Plain, error, plain}
 use Rattle.cycle_guard.specs.declared.guard.Guard.{Guard}
 use Rattle.cycle_guard.specs.Sights.{unseen, pending, done}
@@ -16,6 +17,8 @@ use Rattle.ad_tree.specs.Small.{attribute_total}
 use Rattle.ad_tree.specs.Tree.{Tree}
 use Rattle.ad_eval.specs.declared.outcome.Outcome.{Outcome}
 use Rattle.ad_eval.specs.declared.scene.Scene.{Scene as TheScene}
+use Rattle.ad_eval.specs.declared.stop.Stop.{Stop}
+use Rattle.ad_eval.specs.Answered.{IsValueOrError}
 use Rattle.ad_eval.specs.Kept.{Answers, Counts, Ready}
 use Rattle.ad_eval.specs.Scene.{values_in, world_in}
 use Rattle.ad_eval.specs.Small.{AreSmall}
@@ -38,11 +41,13 @@ ready_new w g f fresh = is_ready w g f (record {
 })
 
 -- the answer with so many references, Error where it is none
-pub result_of : (w : PlainWorld) (f : ℕ → Option Plain) (left : ℕ) (g g1 : Guard) (r : Option Outcome) → Answers w f left g g1 r → option_map_or (λ o. plain o.value) r error ≡ unwrap_or (f left) error
-result_of w f left g g1 None h = ap (λ p. unwrap_or p error) (sym (answer_none w f left g g1 h))
-result_of w f left g g1 (Some o) h =
+pub result_of : (w : PlainWorld) (f : ℕ → Option Plain) (left : ℕ) (g g1 : Guard) (r : Result Outcome Stop) (shown : Result Value OutOfMemory) (p : Plain) → unwrap_or (f left) error ≡ p → Answers w f left g g1 r → IsValueOrError r shown → IfOk shown (λ v. plain v ≡ p)
+result_of w f left g g1 r (Err e) p same h is = tt
+result_of w f left g g1 (Ok o) (Ok v) p same h is =
     let t = answer_some w f left g g1 o h in
-    ap (λ p. unwrap_or p error) (sym (t.height.reached left t.within))
+    is ∙ ap (λ q. unwrap_or q error) (sym (t.height.reached left t.within)) ∙ same
+result_of w f left g g1 (Err Stop.References) (Ok v) p same h is = is ∙ ap (λ q. unwrap_or q error) (sym (answer_none w f left g g1 h)) ∙ same
+result_of w f left g g1 (Err Stop.OutOfMemory) (Ok v) p same h wrong = absurd (cc)
 
 -- no more attributes are entered than there are
 pub entered_all : (w : PlainWorld) (a b : ℕ) (g g1 : Guard) → Counts w a b g g1 → b ≤ a + attribute_count w

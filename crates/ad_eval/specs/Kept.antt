@@ -1,5 +1,5 @@
 -- Values that are kept in the course of an evaluation, each with the least number of references that it needs.
-use Rattle.std.specs.Prelude.{ℕ, zero, suc, List, [], ◌∷◌, ◌++◌, length, count_by, ◌≡◌, ◌≤◌, ◌<◌, ◌+◌, Bool, true, false, Option, None, Some, IsSome}
+use Rattle.std.specs.Prelude.{ℕ, zero, suc, List, [], ◌∷◌, ◌++◌, length, count_by, ◌≡◌, ◌≤◌, ◌<◌, ◌+◌, Bool, true, false, Option, None, Some, IsSome, Result, Ok, Err}
 use Rattle.pool_text.specs.declared.language.Pos.{Pos}
 use Rattle.ad_value.specs.Plain.{Plain}
 use Rattle.cycle_guard.specs.declared.guard.Guard.{Guard}
@@ -10,6 +10,7 @@ use Rattle.eval_scope.specs.World.{PlainWorld, ads}
 use Rattle.ad_value.specs.Plain.{plain, plains}
 use Rattle.ad_eval.specs.declared.outcome.Outcome.{Outcome}
 use Rattle.ad_eval.specs.declared.outcome.Several.{Several}
+use Rattle.ad_eval.specs.declared.stop.Stop.{Stop}
 use Rattle.ad_eval.specs.Value.{value_at}
 
 -- f gives v from h references on, and nothing below
@@ -46,15 +47,17 @@ pub record IsReached {A : Type 0} (w : PlainWorld) (f : ℕ → Option A) (left 
   pub kept : AreKept w new
   pub pending : (s : Pos) → is_pending (sight_of new s) ≡ is_pending (sight_of old s)
 
--- what is answered for f: a value, or none where the references that were left don't suffice
-unfoldable pub Answers : PlainWorld → (ℕ → Option Plain) → ℕ → Guard → Guard → Option Outcome → Type 0
-Answers w f left old new None = f left ≡ None
-Answers w f left old new (Some o) = IsReached w f left old new (plain o.value) o.height
+-- what is answered for f: a value, or that the references that were left don't suffice; nothing where memory is wanting
+unfoldable pub Answers : PlainWorld → (ℕ → Option Plain) → ℕ → Guard → Guard → Result Outcome Stop → Type 0
+Answers w f left old new (Ok o) = IsReached w f left old new (plain o.value) o.height
+Answers w f left old new (Err Stop.References) = f left ≡ None
+Answers w f left old new (Err Stop.OutOfMemory) = Unit {0}
 
 -- the same for several values
-unfoldable pub AnswersAll : PlainWorld → (ℕ → Option (List Plain)) → ℕ → Guard → Guard → Option Several → Type 0
-AnswersAll w f left old new None = f left ≡ None
-AnswersAll w f left old new (Some o) = IsReached w f left old new (plains o.values) o.height
+unfoldable pub AnswersAll : PlainWorld → (ℕ → Option (List Plain)) → ℕ → Guard → Guard → Result Several Stop → Type 0
+AnswersAll w f left old new (Ok o) = IsReached w f left old new (plains o.values) o.height
+AnswersAll w f left old new (Err Stop.References) = f left ≡ None
+AnswersAll w f left old new (Err Stop.OutOfMemory) = Unit {0}
 
 -- ---- how many attributes weren't entered yet
 

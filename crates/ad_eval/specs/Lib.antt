@@ -1,4 +1,6 @@
+pub mod Answered
 pub mod Branch
+pub mod Chain
 pub mod Dock
 pub mod Kept
 pub mod Node

@@ -1,5 +1,5 @@
 // The evaluation of expressions, in which each attribute is entered at most once.
-ghost use Rattle.std.specs.Prelude.{◌≡◌, IfOk, IsSome};
+ghost use Rattle.std.specs.Prelude.{◌≡◌, IsSome};
 ghost use Rattle.ad_tree.specs.Tree.{tree};
 ghost use Rattle.cycle_guard.specs.Sights.{unseen};
 ghost use Rattle.cycle_guard.specs.Shown.{sight_of};
@@ -9,16 +9,19 @@ ghost use Rattle.ad_eval.specs.Reference.{IsInWorld, value_of};
 ghost use Rattle.ad_eval.specs.Scene.{values_in, world_in};
 ghost use Rattle.ad_eval.specs.Value.{value_at};
 
-use crate::chains::{call_function, conditional, conjunction, disjunction, list_literal};
+use crate::chain::Chain;
+use crate::chains::{call_function, chain, conditional, list_literal};
+use crate::kept::{keep, recalled};
+use crate::leaves::{literal, nested_ad};
 use crate::operands::{binary_operation, selection, subscription, unary_operation};
 use crate::outcome::Outcome;
 use crate::reference::{Reference, look_up};
 use crate::scene::{Scene, inside};
+use crate::stop::Stop;
 use ad_tree::Expr;
-use ad_value::{Value, copy, from_lit};
 use cycle_guard::{Guard, Seen};
 use pool_steps::Steps;
-use pool_text::{AdPlace, OutOfMemory, Pos};
+use pool_text::Pos;
 use std::sync::ledger::Ledger;
 
 /// The value of an expression, or none where the references that are left don't suffice.
@@ -28,21 +31,21 @@ pub fn evaluate<E: Ledger>(
     guard: &mut Guard,
     entry: &mut Steps<E>,
     expr: &Expr,
-) -> Result<Option<Outcome>, OutOfMemory>
+) -> Result<Outcome, Stop>
     requires { Ready (world_in scene.now) guard.old (values_in scene.now (tree expr.now)) }
-    ensures answer { IfOk result (λ o. Answers (world_in scene.now) (values_in scene.now (tree expr.now)) scene.now.left guard.old guard.new o) }
+    ensures answer { Answers (world_in scene.now) (values_in scene.now (tree expr.now)) scene.now.left guard.old guard.new result }
     ensures counted { Counts (world_in scene.now) entry.old entry.new guard.old guard.new }
 {
     match expr {
-        Expr::Literal(lit) => Ok(Some(Outcome::leaf(from_lit(scene.alloc, lit)?))),
+        Expr::Literal(lit) => literal(scene.alloc, lit),
         Expr::Name(scope, name) => {
             let named = look_up(scene, *scope, name.bytes());
             follow(scene, guard, entry, named)
         }
         Expr::Unary(op, a) => unary_operation(scene, guard, entry, *op, a),
         Expr::Binary(op, a, b) => binary_operation(scene, guard, entry, *op, a, b),
-        Expr::And(items) => conjunction(scene, guard, entry, items),
-        Expr::Or(items) => disjunction(scene, guard, entry, items),
+        Expr::And(items) => chain(scene, guard, entry, Chain::And, items),
+        Expr::Or(items) => chain(scene, guard, entry, Chain::Or, items),
         Expr::Cond(condition, first, second) => {
             conditional(scene, guard, entry, condition, first, second)
         }
@@ -50,10 +53,7 @@ pub fn evaluate<E: Ledger>(
         Expr::Subscript(base, index) => subscription(scene, guard, entry, base, index),
         Expr::Call(name, items) => call_function(scene, guard, entry, name.bytes(), items),
         Expr::List(items) => list_literal(scene, guard, entry, items),
-        Expr::Frame(frame) => Ok(Some(Outcome::leaf(Value::Ad(AdPlace {
-            ad: scene.at.ad,
-            frame: *frame,
-        })))),
+        Expr::Frame(frame) => Ok(nested_ad(scene, *frame)),
     }
 }
 
@@ -64,14 +64,14 @@ pub fn follow<E: Ledger>(
     guard: &mut Guard,
     entry: &mut Steps<E>,
     reference: Reference,
-) -> Result<Option<Outcome>, OutOfMemory>
+) -> Result<Outcome, Stop>
     requires there { IsInWorld (world_in scene.now) reference }
     requires ready { Ready (world_in scene.now) guard.old (λ n. value_of (λ s. value_at n (world_in scene.now) s) reference) }
-    ensures answer { IfOk result (λ o. Answers (world_in scene.now) (λ n. value_of (λ s. value_at n (world_in scene.now) s) reference) scene.now.left guard.old guard.new o) }
+    ensures answer { Answers (world_in scene.now) (λ n. value_of (λ s. value_at n (world_in scene.now) s) reference) scene.now.left guard.old guard.new result }
     ensures counted { Counts (world_in scene.now) entry.old entry.new guard.old guard.new }
 {
     match reference {
-        Reference::Value(value) => Ok(Some(Outcome::leaf(value))),
+        Reference::Value(value) => Ok(Outcome::leaf(value)),
         Reference::Attribute(pos) => attribute(scene, guard, entry, pos),
     }
 }
@@ -84,24 +84,16 @@ pub fn attribute<E: Ledger>(
     guard: &mut Guard,
     entry: &mut Steps<E>,
     pos: Pos,
-) -> Result<Option<Outcome>, OutOfMemory>
+) -> Result<Outcome, Stop>
     requires there { IsSome (expr_of (world_in scene.now) pos) }
     requires ready { Ready (world_in scene.now) guard.old (λ n. value_at n (world_in scene.now) pos) }
-    ensures answer { IfOk result (λ o. Answers (world_in scene.now) (λ n. value_at n (world_in scene.now) pos) scene.now.left guard.old guard.new o) }
+    ensures answer { Answers (world_in scene.now) (λ n. value_at n (world_in scene.now) pos) scene.now.left guard.old guard.new result }
     ensures counted { Counts (world_in scene.now) entry.old entry.new guard.old guard.new }
 {
     match guard.state(pos) {
         Seen::Unseen => enter(scene, guard, entry, pos),
-        Seen::Pending => Ok(None),
-        Seen::Done(value, height) => {
-            if height > scene.left {
-                return Ok(None);
-            }
-            Ok(Some(Outcome {
-                value: copy(scene.alloc, value)?,
-                height,
-            }))
-        }
+        Seen::Pending => Err(Stop::References),
+        Seen::Done(value, height) => recalled(scene, value, height),
     }
 }
 
@@ -112,23 +104,19 @@ fn enter<E: Ledger>(
     guard: &mut Guard,
     entry: &mut Steps<E>,
     pos: Pos,
-) -> Result<Option<Outcome>, OutOfMemory>
+) -> Result<Outcome, Stop>
     requires there { IsSome (expr_of (world_in scene.now) pos) }
     requires fresh { sight_of guard.old pos ≡ unseen }
     requires ready { Ready (world_in scene.now) guard.old (λ n. value_at n (world_in scene.now) pos) }
-    ensures answer { IfOk result (λ o. Answers (world_in scene.now) (λ n. value_at n (world_in scene.now) pos) scene.now.left guard.old guard.new o) }
+    ensures answer { Answers (world_in scene.now) (λ n. value_at n (world_in scene.now) pos) scene.now.left guard.old guard.new result }
     ensures counted { Counts (world_in scene.now) entry.old entry.new guard.old guard.new }
 {
     if scene.left == 0 {
-        return Ok(None);
+        return Err(Stop::References);
     }
     guard.enter(pos)?;
     let expr = scene.world.expr_at(pos, entry);
     let inner = inside(scene, pos);
-    let Some(found) = evaluate(&inner, guard, entry, expr)? else {
-        return Ok(None);
-    };
-    let kept = copy(scene.alloc, &found.value)?;
-    guard.finish(pos, kept, found.height + 1);
-    Ok(Some(found.one_more()))
+    let found = evaluate(&inner, guard, entry, expr)?;
+    keep(scene.alloc, guard, pos, found)
 }

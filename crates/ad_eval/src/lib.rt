@@ -3,13 +3,17 @@
 
 mod branch;
 mod calls;
+mod chain;
 mod chains;
 mod evaluation;
+mod kept;
 mod laws;
+mod leaves;
 mod operands;
 mod outcome;
 mod reference;
 mod scene;
+mod stop;
 mod top;
 
 pub use laws::{

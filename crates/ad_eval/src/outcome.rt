@@ -1,10 +1,14 @@
 // What a step of an evaluation gives.
 ghost use Rattle.std.specs.Prelude.{◌≡◌, ◌<◌, ◌+◌, ◌^◌, ◌++◌, ◌∷◌, [], max, IfOk};
 ghost use Rattle.ad_value.specs.Logic.{and_value, or_value};
+ghost use Rattle.ad_value.specs.Demands.{list_value};
+ghost use Rattle.ad_value.specs.Operators.{binary_value, unary_value};
 ghost use Rattle.ad_value.specs.Plain.{plain, plains};
+ghost use Rattle.ad_eval.specs.Answered.{IsAtLeast};
 
-use ad_value::{Value, Values, and_step, or_step};
-use pool_text::OutOfMemory;
+use crate::stop::Stop;
+use ad_value::{Value, Values, and_step, binary, bounded, or_step, unary};
+use pool_text::{BinOp, OutOfMemory, UnOp};
 
 /// A value, with the least number of references that it needs.
 #[derive(Drop)]
@@ -29,16 +33,27 @@ impl Outcome {
         Outcome { value, height: 0 }
     }
 
-    /// The same value where it needs at least so many references.
-    pub fn at_least(self, height: u32) -> Outcome
-        ensures value { plain result.value ≡ plain self.value }
-        ensures height { result.height ≡ max height self.height }
+    /// The value of an operator before this operand.
+    pub fn unary(self, op: UnOp) -> Outcome
+        ensures value { plain result.value ≡ unary_value op (plain self.value) }
+        ensures height { result.height ≡ self.height }
     {
-        let Outcome { value, height: own } = self;
-        Outcome {
-            value,
-            height: greater(height, own),
-        }
+        let value = unary(op, &self.value);
+        let height = self.height;
+        drop(self);
+        Outcome { value, height }
+    }
+
+    /// The value of an operator between this operand and the next, with the references of both.
+    pub fn binary(self, op: BinOp, next: Outcome) -> Outcome
+        ensures value { plain result.value ≡ binary_value op (plain self.value) (plain next.value) }
+        ensures height { result.height ≡ max self.height next.height }
+    {
+        let value = binary(op, &self.value, &next.value);
+        let height = greater(self.height, next.height);
+        drop(self);
+        drop(next);
+        Outcome { value, height }
     }
 }
 
@@ -99,6 +114,31 @@ impl Several {
             values,
             height: greater(height, needed),
         })
+    }
+
+    /// The list of these values, Error where it weighs too much.
+    pub fn listed(self) -> Outcome
+        ensures value { plain result.value ≡ list_value (plains self.values) }
+        ensures height { result.height ≡ self.height }
+    {
+        let Several { values, height } = self;
+        Outcome {
+            value: bounded(Value::List(values)),
+            height,
+        }
+    }
+}
+
+/// The same answer where a value needs at least so many references.
+pub fn at_least(answer: Result<Outcome, Stop>, height: u32) -> Result<Outcome, Stop>
+    ensures { IsAtLeast height answer result }
+{
+    match answer {
+        Ok(Outcome { value, height: own }) => Ok(Outcome {
+            value,
+            height: greater(height, own),
+        }),
+        Err(stop) => Err(stop),
     }
 }
 

@@ -1,11 +1,12 @@
 // Whole evaluations: of an expression, a requirement, a rank and a dock.
 ghost use Rattle.std.specs.Prelude.{◌≡◌, ◌≤◌, ◌+◌, ◌*◌, option_map, IfOk, IfSome, IsSome};
-ghost use Rattle.std.specs.Option.{option_map_or};
-ghost use Rattle.ad_value.specs.Plain.{error, plain};
+ghost use Rattle.ad_value.specs.Logic.{is_true};
+ghost use Rattle.ad_value.specs.Plain.{Plain, plain};
 ghost use Rattle.ad_tree.specs.Special.{requirement_of};
 ghost use Rattle.ad_tree.specs.Tree.{tree};
 ghost use Rattle.eval_scope.specs.Shown.{world_of};
 ghost use Rattle.eval_scope.specs.World.{attribute_count, expr_of, frames_of_ad};
+ghost use Rattle.ad_eval.specs.Answered.{IsValueOrError};
 ghost use Rattle.ad_eval.specs.Dock.{attribute_of, is_docked, meets_requirement, rank_by, rank_number};
 ghost use Rattle.ad_eval.specs.Small.{AreSmall};
 ghost use Rattle.ad_eval.specs.Value.{evaluation, evaluation_at};
@@ -13,6 +14,7 @@ ghost use Rattle.ad_eval.specs.Value.{evaluation, evaluation_at};
 use crate::evaluation::{attribute, evaluate};
 use crate::outcome::Outcome;
 use crate::scene::Scene;
+use crate::stop::Stop;
 use ad_tree::Expr;
 use ad_value::Value;
 use cycle_guard::Guard;
@@ -53,8 +55,7 @@ pub fn value<F: Ledger, E: Ledger>(
     let mut guard = Guard::new(alloc);
     let evaluated = evaluate(&scene, &mut guard, entry, expr);
     drop(guard);
-    let answer = evaluated?;
-    Ok(value_or_error(answer))
+    value_or_error(evaluated)
 }
 
 /// Whether the requirement of the frame `at` is the Boolean true: its attribute `Requirements`, or else `Constraint`, which
@@ -76,10 +77,7 @@ pub fn requirement<F: Ledger, E: Ledger>(
     let Some(pos) = requirement_in(world, at) else {
         return Ok(false);
     };
-    let value = value_at(alloc, world, pos, tops, entry)?;
-    let holds = matches!(value, Value::Boolean(true));
-    drop(value);
-    Ok(holds)
+    holds(value_at(alloc, world, pos, tops, entry))
 }
 
 /// The rank by the frame `at`: its attribute `Rank` where that is an Integer, 1 where it is true, and 0 for all else. The
@@ -101,10 +99,7 @@ pub fn rank<F: Ledger, E: Ledger>(
     let Some(pos) = world.within(at, b"Rank") else {
         return Ok(0);
     };
-    let value = value_at(alloc, world, pos, tops, entry)?;
-    let number = rank_number(&value);
-    drop(value);
-    Ok(number)
+    number(value_at(alloc, world, pos, tops, entry))
 }
 
 /// Whether the last dock is true: the requirements of both its sides are, the request's first. The resource's side is
@@ -153,18 +148,38 @@ fn value_at<F: Ledger, E: Ledger>(
     let mut guard = Guard::new(alloc);
     let evaluated = attribute(&scene, &mut guard, entry, pos);
     drop(guard);
-    let answer = evaluated?;
-    Ok(value_or_error(answer))
+    value_or_error(evaluated)
 }
 
-// The value of an answer, Error where there is none.
-fn value_or_error(answer: Option<Outcome>) -> Value
-    ensures { plain result ≡ option_map_or (λ o. plain o.value) answer error }
+// The value of an answer, Error where the references didn't suffice.
+fn value_or_error(answer: Result<Outcome, Stop>) -> Result<Value, OutOfMemory>
+    ensures { IsValueOrError answer result }
 {
     match answer {
-        Some(outcome) => outcome.value,
-        None => Value::Error,
+        Ok(outcome) => Ok(outcome.value),
+        Err(Stop::References) => Ok(Value::Error),
+        Err(Stop::OutOfMemory) => Err(OutOfMemory),
     }
+}
+
+// Whether the value of a requirement is true.
+fn holds(value: Result<Value, OutOfMemory>) -> Result<bool, OutOfMemory>
+    ensures { (v : Plain) → IfOk value (λ found. plain found ≡ v) → IfOk result (λ b. b ≡ is_true v) }
+{
+    let value = value?;
+    let holds = matches!(value, Value::Boolean(true));
+    drop(value);
+    Ok(holds)
+}
+
+// The rank that a value stands for.
+fn number(value: Result<Value, OutOfMemory>) -> Result<i64, OutOfMemory>
+    ensures { (v : Plain) → IfOk value (λ found. plain found ≡ v) → IfOk result (λ n. n ≡ rank_number v) }
+{
+    let value = value?;
+    let number = rank_number(&value);
+    drop(value);
+    Ok(number)
 }
 
 // The requirement of a frame.

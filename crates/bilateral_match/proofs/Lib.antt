@@ -2,6 +2,7 @@ pub mod AlikeLemmas
 mod ConjunctLemmas
 pub mod DecidedLemmas
 pub mod DockingLemmas
+mod DifferLemmas
 mod FindLemmas
 mod LoopLemmas
 mod MemberLemmas

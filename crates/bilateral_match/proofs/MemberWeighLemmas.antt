@@ -14,7 +14,8 @@ use Rattle.bilateral_match.specs.Counts.{attributes_weighed, is_open}
 use Rattle.bilateral_match.specs.Docks.{docks, is_undecided, pair_world, rank_of_dock}
 use Rattle.bilateral_match.specs.Members.{as_member, is_won, member_with, regard}
 use Rattle.bilateral_match.specs.Pool.{AreStored, Pool, holder_world, pool_of, regard_in, slot_at, slots_world}
-use Rattle.bilateral_match.specs.Scan.{ranks_of_dock}
+use Rattle.bilateral_match.specs.Scan.{ranks_of_dock, where_won}
+use Rattle.bilateral_match.specs.Scan.{as_member as as_made}
 use Rattle.bilateral_match.proofs.ScanLemmas.{decided-docks}
 
 -- ---- the dock
@@ -122,7 +123,7 @@ module _ (moment : ℕ) (stock : Stock) (offered : ℕ → Bool) (holding : ℕ 
         by false free false won e = refl
         by live free true won e = absurd (cc)
 
-    pub none-lost : (o : Option Advert) → option_map (λ a. a.ad) o ≡ Some fs → is_won pool request place fs ≡ false → None ≡ member_of o
+    none-lost : (o : Option Advert) → option_map (λ a. a.ad) o ≡ Some fs → is_won pool request place fs ≡ false → None ≡ member_of o
     none-lost None is lost = refl
     none-lost (Some a) is lost =
         let same : a.ad ≡ fs = cc in
@@ -135,7 +136,7 @@ module _ (moment : ℕ) (stock : Stock) (offered : ℕ → Bool) (holding : ℕ 
         by false free docked false e = refl
         by live free docked true e = absurd (cc)
 
-    pub some-won : (o : Option Advert) (r : Ranks) (claimed : Bool) (m : Member) → option_map (λ a. a.ad) o ≡ Some fs → option_map (is_live pool.moment) o ≡ Some true → offered slot ≡ false
+    some-won : (o : Option Advert) (r : Ranks) (claimed : Bool) (m : Member) → option_map (λ a. a.ad) o ≡ Some fs → option_map (is_live pool.moment) o ≡ Some true → offered slot ≡ false
         → Some r ≡ ranks_of_dock pool.moment request fs → is_won pool request place fs ≡ true → claimed ≡ is_some (holding slot)
         → m ≡ record { rank = r.rank; claimed = claimed; regard = r.regard; place = place } → Some m ≡ member_of o
     some-won None r claimed m is live free ranks won holds made = absurd (cc)
@@ -160,6 +161,12 @@ module _ (moment : ℕ) (stock : Stock) (offered : ℕ → Bool) (holding : ℕ 
             ap (λ (n : ℤ). let m : Member = record { rank = n; claimed = is_some (pool.held_in place); regard = regard pool.moment request a.ad; place = place } in m) e
             ∙ ap (λ (b : Bool). let m : Member = record { rank = r.rank; claimed = b; regard = regard pool.moment request a.ad; place = place } in m) f
             ∙ ap (λ (n : ℤ). let m : Member = record { rank = r.rank; claimed = claimed; regard = n; place = place } in m) g
+
+    -- where they dock, it is a member if it is won
+    pub won-or-lost : (o : Option Advert) (r : Ranks) (claimed won : Bool) → option_map (λ a. a.ad) o ≡ Some fs → option_map (is_live pool.moment) o ≡ Some true → offered slot ≡ false
+        → Some r ≡ ranks_of_dock pool.moment request fs → is_won pool request place fs ≡ won → claimed ≡ is_some (holding slot) → where_won won r claimed place ≡ member_of o
+    won-or-lost o r claimed true is live free ranks won holds = some-won o r claimed (as_made r claimed place) is live free ranks won holds refl
+    won-or-lost o r claimed false is live free ranks won holds = none-lost o is won
 
     -- what it takes
     module _ (free : offered slot ≡ false) where

@@ -12,6 +12,7 @@ use Rattle.ad_store.specs.Holdings.{Holding, holding_of}
 use Rattle.ad_store.specs.Stock.{Advert, Stock}
 use Rattle.eval_scope.specs.World.{PlainWorld}
 use Rattle.ad_eval.specs.Small.{AreSmall}
+use Rattle.bilateral_match.specs.Docks.{pair_world}
 use Rattle.bilateral_match.specs.Pool.{ad_in, slots_world}
 use Rattle.bilateral_match.specs.Small.{AreSmallAds, AreSmallHolders}
 
@@ -40,6 +41,11 @@ slots-small moment stock request slots w is small_request small_ads =
     subst AreSmall (sym is)
     (All-cons IsSmall (ad_frames request.ad) (map (ad_in stock) slots) small_request
     (All-map IsSmall (ad_in stock) slots (λ i d within. in-small stock (get_or slots i d) small_ads)))
+
+-- so is the world in which a small ad is docked to a small request
+pub pair-small : (moment : ℕ) (request ad : List Frame) (w : PlainWorld) → w ≡ pair_world moment request ad → IsSmall request → IsSmall ad → AreSmall w
+pair-small moment request ad w is small_request small_ad =
+    subst AreSmall (sym is) (All-cons IsSmall request (ad ∷ []) small_request (All-cons IsSmall ad [] small_ad (λ i d within. absurd (omega arith))))
 
 -- ---- the holder
 

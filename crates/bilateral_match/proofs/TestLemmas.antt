@@ -30,6 +30,26 @@ pub record IsSide (w : PlainWorld) (p : AdPlace) (fs : List Frame) (ls : List (L
   pub beyond : (x : List ℕ) → Finds w (first_found w x (targets w p.ad)) (enclosed_expr other g x)
   pub unlabelled : (x : List ℕ) → has_name x ls ≡ false → first_found w x (labels w p.ad) ≡ Found.Nothing
 
+-- ---- what is never the same
+
+none-test : (test : Test) → None ≡ Some test → ⊥
+none-test test e = cc
+
+none-plain : (v : Plain) → None ≡ Some v → ⊥
+none-plain v e = cc
+
+neither-constant : (lit : Lit) → neither ≡ constant lit → ⊥
+neither-constant lit e = cc
+
+neither-asked : (x : List ℕ) → neither ≡ asked_of x → ⊥
+neither-asked x e = cc
+
+constant-asked : (lit : Lit) (x : List ℕ) → constant lit ≡ asked_of x → ⊥
+constant-asked lit x e = cc
+
+asked-constant : (x : List ℕ) (lit : Lit) → asked_of x ≡ constant lit → ⊥
+asked-constant x lit e = cc
+
 option_map-itself : {A : Type 0} (o : Option A) → option_map (λ a. a) o ≡ o
 option_map-itself None = refl
 option_map-itself (Some a) = refl
@@ -72,38 +92,38 @@ module _ (w : PlainWorld) (n : ℕ) (p : AdPlace) (fs : List Frame) (ls : List (
   -- a constant has its literal's value
   constant-value : (t : Tree) (lit : Lit) → side_of fs p.frame ls t ≡ constant lit → value_with (suc n) w p t ≡ Some (plain_of_lit lit)
   constant-value (node (literal l) ts) lit e = let same : l ≡ lit = cc in ap (λ x. Some (plain_of_lit x)) same
-  constant-value (node (name Scope.Target x) ts) lit e = absurd (cc)
+  constant-value (node (name Scope.Target x) ts) lit e = absurd (asked-constant x lit e)
   constant-value (node (name Scope.My x) ts) lit e = named-counted w n (find w p Scope.My x) (expr_named fs 0 x) (plain_of_lit lit) (side.root x) (own-counted (expr_named fs 0 x) lit e)
   constant-value (node (name Scope.Bare x) ts) lit e = bare-constant x lit e
-  constant-value (node (unary op) ts) lit e = absurd (cc)
-  constant-value (node (binary op) ts) lit e = absurd (cc)
-  constant-value (node all ts) lit e = absurd (cc)
-  constant-value (node any ts) lit e = absurd (cc)
-  constant-value (node choice ts) lit e = absurd (cc)
-  constant-value (node (select x) ts) lit e = absurd (cc)
-  constant-value (node subscript ts) lit e = absurd (cc)
-  constant-value (node (call x) ts) lit e = absurd (cc)
-  constant-value (node list ts) lit e = absurd (cc)
-  constant-value (frame f) lit e = absurd (cc)
+  constant-value (node (unary op) ts) lit e = absurd (neither-constant lit e)
+  constant-value (node (binary op) ts) lit e = absurd (neither-constant lit e)
+  constant-value (node all ts) lit e = absurd (neither-constant lit e)
+  constant-value (node any ts) lit e = absurd (neither-constant lit e)
+  constant-value (node choice ts) lit e = absurd (neither-constant lit e)
+  constant-value (node (select x) ts) lit e = absurd (neither-constant lit e)
+  constant-value (node subscript ts) lit e = absurd (neither-constant lit e)
+  constant-value (node (call x) ts) lit e = absurd (neither-constant lit e)
+  constant-value (node list ts) lit e = absurd (neither-constant lit e)
+  constant-value (frame f) lit e = absurd (neither-constant lit e)
 
   -- an attribute of the other side has the value of what it counts as
   asked-value : (t : Tree) (x : List ℕ) (v : Plain) → side_of fs p.frame ls t ≡ asked_of x → counted (enclosed_expr other g x) ≡ Some v → value_with (suc n) w p t ≡ Some v
-  asked-value (node (literal l) ts) x v e counts = absurd (cc)
+  asked-value (node (literal l) ts) x v e counts = absurd (constant-asked l x e)
   asked-value (node (name Scope.Target y) ts) x v e counts =
       let same : y ≡ x = cc in
       named-counted w n (find w p Scope.Target y) (enclosed_expr other g y) v (side.beyond y) (ap (λ z. counted (enclosed_expr other g z)) same ∙ counts)
   asked-value (node (name Scope.My y) ts) x v e counts = absurd (own-unnamed (expr_named fs 0 y) x e)
   asked-value (node (name Scope.Bare y) ts) x v e counts = bare-asked x y v e counts
-  asked-value (node (unary op) ts) x v e counts = absurd (cc)
-  asked-value (node (binary op) ts) x v e counts = absurd (cc)
-  asked-value (node all ts) x v e counts = absurd (cc)
-  asked-value (node any ts) x v e counts = absurd (cc)
-  asked-value (node choice ts) x v e counts = absurd (cc)
-  asked-value (node (select y) ts) x v e counts = absurd (cc)
-  asked-value (node subscript ts) x v e counts = absurd (cc)
-  asked-value (node (call y) ts) x v e counts = absurd (cc)
-  asked-value (node list ts) x v e counts = absurd (cc)
-  asked-value (frame f) x v e counts = absurd (cc)
+  asked-value (node (unary op) ts) x v e counts = absurd (neither-asked x e)
+  asked-value (node (binary op) ts) x v e counts = absurd (neither-asked x e)
+  asked-value (node all ts) x v e counts = absurd (neither-asked x e)
+  asked-value (node any ts) x v e counts = absurd (neither-asked x e)
+  asked-value (node choice ts) x v e counts = absurd (neither-asked x e)
+  asked-value (node (select y) ts) x v e counts = absurd (neither-asked x e)
+  asked-value (node subscript ts) x v e counts = absurd (neither-asked x e)
+  asked-value (node (call y) ts) x v e counts = absurd (neither-asked x e)
+  asked-value (node list ts) x v e counts = absurd (neither-asked x e)
+  asked-value (frame f) x v e counts = absurd (neither-asked x e)
 
   -- ---- tests
 
@@ -111,8 +131,8 @@ module _ (w : PlainWorld) (n : ℕ) (p : AdPlace) (fs : List Frame) (ls : List (
   truth-value t (asked_of x) test v is e has =
       let same : Test.Truth x ≡ test = cc in
       asked-value t x v is (sym (option_map-itself (counted (enclosed_expr other g x))) ∙ ap (λ z. test_value z other g) same ∙ has)
-  truth-value t (constant lit) test v is e has = absurd (cc)
-  truth-value t neither test v is e has = absurd (cc)
+  truth-value t (constant lit) test v is e has = absurd (none-test test e)
+  truth-value t neither test v is e has = absurd (none-test test e)
 
   -- two values give one
   both-values : (op : BinOp) (a b : Tree) (u v : Plain) → value_with (suc n) w p a ≡ Some u → value_with (suc n) w p b ≡ Some v → value_with (suc n) w p (node (binary op) (more a (more b none))) ≡ Some (binary_value op u v)
@@ -122,12 +142,12 @@ module _ (w : PlainWorld) (n : ℕ) (p : AdPlace) (fs : List Frame) (ls : List (
 
   asked-left : (op : BinOp) (a b : Tree) (x : List ℕ) (lit : Lit) (v : Plain) → side_of fs p.frame ls a ≡ asked_of x → side_of fs p.frame ls b ≡ constant lit
       → (o : Option Plain) → counted (enclosed_expr other g x) ≡ o → option_map (λ y. binary_value op y (plain_of_lit lit)) o ≡ Some v → value_with (suc n) w p (node (binary op) (more a (more b none))) ≡ Some v
-  asked-left op a b x lit v left right None is e = absurd (cc)
+  asked-left op a b x lit v left right None is e = absurd (none-plain v e)
   asked-left op a b x lit v left right (Some y) is e = both-values op a b y (plain_of_lit lit) (asked-value a x y left is) (constant-value b lit right) ∙ e
 
   asked-right : (op : BinOp) (a b : Tree) (x : List ℕ) (lit : Lit) (v : Plain) → side_of fs p.frame ls a ≡ constant lit → side_of fs p.frame ls b ≡ asked_of x
       → (o : Option Plain) → counted (enclosed_expr other g x) ≡ o → option_map (λ y. binary_value op (plain_of_lit lit) y) o ≡ Some v → value_with (suc n) w p (node (binary op) (more a (more b none))) ≡ Some v
-  asked-right op a b x lit v left right None is e = absurd (cc)
+  asked-right op a b x lit v left right None is e = absurd (none-plain v e)
   asked-right op a b x lit v left right (Some y) is e = both-values op a b (plain_of_lit lit) y (constant-value a lit left) (asked-value b x y right is) ∙ e
 
   comparison-value : (op : BinOp) (a b : Tree) (s t : Side) (test : Test) (v : Plain) → side_of fs p.frame ls a ≡ s → side_of fs p.frame ls b ≡ t
@@ -146,28 +166,28 @@ module _ (w : PlainWorld) (n : ℕ) (p : AdPlace) (fs : List Frame) (ls : List (
           let same : Test.Compare x op lit false ≡ test = cc in
           asked-right op a b x lit v left right (counted (enclosed_expr other g x)) refl (ap (λ z. test_value z other g) same ∙ has)
       by false h = absurd (cc)
-  comparison-value op a b (asked_of x) (asked_of y) test v left right e has = absurd (cc)
-  comparison-value op a b (asked_of x) neither test v left right e has = absurd (cc)
-  comparison-value op a b (constant lit) (constant l) test v left right e has = absurd (cc)
-  comparison-value op a b (constant lit) neither test v left right e has = absurd (cc)
-  comparison-value op a b neither (asked_of y) test v left right e has = absurd (cc)
-  comparison-value op a b neither (constant l) test v left right e has = absurd (cc)
-  comparison-value op a b neither neither test v left right e has = absurd (cc)
+  comparison-value op a b (asked_of x) (asked_of y) test v left right e has = absurd (none-test test e)
+  comparison-value op a b (asked_of x) neither test v left right e has = absurd (none-test test e)
+  comparison-value op a b (constant lit) (constant l) test v left right e has = absurd (none-test test e)
+  comparison-value op a b (constant lit) neither test v left right e has = absurd (none-test test e)
+  comparison-value op a b neither (asked_of y) test v left right e has = absurd (none-test test e)
+  comparison-value op a b neither (constant l) test v left right e has = absurd (none-test test e)
+  comparison-value op a b neither neither test v left right e has = absurd (none-test test e)
 
   -- where a test has a value, its conjunct has that value
   pub conjunct-value : (t : Tree) (test : Test) (v : Plain) → test_of fs p.frame ls t ≡ Some test → test_value test other g ≡ Some v → value_with (suc n) w p t ≡ Some v
   conjunct-value (node (literal l) ts) test v e has = truth-value (node (literal l) ts) (side_of fs p.frame ls (node (literal l) ts)) test v refl e has
   conjunct-value (node (name s x) ts) test v e has = truth-value (node (name s x) ts) (side_of fs p.frame ls (node (name s x) ts)) test v refl e has
-  conjunct-value (node (unary op) ts) test v e has = absurd (cc)
-  conjunct-value (node (binary op) none) test v e has = absurd (cc)
-  conjunct-value (node (binary op) (more a none)) test v e has = absurd (cc)
+  conjunct-value (node (unary op) ts) test v e has = absurd (none-test test e)
+  conjunct-value (node (binary op) none) test v e has = absurd (none-test test e)
+  conjunct-value (node (binary op) (more a none)) test v e has = absurd (none-test test e)
   conjunct-value (node (binary op) (more a (more b none))) test v e has = comparison-value op a b (side_of fs p.frame ls a) (side_of fs p.frame ls b) test v refl refl e has
-  conjunct-value (node (binary op) (more a (more b (more c ts)))) test v e has = absurd (cc)
-  conjunct-value (node all ts) test v e has = absurd (cc)
-  conjunct-value (node any ts) test v e has = absurd (cc)
-  conjunct-value (node choice ts) test v e has = absurd (cc)
-  conjunct-value (node (select x) ts) test v e has = absurd (cc)
-  conjunct-value (node subscript ts) test v e has = absurd (cc)
-  conjunct-value (node (call x) ts) test v e has = absurd (cc)
-  conjunct-value (node list ts) test v e has = absurd (cc)
-  conjunct-value (frame f) test v e has = absurd (cc)
+  conjunct-value (node (binary op) (more a (more b (more c ts)))) test v e has = absurd (none-test test e)
+  conjunct-value (node all ts) test v e has = absurd (none-test test e)
+  conjunct-value (node any ts) test v e has = absurd (none-test test e)
+  conjunct-value (node choice ts) test v e has = absurd (none-test test e)
+  conjunct-value (node (select x) ts) test v e has = absurd (none-test test e)
+  conjunct-value (node subscript ts) test v e has = absurd (none-test test e)
+  conjunct-value (node (call x) ts) test v e has = absurd (none-test test e)
+  conjunct-value (node list ts) test v e has = absurd (none-test test e)
+  conjunct-value (frame f) test v e has = absurd (none-test test e)

@@ -4,8 +4,7 @@ use Rattle.std.specs.Option.{option_and_then, option_map_or}
 use Rattle.ad_tree.specs.declared.request.Port.{Port}
 use Rattle.ad_tree.specs.Frames.{Frame}
 use Rattle.ad_store.specs.Stock.{Advert}
-use Rattle.eval_scope.specs.World.{PlainWorld, attribute_count, request_side, with_docked}
-use Rattle.ad_eval.specs.Dock.{is_docked, rank_by}
+use Rattle.eval_scope.specs.World.{PlainWorld, attribute_count, with_docked}
 use Rattle.conjunct_plan.specs.Decided.{is_dock_decided}
 use Rattle.bilateral_match.specs.declared.hit.Match.{Match}
 use Rattle.bilateral_match.specs.Answers.{match_with}
@@ -24,14 +23,6 @@ module _ (moment : ℕ) (request ad : List Frame) where
   pub ranked-decided : is_dock_decided request 0 [] ad ≡ true → ranked moment request ad ≡ None
   ranked-decided decided = ap (λ (b : Bool). if b then Some (rank_of_dock moment request ad) else None) (decided-docks moment request ad (ap not decided))
 
-  pub ranked-undocked : (w : PlainWorld) → w ≡ pair_world moment request ad → is_docked w ≡ false → ranked moment request ad ≡ None
-  ranked-undocked w same undocked = ap (λ (b : Bool). if b then Some (rank_of_dock moment request ad) else None) (ap is_docked (sym same) ∙ undocked)
-
-  pub ranked-docked : (w : PlainWorld) (n : ℤ) → w ≡ pair_world moment request ad → is_docked w ≡ true → n ≡ rank_by w (request_side w) → Some n ≡ ranked moment request ad
-  ranked-docked w n same docked rank =
-      ap Some (rank ∙ ap (λ (u : PlainWorld). rank_by u (request_side u)) same)
-      ∙ sym (ap (λ (b : Bool). if b then Some (rank_of_dock moment request ad) else None) (ap is_docked (sym same) ∙ docked))
-
   pub three-evaluations : is_dock_decided request 0 [] ad ≡ false → evaluations_most request ad ≡ 3
   three-evaluations undecided = ap (λ (b : Bool). if not b then 3 else 0) undecided
 
@@ -43,11 +34,18 @@ module _ (moment : ℕ) (request ad : List Frame) where
 -- ---- at a place
 
 module _ (fs : List Frame) where
-  pub match-there : (moment : ℕ) (request : List Frame) (place : ℕ) (o : Option Advert) → option_map (λ a. a.ad) o ≡ Some fs
+  match-there : (moment : ℕ) (request : List Frame) (place : ℕ) (o : Option Advert) → option_map (λ a. a.ad) o ≡ Some fs
       → option_and_then (match_with moment request place) o ≡ option_map (λ rank. record { place = place; rank = rank }) (ranked moment request fs)
   match-there moment request place None is = absurd (cc)
   match-there moment request place (Some a) is =
       let same : a.ad ≡ fs = cc in ap (λ (ad : List Frame). option_map {U = Match} (λ rank. record { place = place; rank = rank }) (ranked moment request ad)) same
+
+  -- the match is made of the rank
+  pub found-none : (moment : ℕ) (request : List Frame) (place : ℕ) (o : Option Advert) (r : Option ℤ) → option_map (λ a. a.ad) o ≡ Some fs → r ≡ ranked moment request fs → r ≡ None → None ≡ option_and_then (match_with moment request place) o
+  found-none moment request place o r is rank none = sym (match-there moment request place o is ∙ ap (option_map {U = Match} (λ rank. record { place = place; rank = rank })) (sym rank ∙ none))
+
+  pub found-some : (moment : ℕ) (request : List Frame) (place : ℕ) (o : Option Advert) (r : Option ℤ) (n : ℤ) (m : Match) → option_map (λ a. a.ad) o ≡ Some fs → r ≡ ranked moment request fs → r ≡ Some n → m ≡ record { place = place; rank = n } → Some m ≡ option_and_then (match_with moment request place) o
+  found-some moment request place o r n m is rank some same = ap Some same ∙ sym (match-there moment request place o is ∙ ap (option_map {U = Match} (λ rank. record { place = place; rank = rank })) (sym rank ∙ some))
 
   pub number-there : (f : List Frame → ℕ) (o : Option Advert) → option_map (λ a. a.ad) o ≡ Some fs → option_map_or (λ (a : Advert). f a.ad) o 0 ≡ f fs
   number-there f None is = absurd (cc)

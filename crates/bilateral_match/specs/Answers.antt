@@ -1,5 +1,5 @@
 -- What a query answers: all ads that dock with it, by rank and then by place.
-use Rattle.std.specs.Prelude.{ℕ, List, [], ◌∷◌, suc, Option, option_map, slice_index, if◌then◌else◌}
+use Rattle.std.specs.Prelude.{◌≡◌, ℕ, List, [], ◌∷◌, suc, map, Option, option_map, slice_index, if◌then◌else◌}
 use Rattle.std.specs.Ordering.{int_cmp, is_lt, nat_cmp, ordering_then}
 use Rattle.std.specs.declared.cmp.Ordering.{Ordering}
 use Rattle.std.specs.List.{cons_option}
@@ -51,3 +51,7 @@ answers moment request ads = arranged (matches_from moment request 0 ads)
 -- an answer with the slot of its ad in the place of the ad's place
 abbrev pub hit_of : List ℕ → Match → Hit
 hit_of slots m = record { slot = slice_index slots m.place; rank = m.rank }
+
+-- the hits of these matches in order, with the slots of their ads
+abbrev pub AreHits : List ℕ → List Match → List Hit → Type 0
+AreHits slots found hits = (sorted : List Match) × IsPermutation found sorted × IsSorted match_order sorted × (hits ≡ map (hit_of slots) sorted)

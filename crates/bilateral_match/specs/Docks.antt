@@ -34,6 +34,10 @@ is_undecided request ad = not (is_dock_decided request 0 [] ad)
 abbrev pub last_ad : PlainWorld → List Frame
 last_ad w = frames_of_ad w (resource_side w).ad
 
+-- the rank that the request gives it, where the last dock is true
+abbrev pub ranked_in : PlainWorld → Option ℤ
+ranked_in w = if is_docked w then Some (rank_by w (request_side w)) else None
+
 -- the last dock is decided
 abbrev pub is_last_decided : PlainWorld → Bool
 is_last_decided w = is_dock_decided w.request (request_side w).frame (labels_of w.ports) (last_ad w)

@@ -1,5 +1,5 @@
 -- The ads at places, as a query goes through them.
-use Rattle.std.specs.Prelude.{ℕ, List, Option, None, Some, slice_get, if◌then◌else◌}
+use Rattle.std.specs.Prelude.{ℕ, Bool, List, Option, None, Some, slice_get, if◌then◌else◌}
 use Rattle.std.specs.Option.{option_and_then, option_map_or}
 use Rattle.ad_tree.specs.Frames.{Frame}
 use Rattle.ad_store.specs.Stock.{Advert}
@@ -34,6 +34,13 @@ ranks_in w = if is_docked w then Some (record { rank = rank_by w (request_side w
 -- what the sides rank each other where they dock
 abbrev pub ranks_of_dock : ℕ → List Frame → List Frame → Option Ranks
 ranks_of_dock moment request ad = if docks moment request ad then Some (record { rank = rank_of_dock moment request ad; regard = regard moment request ad }) else None
+
+-- a resource as members are compared, and none where it isn't won
+abbrev pub as_member : Ranks → Bool → ℕ → Member
+as_member ranks claimed place = record { rank = ranks.rank; claimed = claimed; regard = ranks.regard; place = place }
+
+abbrev pub where_won : Bool → Ranks → Bool → ℕ → Option Member
+where_won won ranks claimed place = if won then Some (as_member ranks claimed place) else None
 
 abbrev pub member_at : Pool → List Frame → ℕ → Option Member
 member_at pool request place = option_and_then (member_with pool request place) (slice_get pool.ads place)

@@ -1,5 +1,5 @@
 // Which resources are members for a job.
-ghost use Rattle.std.specs.Prelude.{◌≡◌, ◌≤◌, ◌<◌, ◌+◌, ◌*◌, ℕ, [], true, int_lt, nat_lt, length, slice_get, max, option_map, All, Contains, IfOk, IfSome, Some, if◌then◌else◌};
+ghost use Rattle.std.specs.Prelude.{◌≡◌, ◌≤◌, ◌<◌, ◌+◌, ◌*◌, ℕ, Bool, [], true, int_lt, nat_lt, length, slice_get, max, option_map, All, Contains, IfOk, IfSome, Some, if◌then◌else◌};
 ghost use Rattle.std.specs.Option.{option_map_or};
 ghost use Rattle.ad_tree.specs.Ad.{ad_frames};
 ghost use Rattle.ad_tree.specs.Small.{IsSmall};
@@ -70,16 +70,29 @@ pub fn member_at<H: Holdings, F: Ledger, E: Ledger, T: Ledger>(
         tops,
         entry,
         touch,
-    )?;
+    );
+    where_won(won, ranks, holder.is_some(), place)
+}
+
+// A resource as members are compared, where it is won.
+fn where_won(
+    won: Result<bool, OutOfMemory>,
+    ranks: Ranks,
+    claimed: bool,
+    place: usize,
+) -> Result<Option<Member>, OutOfMemory>
+    ensures { (b : Bool) → IfOk won (λ w. w ≡ b) → IfOk result (λ member. member ≡ scan.where_won b ranks claimed place) }
+{
+    let won = won?;
     if !won {
         return Ok(None);
     }
-    Ok(Some(as_member(ranks, holder.is_some(), place)))
+    Ok(Some(as_member(ranks, claimed, place)))
 }
 
 // A resource as members are compared.
 fn as_member(ranks: Ranks, claimed: bool, place: usize) -> Member
-    ensures { result ≡ record { rank = ranks.rank; claimed = claimed; regard = ranks.regard; place = place } }
+    ensures { result ≡ scan.as_member ranks claimed place }
 {
     Member {
         rank: ranks.rank,

@@ -6,7 +6,7 @@ ghost use Rattle.ad_tree.specs.Small.{IsSmall};
 ghost use Rattle.ad_store.specs.Store.{stock_of};
 ghost use Rattle.conjunct_plan.specs.Tests.{tests_of};
 ghost use Rattle.literal_index.specs.Shown.{IsIndex};
-ghost use Rattle.bilateral_match.specs.Answers.{answers, hit_of, match_order};
+ghost use Rattle.bilateral_match.specs.Answers.{AreHits, answers, hit_of, match_order};
 ghost use Rattle.bilateral_match.specs.Counts.{entered_most, least_left, undecided_count};
 ghost use Rattle.bilateral_match.specs.Rows.{rows_of};
 ghost use Rattle.bilateral_match.specs.Small.{AreSmallAds};
@@ -50,7 +50,16 @@ pub fn query<F: Ledger, E: Ledger, T: Ledger>(
         + least_left (stock_of store.now).ads (tests_of (ad_frames request.now.ad) 0 []) }
 {
     let places = candidates(alloc, store, index, request)?;
-    let mut found = matches_at(alloc, store, request, moment, &places, tops, entry, touch)?;
+    let found = matches_at(alloc, store, request, moment, &places, tops, entry, touch)?;
+    hits_in_order(alloc, store, found)
+}
+
+// The matches in order, with the slots of their ads.
+fn hits_in_order(alloc: Global, store: &Store, found: Vec<Match>) -> Result<Hits, OutOfMemory>
+    requires { All (λ m. m.place < length (stock_of store.now).slots) found.items }
+    ensures { IfOk result (AreHits (stock_of store.now).slots found.items) }
+{
+    let mut found = found;
     arrange(&mut found)?;
     Ok(hits_of(alloc, store, &found)?)
 }

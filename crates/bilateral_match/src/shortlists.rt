@@ -12,7 +12,7 @@ ghost use Rattle.bilateral_match.specs.Members.{member_order};
 ghost use Rattle.bilateral_match.specs.Pool.{AreStored, pool_of, slot_at};
 ghost use Rattle.bilateral_match.specs.Rows.{rows_of};
 ghost use Rattle.bilateral_match.specs.Scan as scan;
-ghost use Rattle.bilateral_match.specs.Shortlists.{IsShortlist};
+ghost use Rattle.bilateral_match.specs.Shortlists.{AreInOrder, IsShortlist};
 ghost use Rattle.bilateral_match.specs.Small.{AreSmallAds, AreSmallHolders};
 
 use crate::candidates::candidates;
@@ -57,9 +57,19 @@ pub fn shortlist<H: Holdings, F: Ledger, E: Ledger, T: Ledger>(
         + 9 * least_left (stock_of store.now).ads (tests_of (ad_frames request.now.ad) 0 []) }
 {
     let places = candidates(alloc, store, index, request)?;
-    let mut found = members_at(
+    let found = members_at(
         alloc, store, held, request, moment, &places, tops, entry, touch,
     )?;
+    slots_in_order(alloc, store, found)
+}
+
+// The slots of members, with the members in order.
+fn slots_in_order(alloc: Global, store: &Store, found: Vec<Member>) -> Result<Slots, OutOfMemory>
+    requires { All (λ m. m.place < length (stock_of store.now).slots) found.items }
+    ensures slots { IfOk result (AreInOrder (stock_of store.now) found.items) }
+    ensures held { IfOk result (All (Contains (stock_of store.now).slots)) }
+{
+    let mut found = found;
     arrange(&mut found)?;
     Ok(slots_of(alloc, store, &found)?)
 }

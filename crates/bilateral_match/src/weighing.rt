@@ -4,17 +4,19 @@ ghost use Rattle.std.specs.List.{cons_option, filter_map};
 ghost use Rattle.ad_tree.specs.Ad.{ad_frames};
 ghost use Rattle.ad_tree.specs.Small.{IsSmall};
 ghost use Rattle.ad_store.specs.Store.{stock_of};
-ghost use Rattle.conjunct_plan.specs.Decided.{is_dock_decided};
+ghost use Rattle.ad_eval.specs.Small.{AreSmall};
+ghost use Rattle.eval_scope.specs.Shown.{world_of};
+ghost use Rattle.eval_scope.specs.World.{attribute_count};
 ghost use Rattle.bilateral_match.specs.Counts.{attributes_most, evaluations_most};
 ghost use Rattle.bilateral_match.specs.Docks as docks;
 ghost use Rattle.bilateral_match.specs.Scan.{attributes_at, evaluations_at, match_at};
 ghost use Rattle.bilateral_match.specs.Small.{AreSmallAds};
 
+use crate::docking::is_decided;
 use crate::hit::Match;
 use ad_eval::{dock, rank};
 use ad_store::Store;
-use ad_tree::{Ad, Ports, Request};
-use conjunct_plan::rules_out;
+use ad_tree::{Ad, Request};
 use eval_scope::World;
 use pool_steps::Steps;
 use pool_text::{OutOfMemory, Slots};
@@ -38,23 +40,29 @@ fn ranked<F: Ledger, E: Ledger>(
     ensures entries { entry.new ≤ entry.old + attributes_most moment (ad_frames request.now.ad) (ad_frames ad.now) }
     ensures ratio { IsSmall (ad_frames request.now.ad) → IsSmall (ad_frames ad.now) → entry.new + 9216 * tops.old ≤ entry.old + 9216 * tops.new }
 {
-    if is_decided(alloc, request, ad) {
+    if is_decided(alloc, request, 0, ad) {
         return Ok(None);
     }
     let world = World::new(moment, &request.ad, &request.ports).with(ad);
-    if !dock(alloc, &world, tops, entry)? {
-        return Ok(None);
-    }
-    Ok(Some(rank(alloc, &world, world.request_place(), tops, entry)?))
+    ranked_in(alloc, &world, tops, entry)
 }
 
-// Whether a test of either side is decided against by the other.
-fn is_decided(alloc: Global, request: &Request, ad: &Ad) -> bool
-    requires { request.now.ports ≡ [] }
-    ensures { result ≡ is_dock_decided (ad_frames request.now.ad) 0 [] (ad_frames ad.now) }
+// The rank that the request gives the ad that was docked last, where their dock is true.
+fn ranked_in<F: Ledger, E: Ledger>(
+    alloc: Global,
+    world: &World<'_>,
+    tops: &mut Steps<F>,
+    entry: &mut Steps<E>,
+) -> Result<Option<i64>, OutOfMemory>
+    ensures rank { IfOk result (λ rank. rank ≡ docks.ranked_in (world_of world.now)) }
+    ensures evaluations { tops.new ≤ tops.old + 3 }
+    ensures entries { entry.new ≤ entry.old + 3 * attribute_count (world_of world.now) }
+    ensures ratio { AreSmall (world_of world.now) → entry.new + 9216 * tops.old ≤ entry.old + 9216 * tops.new }
 {
-    let no_ports = Ports::new(alloc);
-    rules_out(&request.ad, 0, &request.ports, ad, 0) || rules_out(ad, 0, &no_ports, &request.ad, 0)
+    if !dock(alloc, world, tops, entry)? {
+        return Ok(None);
+    }
+    Ok(Some(rank(alloc, world, world.request_place(), tops, entry)?))
 }
 
 // The match with the ad at a place, if it docks. It counts one in `touch`.

@@ -60,14 +60,17 @@ pub fn first_gang<H: Holdings, F: Ledger, E: Ledger, T: Ledger>(
     let mut sides = read_sides(alloc, store, index, held, request, moment, touch)?;
     let world = World::new(moment, &request.ad, &request.ports);
     let mut places = Vec::new(alloc);
-    if !search(
+    let searched = search(
         alloc,
         &world,
         &mut places,
         sides.as_mut_slice(),
         tops,
         entry,
-    )? {
+    );
+    drop(sides);
+    let found = searched?;
+    if !found {
         return Ok(None);
     }
     Ok(Some(slots_at(alloc, store, places.as_slice())?))

@@ -121,37 +121,37 @@ fn weigh_all<'a, F: Ledger, E: Ledger>(
 {
     let mut tries = Vec::new(alloc);
     for resource in resources.iter_mut() {
-        let found = weigh(alloc, world, before, resource, tops, entry)?;
-        keep(&mut tries, found)?;
+        weigh(alloc, world, before, resource, &mut tries, tops, entry)?;
     }
     Ok(tries)
 }
 
-// The candidate that a resource is, if it docks. One that is docked already isn't weighed, and no other is weighed again.
+// Adds the candidate that a resource is, if it docks. One that is docked already isn't weighed, and no other is weighed again.
 fn weigh<'a, F: Ledger, E: Ledger>(
     alloc: Global,
     world: &World<'a>,
     before: &[usize],
     resource: &mut Resource<'a>,
+    tries: &mut Vec<Candidate<'a>>,
     tops: &mut Steps<F>,
     entry: &mut Steps<E>,
-) -> Result<Option<Candidate<'a>>, OutOfMemory>
+) -> Result<(), OutOfMemory>
     requires { length (world_of world.now).docked < 8 }
-    ensures found { IfOk result (λ found. found ≡ candidate_in (world_of world.now) before.now resource.old) }
+    ensures found { OnOk result (tries.new.items ≡ tries.old.items ++ cons_option (candidate_in (world_of world.now) before.now resource.old) []) }
     ensures kept { OnOk result (resource.new ≡ weighed_in (world_of world.now) before.now resource.old) }
     ensures evaluations { tops.new ≤ tops.old + evaluations_in before.now resource.old }
     ensures entries { entry.new ≤ entry.old + attributes_of (world_of world.now) before.now resource.old }
     ensures ratio { AreSmall (world_of world.now) → IsSmall (ad_frames resource.old.ad.now) → entry.new + 9216 * tops.old ≤ entry.old + 9216 * tops.new }
 {
     if is_among(before, resource.place) {
-        return Ok(None);
+        return Ok(());
     }
     let rank = match resource.kept {
         Kept::Weighed(rank) => rank,
         Kept::Unknown => { rank_where_docked(alloc, &world.with(resource.ad), tops, entry)? }
     };
     resource.kept = Kept::Weighed(rank);
-    Ok(ranked(resource, rank))
+    keep(tries, ranked(resource, rank))
 }
 
 // The candidate that a resource is at a rank, if it has one.

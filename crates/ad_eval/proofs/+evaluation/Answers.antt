@@ -1,53 +1,44 @@
-use Rattle.std.proofs.Common.{◌≡◌, ◌≤◌, ◌+◌, ℕ, true, false, List, [], ◌∷◌, ◌++◌, length, drop, None, Some, IfOk, option_map, max, rules, arith, refl, ap, sym, ◌∙◌, subst}
+use Rattle.std.proofs.Common.{◌≡◌, ◌≤◌, ◌+◌, ℕ, true, false, List, [], ◌∷◌, ◌++◌, length, drop, Some, Err, option_map, max, arith, refl, ap, sym, ◌∙◌, subst}
 use Rattle.std.specs.Option.{option_and_then}
-use Rattle.ad_tree.specs.declared.tree.Expr.{Expr}
-use Rattle.ad_tree.specs.Tree.{Tree, Trees, pack, size, size_all, tree, trees, node, none, one, two, three, name, unary, binary, choice, select, subscript, call}
-use Rattle.ad_tree.proofs.TreeLemmas.{size-positive, size-at, tree-And, tree-Binary, tree-Call, tree-Cond, tree-Frame, tree-List, tree-Literal, tree-Name, tree-Or, tree-Select, tree-Subscript, tree-Unary}
-use Rattle.ad_value.specs.Plain.{Plain, boolean, plain, plains}
-use Rattle.ad_value.specs.Limits.{bounded}
-use Rattle.ad_value.specs.Logic.{and_value, or_value}
+use Rattle.ad_tree.specs.Tree.{Tree, Trees, pack, size, size_all, tree, trees, three}
+use Rattle.ad_tree.proofs.TreeLemmas.{size-positive, size-at}
+use Rattle.ad_value.specs.Plain.{Plain, boolean, plain, plain_of_lit, plains}
 use Rattle.ad_value.specs.Operators.{binary_value, unary_value}
 use Rattle.ad_value.specs.Demands.{all_demanded, chosen, conjunction, disjunction, list_value, selected, subscripted}
-use Rattle.cycle_guard.specs.Sights.{done, pending}
+use Rattle.cycle_guard.specs.Sights.{pending}
 use Rattle.eval_scope.specs.World.{frame_of_attribute}
 use Rattle.ad_eval.specs.declared.outcome.Outcome.{Outcome}
+use Rattle.ad_eval.specs.declared.stop.Stop.{Stop}
 use Rattle.ad_eval.specs.declared.reference.Reference.{Reference}
 use Rattle.ad_eval.specs.Kept.{Answers, Ready}
 use Rattle.ad_eval.specs.Node.{attribute_value, called, conditional, function_value}
 use Rattle.ad_eval.specs.Reference.{IsInWorld, value_of}
 use Rattle.ad_eval.specs.Scene.{binary_in, listed_in, results_in, selected_in, subscripted_in, unary_in, values_in, world_in}
 use Rattle.ad_eval.specs.Value.{value_at, value_with}
-use Rattle.ad_eval.proofs.KeptLemmas.{IsPartly, answers_none, answers_some, counts_same, counts_then, is_ready, reached_as, ready_is, rewritten}
-use Rattle.ad_eval.proofs.CountLemmas.{unseen-after, unseen-fewer, unseen-same}
+use Rattle.ad_eval.proofs.KeptLemmas.{IsPartly, counts_same, counts_then, is_ready, ready_as, ready_is, rewritten, stops_all_by, stops_by}
+use Rattle.ad_eval.proofs.CountLemmas.{unseen-fewer, unseen-same}
 use Rattle.ad_eval.proofs.MeasureLemmas.{size-turn, turn-less}
-use Rattle.ad_eval.proofs.NodeLemmas.{all_demanded-start, conjunction-decided, disjunction-decided, values_and}
-use Rattle.ad_eval.proofs.PartLemmas.{IfOk-map, all_part_fails, answers_of, begins, finishes, finishes_all, finishes_list, finishes_mapped, finishes_rest, known_all_as, known_as, mapped_part_fails, mapped_part_ready, part_done, part_fails, part_fails_all, part_ready, rest_fails, rest_ready}
-use Rattle.ad_eval.proofs.ReferenceLemmas.{value_at-none, circle, fails_inside, kept-reached, kept-short, kept_inside, ready_inside, still_pending}
+use Rattle.ad_eval.proofs.NodeLemmas.{all_demanded-start, values_and}
+use Rattle.ad_eval.proofs.PartLemmas.{all_part_fails, answers_of, begins, finishes, finishes_all, finishes_applied, finishes_at_once, finishes_list, finishes_mapped, hands_on, hands_on_all, mapped_part_fails, mapped_part_ready, part_done, part_fails, part_fails_all, part_ready, rest_ends, rest_ready, stops_wanting}
+use Rattle.ad_eval.proofs.ReferenceLemmas.{value_at-none, circle, fails_inside, kept_inside, ready_inside, still_pending}
+use Rattle.ad_eval.proofs.ShapeLemmas.{shape-And, shape-Binary, shape-Call, shape-Cond, shape-Frame, shape-List, shape-Literal, shape-Name, shape-Or, shape-Select, shape-Subscript, shape-Unary}
+use Rattle.ad_eval.specs.Chain.{chained, joined, start}
 use Rattle.ad_eval.proofs.SceneLemmas.{in_all, in_any, in_binary, in_call, in_choice, in_frame, in_list, in_literal, in_name, in_select, in_subscript, in_unary}
-use Rattle.ad_eval.proofs.ValueLemmas.{plain-Ad, plain-Boolean, plain-Error, plain-List}
+use Rattle.ad_eval.proofs.ValueLemmas.{plain-Error}
 use Rattle.builtin_funcs.specs.Calls.{is_known}
-use Rattle.ad_eval.proofs.ChainLemmas.{all_demanded-from, called-choice, called-function, called-unknown, conditional-three, conditional-wrong, conjunction-end, conjunction-from, disjunction-end, disjunction-from, pack-three, values-end}
-use Rattle.ad_eval.proofs.EnterLemmas.{answer_there_none, answer_there_some, counts_entered, counts_equal, counts_from, counts_there, finished_as, inner_work, ready_there, world_has, world_there}
+use Rattle.ad_eval.proofs.ChainLemmas.{all_demanded-from, called-choice, called-function, called-unknown, conditional-three, conditional-wrong, chained-decided, chained-end, chained-from, pack-three, values-end}
+use Rattle.ad_eval.proofs.EnterLemmas.{answer_there_none, answer_there_some, counts_entered, counts_equal, counts_kept, counts_there, inner_work, keeps, ready_there, recalls, world_has, world_there}
 use Rattle.ad_eval.proofs.+evaluation.Goals as goal
 
-pub evaluation::evaluate-returns-in_ok-from_lit-in-Literal : goal.evaluation::evaluate-returns-in_ok-from_lit-in-Literal
-evaluation::evaluate-returns-in_ok-from_lit-in-Literal g t c =
+pub evaluation::evaluate-returns-in-Literal : goal.evaluation::evaluate-returns-in-Literal
+evaluation::evaluate-returns-in-Literal g t c =
     let s = c.args.scene.now in
     let w = world_in s in
     let g0 = c.args.guard.now in
     let n0 = c.args.entry.now in
     let e = tree c.args.expr.now in
-    let is = ap tree c.in-Literal.is ∙ tree-Literal c.in-Literal.lit in
-    record { answer = finishes w s.left (values_in s e) g0 g0 (values_in s e) 0 c.leaf.result (begins w s.left (values_in s e) (values_in s e) g0 c.requires (λ n. refl)) (λ n. in_literal s e n c.in-Literal.lit is ∙ ap Some (sym (c.leaf.ensures.value ∙ c.in_ok-from_lit-in-Literal.ensures))) c.leaf.ensures.height; counted = counts_same w n0 g0 }
-
-pub evaluation::evaluate-returns-in_err-from_lit-in-Literal : goal.evaluation::evaluate-returns-in_err-from_lit-in-Literal
-evaluation::evaluate-returns-in_err-from_lit-in-Literal g t c =
-    let s = c.args.scene.now in
-    let w = world_in s in
-    let g0 = c.args.guard.now in
-    let n0 = c.args.entry.now in
-    let e = tree c.args.expr.now in
-    record { answer = search rules; counted = counts_same w n0 g0 }
+    let is = shape-Literal c.args.expr.now c.in-Literal.lit c.in-Literal.is in
+    record { answer = finishes_at_once w s.left (values_in s e) g0 (plain_of_lit c.in-Literal.lit) c.literal.result c.requires (λ n. in_literal s e n c.in-Literal.lit is) c.literal.ensures; counted = counts_same w n0 g0 }
 
 pub evaluation::evaluate-returns-in-Frame : goal.evaluation::evaluate-returns-in-Frame
 evaluation::evaluate-returns-in-Frame g t c =
@@ -56,8 +47,8 @@ evaluation::evaluate-returns-in-Frame g t c =
     let g0 = c.args.guard.now in
     let n0 = c.args.entry.now in
     let e = tree c.args.expr.now in
-    let is = ap tree c.in-Frame.is ∙ tree-Frame c.in-Frame.frame in
-    record { answer = finishes w s.left (values_in s e) g0 g0 (values_in s e) 0 c.leaf-in-Frame.result (begins w s.left (values_in s e) (values_in s e) g0 c.requires (λ n. refl)) (λ n. in_frame s e n c.in-Frame.frame is ∙ ap Some (sym (c.leaf-in-Frame.ensures.value ∙ plain-Ad (record { ad = s.at.ad; frame = c.in-Frame.frame })))) c.leaf-in-Frame.ensures.height; counted = counts_same w n0 g0 }
+    let is = shape-Frame c.args.expr.now c.in-Frame.frame c.in-Frame.is in
+    record { answer = finishes w s.left (values_in s e) g0 g0 (values_in s e) 0 c.nested_ad.result (begins w s.left (values_in s e) (values_in s e) g0 c.requires (λ n. refl)) (λ n. in_frame s e n c.in-Frame.frame is ∙ ap Some (sym c.nested_ad.ensures.value)) c.nested_ad.ensures.height; counted = counts_same w n0 g0 }
 
 pub evaluation::evaluate-follow-requires : goal.evaluation::evaluate-follow-requires
 evaluation::evaluate-follow-requires g t c κs within =
@@ -68,10 +59,9 @@ evaluation::evaluate-follow-requires g t c κs within =
     let e = tree c.args.expr.now in
     let x = c.bytes.result.now in
     let r = c.look_up-named.result in
-    let is = ap tree c.in-Name.is ∙ tree-Name c.in-Name.scope c.in-Name.name ∙ ap (λ (y : List ℕ). node (name c.in-Name.scope y) none) (sym c.bytes.ensures) in
+    let is = shape-Name c.args.expr.now c.in-Name.scope c.in-Name.name x c.in-Name.is c.bytes.ensures in
     let same = λ (n : ℕ). in_name s e n c.in-Name.scope x is ∙ sym (c.look_up-named.ensures.value (value_at n w)) in
-    let p0 = begins w s.left (values_in s e) (λ n. value_of (value_at n w) r) g0 c.requires same in
-    (omega (arith, c.decreases, size-positive e), (within, (c.look_up-named.ensures.there, rest_ready w s.left (values_in s e) g0 g0 (λ n. value_of (value_at n w) r) 0 p0)))
+    (omega (arith, c.decreases, size-positive e), (within, (c.look_up-named.ensures.there, ready_as w (values_in s e) (λ n. value_of (value_at n w) r) g0 same c.requires)))
 
 pub evaluation::evaluate-returns-in-Name : goal.evaluation::evaluate-returns-in-Name
 evaluation::evaluate-returns-in-Name g t c =
@@ -82,22 +72,21 @@ evaluation::evaluate-returns-in-Name g t c =
     let e = tree c.args.expr.now in
     let x = c.bytes.result.now in
     let r = c.look_up-named.result in
-    let is = ap tree c.in-Name.is ∙ tree-Name c.in-Name.scope c.in-Name.name ∙ ap (λ (y : List ℕ). node (name c.in-Name.scope y) none) (sym c.bytes.ensures) in
+    let is = shape-Name c.args.expr.now c.in-Name.scope c.in-Name.name x c.in-Name.is c.bytes.ensures in
     let same = λ (n : ℕ). in_name s e n c.in-Name.scope x is ∙ sym (c.look_up-named.ensures.value (value_at n w)) in
-    record { answer = IfOk-map c.follow.result (λ o. Answers w (λ n. value_of (value_at n w) r) s.left g0 c.follow.new.guard o) (λ o. Answers w (values_in s e) s.left g0 c.follow.new.guard o) (λ o h. answers_of w s.left (values_in s e) (λ n. value_of (value_at n w) r) g0 c.follow.new.guard o same h) c.follow.ensures.answer; counted = c.follow.ensures.counted }
+    record { answer = answers_of w s.left (values_in s e) (λ n. value_of (value_at n w) r) g0 c.follow.new.guard c.follow.result same c.follow.ensures.answer; counted = c.follow.ensures.counted }
 
-pub evaluation::evaluate-conjunction-requires : goal.evaluation::evaluate-conjunction-requires
-evaluation::evaluate-conjunction-requires g t c κs within =
+pub evaluation::evaluate-chain-requires : goal.evaluation::evaluate-chain-requires
+evaluation::evaluate-chain-requires g t c κs within =
     let s = c.args.scene.now in
     let w = world_in s in
     let g0 = c.args.guard.now in
     let n0 = c.args.entry.now in
     let e = tree c.args.expr.now in
     let ts = pack (trees c.in-And.items) in
-    let is = ap tree c.in-And.is ∙ tree-And c.in-And.items in
+    let is = shape-And c.args.expr.now c.in-And.items c.in-And.is in
     let same = λ (n : ℕ). in_all s e n ts is in
-    let p0 = begins w s.left (values_in s e) (λ n. conjunction (boolean true) (results_in s ts n)) g0 c.requires same in
-    (omega (arith, c.decreases, ap size is), (within, rest_ready w s.left (values_in s e) g0 g0 (λ n. conjunction (boolean true) (results_in s ts n)) 0 p0))
+    (omega (arith, c.decreases, ap size is), (within, ready_as w (values_in s e) (λ n. conjunction (boolean true) (results_in s ts n)) g0 same c.requires))
 
 pub evaluation::evaluate-returns-in-And : goal.evaluation::evaluate-returns-in-And
 evaluation::evaluate-returns-in-And g t c =
@@ -107,22 +96,21 @@ evaluation::evaluate-returns-in-And g t c =
     let n0 = c.args.entry.now in
     let e = tree c.args.expr.now in
     let ts = pack (trees c.in-And.items) in
-    let is = ap tree c.in-And.is ∙ tree-And c.in-And.items in
+    let is = shape-And c.args.expr.now c.in-And.items c.in-And.is in
     let same = λ (n : ℕ). in_all s e n ts is in
-    record { answer = IfOk-map c.conjunction.result (λ o. Answers w (λ n. conjunction (boolean true) (results_in s ts n)) s.left g0 c.conjunction.new.guard o) (λ o. Answers w (values_in s e) s.left g0 c.conjunction.new.guard o) (λ o h. answers_of w s.left (values_in s e) (λ n. conjunction (boolean true) (results_in s ts n)) g0 c.conjunction.new.guard o same h) c.conjunction.ensures.answer; counted = c.conjunction.ensures.counted }
+    record { answer = answers_of w s.left (values_in s e) (λ n. conjunction (boolean true) (results_in s ts n)) g0 c.chain.new.guard c.chain.result same c.chain.ensures.answer; counted = c.chain.ensures.counted }
 
-pub evaluation::evaluate-disjunction-requires : goal.evaluation::evaluate-disjunction-requires
-evaluation::evaluate-disjunction-requires g t c κs within =
+pub evaluation::evaluate-chain-requires-in-Or : goal.evaluation::evaluate-chain-requires-in-Or
+evaluation::evaluate-chain-requires-in-Or g t c κs within =
     let s = c.args.scene.now in
     let w = world_in s in
     let g0 = c.args.guard.now in
     let n0 = c.args.entry.now in
     let e = tree c.args.expr.now in
     let ts = pack (trees c.in-Or.items) in
-    let is = ap tree c.in-Or.is ∙ tree-Or c.in-Or.items in
+    let is = shape-Or c.args.expr.now c.in-Or.items c.in-Or.is in
     let same = λ (n : ℕ). in_any s e n ts is in
-    let p0 = begins w s.left (values_in s e) (λ n. disjunction (boolean false) (results_in s ts n)) g0 c.requires same in
-    (omega (arith, c.decreases, ap size is), (within, rest_ready w s.left (values_in s e) g0 g0 (λ n. disjunction (boolean false) (results_in s ts n)) 0 p0))
+    (omega (arith, c.decreases, ap size is), (within, ready_as w (values_in s e) (λ n. disjunction (boolean false) (results_in s ts n)) g0 same c.requires))
 
 pub evaluation::evaluate-returns-in-Or : goal.evaluation::evaluate-returns-in-Or
 evaluation::evaluate-returns-in-Or g t c =
@@ -132,9 +120,9 @@ evaluation::evaluate-returns-in-Or g t c =
     let n0 = c.args.entry.now in
     let e = tree c.args.expr.now in
     let ts = pack (trees c.in-Or.items) in
-    let is = ap tree c.in-Or.is ∙ tree-Or c.in-Or.items in
+    let is = shape-Or c.args.expr.now c.in-Or.items c.in-Or.is in
     let same = λ (n : ℕ). in_any s e n ts is in
-    record { answer = IfOk-map c.disjunction.result (λ o. Answers w (λ n. disjunction (boolean false) (results_in s ts n)) s.left g0 c.disjunction.new.guard o) (λ o. Answers w (values_in s e) s.left g0 c.disjunction.new.guard o) (λ o h. answers_of w s.left (values_in s e) (λ n. disjunction (boolean false) (results_in s ts n)) g0 c.disjunction.new.guard o same h) c.disjunction.ensures.answer; counted = c.disjunction.ensures.counted }
+    record { answer = answers_of w s.left (values_in s e) (λ n. disjunction (boolean false) (results_in s ts n)) g0 c.chain-in-Or.new.guard c.chain-in-Or.result same c.chain-in-Or.ensures.answer; counted = c.chain-in-Or.ensures.counted }
 
 pub evaluation::evaluate-conditional-requires : goal.evaluation::evaluate-conditional-requires
 evaluation::evaluate-conditional-requires g t c κs within =
@@ -146,10 +134,9 @@ evaluation::evaluate-conditional-requires g t c κs within =
     let a = tree c.deref-in-Cond.result.now in
     let b = tree c.deref-in-Cond-2.result.now in
     let d = tree c.deref-in-Cond-3.result.now in
-    let is = ap tree c.in-Cond.is ∙ tree-Cond c.in-Cond.condition c.in-Cond.first c.in-Cond.second ∙ ap (λ (x : Expr). node choice (three (tree x) (tree c.in-Cond.first.value) (tree c.in-Cond.second.value))) (sym c.deref-in-Cond.ensures) ∙ ap (λ (x : Expr). node choice (three a (tree x) (tree c.in-Cond.second.value))) (sym c.deref-in-Cond-2.ensures) ∙ ap (λ (x : Expr). node choice (three a b (tree x))) (sym c.deref-in-Cond-3.ensures) in
+    let is = shape-Cond c.args.expr.now c.in-Cond.condition c.in-Cond.first c.in-Cond.second c.deref-in-Cond.result.now c.deref-in-Cond-2.result.now c.deref-in-Cond-3.result.now c.in-Cond.is c.deref-in-Cond.ensures c.deref-in-Cond-2.ensures c.deref-in-Cond-3.ensures in
     let same = λ (n : ℕ). in_choice s e n (three a b d) is in
-    let p0 = begins w s.left (values_in s e) (λ n. conditional (results_in s (three a b d) n)) g0 c.requires same in
-    (omega (arith, c.decreases, ap size is), (within, rest_ready w s.left (values_in s e) g0 g0 (λ n. conditional (results_in s (three a b d) n)) 0 p0))
+    (omega (arith, c.decreases, ap size is), (within, ready_as w (values_in s e) (λ n. conditional (results_in s (three a b d) n)) g0 same c.requires))
 
 pub evaluation::evaluate-returns-in-Cond : goal.evaluation::evaluate-returns-in-Cond
 evaluation::evaluate-returns-in-Cond g t c =
@@ -161,9 +148,9 @@ evaluation::evaluate-returns-in-Cond g t c =
     let a = tree c.deref-in-Cond.result.now in
     let b = tree c.deref-in-Cond-2.result.now in
     let d = tree c.deref-in-Cond-3.result.now in
-    let is = ap tree c.in-Cond.is ∙ tree-Cond c.in-Cond.condition c.in-Cond.first c.in-Cond.second ∙ ap (λ (x : Expr). node choice (three (tree x) (tree c.in-Cond.first.value) (tree c.in-Cond.second.value))) (sym c.deref-in-Cond.ensures) ∙ ap (λ (x : Expr). node choice (three a (tree x) (tree c.in-Cond.second.value))) (sym c.deref-in-Cond-2.ensures) ∙ ap (λ (x : Expr). node choice (three a b (tree x))) (sym c.deref-in-Cond-3.ensures) in
+    let is = shape-Cond c.args.expr.now c.in-Cond.condition c.in-Cond.first c.in-Cond.second c.deref-in-Cond.result.now c.deref-in-Cond-2.result.now c.deref-in-Cond-3.result.now c.in-Cond.is c.deref-in-Cond.ensures c.deref-in-Cond-2.ensures c.deref-in-Cond-3.ensures in
     let same = λ (n : ℕ). in_choice s e n (three a b d) is in
-    record { answer = IfOk-map c.conditional.result (λ o. Answers w (λ n. conditional (results_in s (three a b d) n)) s.left g0 c.conditional.new.guard o) (λ o. Answers w (values_in s e) s.left g0 c.conditional.new.guard o) (λ o h. answers_of w s.left (values_in s e) (λ n. conditional (results_in s (three a b d) n)) g0 c.conditional.new.guard o same h) c.conditional.ensures.answer; counted = c.conditional.ensures.counted }
+    record { answer = answers_of w s.left (values_in s e) (λ n. conditional (results_in s (three a b d) n)) g0 c.conditional.new.guard c.conditional.result same c.conditional.ensures.answer; counted = c.conditional.ensures.counted }
 
 pub evaluation::evaluate-call_function-requires : goal.evaluation::evaluate-call_function-requires
 evaluation::evaluate-call_function-requires g t c κs within =
@@ -174,10 +161,9 @@ evaluation::evaluate-call_function-requires g t c κs within =
     let e = tree c.args.expr.now in
     let x = c.bytes-in-Call.result.now in
     let ts = pack (trees c.in-Call.items) in
-    let is = ap tree c.in-Call.is ∙ tree-Call c.in-Call.name c.in-Call.items ∙ ap (λ (y : List ℕ). node (call y) ts) (sym c.bytes-in-Call.ensures) in
+    let is = shape-Call c.args.expr.now c.in-Call.name c.in-Call.items x c.in-Call.is c.bytes-in-Call.ensures in
     let same = λ (n : ℕ). in_call s e n x ts is in
-    let p0 = begins w s.left (values_in s e) (λ n. called w x (results_in s ts n)) g0 c.requires same in
-    (omega (arith, c.decreases, ap size is), (within, rest_ready w s.left (values_in s e) g0 g0 (λ n. called w x (results_in s ts n)) 0 p0))
+    (omega (arith, c.decreases, ap size is), (within, ready_as w (values_in s e) (λ n. called w x (results_in s ts n)) g0 same c.requires))
 
 pub evaluation::evaluate-returns-in-Call : goal.evaluation::evaluate-returns-in-Call
 evaluation::evaluate-returns-in-Call g t c =
@@ -188,9 +174,9 @@ evaluation::evaluate-returns-in-Call g t c =
     let e = tree c.args.expr.now in
     let x = c.bytes-in-Call.result.now in
     let ts = pack (trees c.in-Call.items) in
-    let is = ap tree c.in-Call.is ∙ tree-Call c.in-Call.name c.in-Call.items ∙ ap (λ (y : List ℕ). node (call y) ts) (sym c.bytes-in-Call.ensures) in
+    let is = shape-Call c.args.expr.now c.in-Call.name c.in-Call.items x c.in-Call.is c.bytes-in-Call.ensures in
     let same = λ (n : ℕ). in_call s e n x ts is in
-    record { answer = IfOk-map c.call_function.result (λ o. Answers w (λ n. called w x (results_in s ts n)) s.left g0 c.call_function.new.guard o) (λ o. Answers w (values_in s e) s.left g0 c.call_function.new.guard o) (λ o h. answers_of w s.left (values_in s e) (λ n. called w x (results_in s ts n)) g0 c.call_function.new.guard o same h) c.call_function.ensures.answer; counted = c.call_function.ensures.counted }
+    record { answer = answers_of w s.left (values_in s e) (λ n. called w x (results_in s ts n)) g0 c.call_function.new.guard c.call_function.result same c.call_function.ensures.answer; counted = c.call_function.ensures.counted }
 
 pub evaluation::evaluate-unary_operation-requires : goal.evaluation::evaluate-unary_operation-requires
 evaluation::evaluate-unary_operation-requires g t c κs within =
@@ -201,9 +187,8 @@ evaluation::evaluate-unary_operation-requires g t c κs within =
     let op = c.in-Unary.op in
     let a = tree c.deref.result.now in
     let f = λ (n : ℕ). unary_in s op a n in
-    let is = ap tree c.in-Unary.is ∙ tree-Unary op c.in-Unary.a ∙ ap (λ (x : Expr). node (unary op) (one (tree x))) (sym c.deref.ensures) in
-    let p0 = begins w s.left (values_in s e) f g0 c.requires (λ n. in_unary s e n op a is) in
-    (omega (arith, c.decreases, ap size is), (within, rest_ready w s.left (values_in s e) g0 g0 f 0 p0))
+    let is = shape-Unary c.args.expr.now op c.in-Unary.a c.deref.result.now c.in-Unary.is c.deref.ensures in
+    (omega (arith, c.decreases, ap size is), (within, ready_as w (values_in s e) f g0 (λ n. in_unary s e n op a is) c.requires))
 
 pub evaluation::evaluate-returns-in-Unary : goal.evaluation::evaluate-returns-in-Unary
 evaluation::evaluate-returns-in-Unary g t c =
@@ -214,9 +199,9 @@ evaluation::evaluate-returns-in-Unary g t c =
     let op = c.in-Unary.op in
     let a = tree c.deref.result.now in
     let f = λ (n : ℕ). unary_in s op a n in
-    let is = ap tree c.in-Unary.is ∙ tree-Unary op c.in-Unary.a ∙ ap (λ (x : Expr). node (unary op) (one (tree x))) (sym c.deref.ensures) in
+    let is = shape-Unary c.args.expr.now op c.in-Unary.a c.deref.result.now c.in-Unary.is c.deref.ensures in
     let g1 = c.unary_operation.new.guard in
-    record { answer = IfOk-map c.unary_operation.result (λ o. Answers w f s.left g0 g1 o) (λ o. Answers w (values_in s e) s.left g0 g1 o) (λ o h. answers_of w s.left (values_in s e) f g0 g1 o (λ n. in_unary s e n op a is) h) c.unary_operation.ensures.answer; counted = c.unary_operation.ensures.counted }
+    record { answer = answers_of w s.left (values_in s e) f g0 g1 c.unary_operation.result (λ n. in_unary s e n op a is) c.unary_operation.ensures.answer; counted = c.unary_operation.ensures.counted }
 
 pub evaluation::evaluate-binary_operation-requires : goal.evaluation::evaluate-binary_operation-requires
 evaluation::evaluate-binary_operation-requires g t c κs within =
@@ -227,10 +212,9 @@ evaluation::evaluate-binary_operation-requires g t c κs within =
     let op = c.in-Binary.op in
     let a = tree c.deref-in-Binary.result.now in
     let b = tree c.deref-in-Binary-2.result.now in
-    let is = ap tree c.in-Binary.is ∙ tree-Binary op c.in-Binary.a c.in-Binary.b ∙ ap (λ (x : Expr). node (binary op) (two (tree x) (tree c.in-Binary.b.value))) (sym c.deref-in-Binary.ensures) ∙ ap (λ (x : Expr). node (binary op) (two a (tree x))) (sym c.deref-in-Binary-2.ensures) in
+    let is = shape-Binary c.args.expr.now op c.in-Binary.a c.in-Binary.b c.deref-in-Binary.result.now c.deref-in-Binary-2.result.now c.in-Binary.is c.deref-in-Binary.ensures c.deref-in-Binary-2.ensures in
     let f = λ (n : ℕ). binary_in s op a b n in
-    let p0 = begins w s.left (values_in s e) f g0 c.requires (λ n. in_binary s e n op a b is) in
-    (omega (arith, c.decreases, ap size is), (within, rest_ready w s.left (values_in s e) g0 g0 f 0 p0))
+    (omega (arith, c.decreases, ap size is), (within, ready_as w (values_in s e) f g0 (λ n. in_binary s e n op a b is) c.requires))
 
 pub evaluation::evaluate-returns-in-Binary : goal.evaluation::evaluate-returns-in-Binary
 evaluation::evaluate-returns-in-Binary g t c =
@@ -241,10 +225,10 @@ evaluation::evaluate-returns-in-Binary g t c =
     let op = c.in-Binary.op in
     let a = tree c.deref-in-Binary.result.now in
     let b = tree c.deref-in-Binary-2.result.now in
-    let is = ap tree c.in-Binary.is ∙ tree-Binary op c.in-Binary.a c.in-Binary.b ∙ ap (λ (x : Expr). node (binary op) (two (tree x) (tree c.in-Binary.b.value))) (sym c.deref-in-Binary.ensures) ∙ ap (λ (x : Expr). node (binary op) (two a (tree x))) (sym c.deref-in-Binary-2.ensures) in
+    let is = shape-Binary c.args.expr.now op c.in-Binary.a c.in-Binary.b c.deref-in-Binary.result.now c.deref-in-Binary-2.result.now c.in-Binary.is c.deref-in-Binary.ensures c.deref-in-Binary-2.ensures in
     let f = λ (n : ℕ). binary_in s op a b n in
     let g1 = c.binary_operation.new.guard in
-    record { answer = IfOk-map c.binary_operation.result (λ o. Answers w f s.left g0 g1 o) (λ o. Answers w (values_in s e) s.left g0 g1 o) (λ o h. answers_of w s.left (values_in s e) f g0 g1 o (λ n. in_binary s e n op a b is) h) c.binary_operation.ensures.answer; counted = c.binary_operation.ensures.counted }
+    record { answer = answers_of w s.left (values_in s e) f g0 g1 c.binary_operation.result (λ n. in_binary s e n op a b is) c.binary_operation.ensures.answer; counted = c.binary_operation.ensures.counted }
 
 pub evaluation::evaluate-selection-requires : goal.evaluation::evaluate-selection-requires
 evaluation::evaluate-selection-requires g t c κs within =
@@ -254,10 +238,9 @@ evaluation::evaluate-selection-requires g t c κs within =
     let e = tree c.args.expr.now in
     let x = c.bytes-in-Select.result.now in
     let a = tree c.deref-in-Select.result.now in
-    let is = ap tree c.in-Select.is ∙ tree-Select c.in-Select.base c.in-Select.name ∙ ap (λ (y : Expr). node (select c.in-Select.name) (one (tree y))) (sym c.deref-in-Select.ensures) ∙ ap (λ (y : List ℕ). node (select y) (one a)) (sym c.bytes-in-Select.ensures) in
+    let is = shape-Select c.args.expr.now c.in-Select.base c.in-Select.name c.deref-in-Select.result.now x c.in-Select.is c.deref-in-Select.ensures c.bytes-in-Select.ensures in
     let f = λ (n : ℕ). selected_in s x a n in
-    let p0 = begins w s.left (values_in s e) f g0 c.requires (λ n. in_select s e n x a is) in
-    (omega (arith, c.decreases, ap size is), (within, rest_ready w s.left (values_in s e) g0 g0 f 0 p0))
+    (omega (arith, c.decreases, ap size is), (within, ready_as w (values_in s e) f g0 (λ n. in_select s e n x a is) c.requires))
 
 pub evaluation::evaluate-returns-in-Select : goal.evaluation::evaluate-returns-in-Select
 evaluation::evaluate-returns-in-Select g t c =
@@ -267,10 +250,10 @@ evaluation::evaluate-returns-in-Select g t c =
     let e = tree c.args.expr.now in
     let x = c.bytes-in-Select.result.now in
     let a = tree c.deref-in-Select.result.now in
-    let is = ap tree c.in-Select.is ∙ tree-Select c.in-Select.base c.in-Select.name ∙ ap (λ (y : Expr). node (select c.in-Select.name) (one (tree y))) (sym c.deref-in-Select.ensures) ∙ ap (λ (y : List ℕ). node (select y) (one a)) (sym c.bytes-in-Select.ensures) in
+    let is = shape-Select c.args.expr.now c.in-Select.base c.in-Select.name c.deref-in-Select.result.now x c.in-Select.is c.deref-in-Select.ensures c.bytes-in-Select.ensures in
     let f = λ (n : ℕ). selected_in s x a n in
     let g1 = c.selection.new.guard in
-    record { answer = IfOk-map c.selection.result (λ o. Answers w f s.left g0 g1 o) (λ o. Answers w (values_in s e) s.left g0 g1 o) (λ o h. answers_of w s.left (values_in s e) f g0 g1 o (λ n. in_select s e n x a is) h) c.selection.ensures.answer; counted = c.selection.ensures.counted }
+    record { answer = answers_of w s.left (values_in s e) f g0 g1 c.selection.result (λ n. in_select s e n x a is) c.selection.ensures.answer; counted = c.selection.ensures.counted }
 
 pub evaluation::evaluate-subscription-requires : goal.evaluation::evaluate-subscription-requires
 evaluation::evaluate-subscription-requires g t c κs within =
@@ -280,10 +263,9 @@ evaluation::evaluate-subscription-requires g t c κs within =
     let e = tree c.args.expr.now in
     let a = tree c.deref-in-Subscript.result.now in
     let b = tree c.deref-in-Subscript-2.result.now in
-    let is = ap tree c.in-Subscript.is ∙ tree-Subscript c.in-Subscript.base c.in-Subscript.index ∙ ap (λ (y : Expr). node subscript (two (tree y) (tree c.in-Subscript.index.value))) (sym c.deref-in-Subscript.ensures) ∙ ap (λ (y : Expr). node subscript (two a (tree y))) (sym c.deref-in-Subscript-2.ensures) in
+    let is = shape-Subscript c.args.expr.now c.in-Subscript.base c.in-Subscript.index c.deref-in-Subscript.result.now c.deref-in-Subscript-2.result.now c.in-Subscript.is c.deref-in-Subscript.ensures c.deref-in-Subscript-2.ensures in
     let f = λ (n : ℕ). subscripted_in s a b n in
-    let p0 = begins w s.left (values_in s e) f g0 c.requires (λ n. in_subscript s e n a b is) in
-    (omega (arith, c.decreases, ap size is), (within, rest_ready w s.left (values_in s e) g0 g0 f 0 p0))
+    (omega (arith, c.decreases, ap size is), (within, ready_as w (values_in s e) f g0 (λ n. in_subscript s e n a b is) c.requires))
 
 pub evaluation::evaluate-returns-in-Subscript : goal.evaluation::evaluate-returns-in-Subscript
 evaluation::evaluate-returns-in-Subscript g t c =
@@ -293,10 +275,10 @@ evaluation::evaluate-returns-in-Subscript g t c =
     let e = tree c.args.expr.now in
     let a = tree c.deref-in-Subscript.result.now in
     let b = tree c.deref-in-Subscript-2.result.now in
-    let is = ap tree c.in-Subscript.is ∙ tree-Subscript c.in-Subscript.base c.in-Subscript.index ∙ ap (λ (y : Expr). node subscript (two (tree y) (tree c.in-Subscript.index.value))) (sym c.deref-in-Subscript.ensures) ∙ ap (λ (y : Expr). node subscript (two a (tree y))) (sym c.deref-in-Subscript-2.ensures) in
+    let is = shape-Subscript c.args.expr.now c.in-Subscript.base c.in-Subscript.index c.deref-in-Subscript.result.now c.deref-in-Subscript-2.result.now c.in-Subscript.is c.deref-in-Subscript.ensures c.deref-in-Subscript-2.ensures in
     let f = λ (n : ℕ). subscripted_in s a b n in
     let g1 = c.subscription.new.guard in
-    record { answer = IfOk-map c.subscription.result (λ o. Answers w f s.left g0 g1 o) (λ o. Answers w (values_in s e) s.left g0 g1 o) (λ o h. answers_of w s.left (values_in s e) f g0 g1 o (λ n. in_subscript s e n a b is) h) c.subscription.ensures.answer; counted = c.subscription.ensures.counted }
+    record { answer = answers_of w s.left (values_in s e) f g0 g1 c.subscription.result (λ n. in_subscript s e n a b is) c.subscription.ensures.answer; counted = c.subscription.ensures.counted }
 
 pub evaluation::evaluate-list_literal-requires : goal.evaluation::evaluate-list_literal-requires
 evaluation::evaluate-list_literal-requires g t c κs within =
@@ -305,10 +287,9 @@ evaluation::evaluate-list_literal-requires g t c κs within =
     let g0 = c.args.guard.now in
     let e = tree c.args.expr.now in
     let ts = pack (trees c.in-List.items) in
-    let is = ap tree c.in-List.is ∙ tree-List c.in-List.items in
+    let is = shape-List c.args.expr.now c.in-List.items c.in-List.is in
     let f = λ (n : ℕ). listed_in s ts n in
-    let p0 = begins w s.left (values_in s e) f g0 c.requires (λ n. in_list s e n ts is) in
-    (omega (arith, c.decreases, ap size is), (within, rest_ready w s.left (values_in s e) g0 g0 f 0 p0))
+    (omega (arith, c.decreases, ap size is), (within, ready_as w (values_in s e) f g0 (λ n. in_list s e n ts is) c.requires))
 
 pub evaluation::evaluate-returns-in-List : goal.evaluation::evaluate-returns-in-List
 evaluation::evaluate-returns-in-List g t c =
@@ -317,10 +298,10 @@ evaluation::evaluate-returns-in-List g t c =
     let g0 = c.args.guard.now in
     let e = tree c.args.expr.now in
     let ts = pack (trees c.in-List.items) in
-    let is = ap tree c.in-List.is ∙ tree-List c.in-List.items in
+    let is = shape-List c.args.expr.now c.in-List.items c.in-List.is in
     let f = λ (n : ℕ). listed_in s ts n in
     let g1 = c.list_literal.new.guard in
-    record { answer = IfOk-map c.list_literal.result (λ o. Answers w f s.left g0 g1 o) (λ o. Answers w (values_in s e) s.left g0 g1 o) (λ o h. answers_of w s.left (values_in s e) f g0 g1 o (λ n. in_list s e n ts is) h) c.list_literal.ensures.answer; counted = c.list_literal.ensures.counted }
+    record { answer = answers_of w s.left (values_in s e) f g0 g1 c.list_literal.result (λ n. in_list s e n ts is) c.list_literal.ensures.answer; counted = c.list_literal.ensures.counted }
 
 pub operands::unary_operation-evaluate-requires : goal.operands::unary_operation-evaluate-requires
 operands::unary_operation-evaluate-requires g t c κs within =
@@ -334,20 +315,6 @@ operands::unary_operation-evaluate-requires g t c κs within =
     let p0 = begins w s.left f (λ n. option_map (unary_value op) (values_in s a n)) g0 c.requires (λ n. refl) in
     (omega (arith, c.decreases), (within, mapped_part_ready w s.left f g0 g0 (unary_value op) (values_in s a) 0 p0))
 
-pub operands::unary_operation-returns-in_default : goal.operands::unary_operation-returns-in_default
-operands::unary_operation-returns-in_default g t c =
-    let s = c.args.scene.now in
-    let w = world_in s in
-    let g0 = c.args.guard.now in
-    let n0 = c.args.entry.now in
-    let op = c.args.op in
-    let a = tree c.args.a.now in
-    let f = λ (n : ℕ). unary_in s op a n in
-    let p0 = begins w s.left f (λ n. option_map (unary_value op) (values_in s a n)) g0 c.requires (λ n. refl) in
-    let g1 = c.evaluate.new.guard in
-    let none_left = known_as w (values_in s a) s.left g0 g1 c.in_ok-operand.field-0 None c.in_default.is c.in_ok-operand.ensures.answer in
-    record { answer = mapped_part_fails w s.left f g0 g0 g1 g1 (unary_value op) (values_in s a) 0 p0 none_left; counted = c.evaluate.ensures.counted }
-
 pub operands::unary_operation-returns : goal.operands::unary_operation-returns
 operands::unary_operation-returns g t c =
     let s = c.args.scene.now in
@@ -359,10 +326,8 @@ operands::unary_operation-returns g t c =
     let f = λ (n : ℕ). unary_in s op a n in
     let p0 = begins w s.left f (λ n. option_map (unary_value op) (values_in s a n)) g0 c.requires (λ n. refl) in
     let g1 = c.evaluate.new.guard in
-    let o = c.in-Some.operand in
-    let u : Outcome = record { value = c.unary-value.result; height = o.height } in
-    let some = known_as w (values_in s a) s.left g0 g1 c.in_ok-operand.field-0 (Some o) c.in-Some.is c.in_ok-operand.ensures.answer in
-    record { answer = finishes_mapped w s.left f g0 g0 g1 (unary_value op) (values_in s a) 0 o u p0 some c.unary-value.ensures (omega arith); counted = c.evaluate.ensures.counted }
+    let o = c.in_ok-operand.operand in
+    record { answer = finishes_mapped w s.left f g0 g0 g1 (unary_value op) (values_in s a) 0 o c.unary.result p0 c.in_ok-operand.ensures.answer c.unary.ensures.value (omega (arith, c.unary.ensures.height)); counted = c.evaluate.ensures.counted }
 
 pub operands::unary_operation-returns-in_err-operand : goal.operands::unary_operation-returns-in_err-operand
 operands::unary_operation-returns-in_err-operand g t c =
@@ -370,7 +335,12 @@ operands::unary_operation-returns-in_err-operand g t c =
     let w = world_in s in
     let g0 = c.args.guard.now in
     let n0 = c.args.entry.now in
-    record { answer = search rules; counted = c.evaluate.ensures.counted }
+    let op = c.args.op in
+    let a = tree c.args.a.now in
+    let f = λ (n : ℕ). unary_in s op a n in
+    let p0 = begins w s.left f (λ n. option_map (unary_value op) (values_in s a n)) g0 c.requires (λ n. refl) in
+    let g1 = c.evaluate.new.guard in
+    record { answer = hands_on w s.left f g0 g1 c.from_residual.result c.in_err-operand.field-0.0 c.from_residual.ensures.0 c.from_residual.ensures.1 (mapped_part_fails w s.left f g0 g0 g1 g1 (unary_value op) (values_in s a) 0 c.in_err-operand.field-0.0 p0 c.in_err-operand.ensures.answer); counted = c.evaluate.ensures.counted }
 
 pub operands::binary_operation-evaluate-requires : goal.operands::binary_operation-evaluate-requires
 operands::binary_operation-evaluate-requires g t c κs within =
@@ -385,21 +355,6 @@ operands::binary_operation-evaluate-requires g t c κs within =
     let p0 = begins w s.left f (λ n. option_and_then (λ x. option_map (binary_value op x) (values_in s b n)) (values_in s a n)) g0 c.requires (λ n. refl) in
     (omega (arith, c.decreases), (within, part_ready w s.left f g0 g0 (λ n x. option_map (binary_value op x) (values_in s b n)) (values_in s a) 0 p0))
 
-pub operands::binary_operation-returns-in_default : goal.operands::binary_operation-returns-in_default
-operands::binary_operation-returns-in_default g t c =
-    let s = c.args.scene.now in
-    let w = world_in s in
-    let g0 = c.args.guard.now in
-    let n0 = c.args.entry.now in
-    let op = c.args.op in
-    let a = tree c.args.a.now in
-    let b = tree c.args.b.now in
-    let f = λ (n : ℕ). binary_in s op a b n in
-    let p0 = begins w s.left f (λ n. option_and_then (λ x. option_map (binary_value op x) (values_in s b n)) (values_in s a n)) g0 c.requires (λ n. refl) in
-    let g1 = c.evaluate.new.guard in
-    let none_left = known_as w (values_in s a) s.left g0 g1 c.in_ok-left.field-0 (None) c.in_default.is c.in_ok-left.ensures.answer in
-    record { answer = part_fails w s.left f g0 g0 g1 g1 (λ n x. option_map (binary_value op x) (values_in s b n)) (values_in s a) 0 p0 none_left; counted = c.evaluate.ensures.counted }
-
 pub operands::binary_operation-evaluate-requires-2 : goal.operands::binary_operation-evaluate-requires-2
 operands::binary_operation-evaluate-requires-2 g t c κs within =
     let s = c.args.scene.now in
@@ -412,53 +367,11 @@ operands::binary_operation-evaluate-requires-2 g t c κs within =
     let f = λ (n : ℕ). binary_in s op a b n in
     let p0 = begins w s.left f (λ n. option_and_then (λ x. option_map (binary_value op x) (values_in s b n)) (values_in s a n)) g0 c.requires (λ n. refl) in
     let g1 = c.evaluate.new.guard in
-    let o1 = c.in-Some.left in
-    let some1 = known_as w (values_in s a) s.left g0 g1 c.in_ok-left.field-0 (Some o1) c.in-Some.is c.in_ok-left.ensures.answer in
+    let o1 = c.in_ok-left.left in
+    let some1 = c.in_ok-left.ensures.answer in
     let p1 = part_done w s.left f g0 g0 g1 (λ n x. option_map (binary_value op x) (values_in s b n)) (values_in s a) 0 o1 p0 some1 in
     let h1 = max 0 o1.height in
     (omega (arith, c.decreases), (within, mapped_part_ready w s.left f g0 g1 (binary_value op (plain o1.value)) (values_in s b) h1 p1))
-
-pub operands::binary_operation-returns-in_default-2 : goal.operands::binary_operation-returns-in_default-2
-operands::binary_operation-returns-in_default-2 g t c =
-    let s = c.args.scene.now in
-    let w = world_in s in
-    let g0 = c.args.guard.now in
-    let n0 = c.args.entry.now in
-    let op = c.args.op in
-    let a = tree c.args.a.now in
-    let b = tree c.args.b.now in
-    let f = λ (n : ℕ). binary_in s op a b n in
-    let p0 = begins w s.left f (λ n. option_and_then (λ x. option_map (binary_value op x) (values_in s b n)) (values_in s a n)) g0 c.requires (λ n. refl) in
-    let g1 = c.evaluate.new.guard in
-    let o1 = c.in-Some.left in
-    let some1 = known_as w (values_in s a) s.left g0 g1 c.in_ok-left.field-0 (Some o1) c.in-Some.is c.in_ok-left.ensures.answer in
-    let p1 = part_done w s.left f g0 g0 g1 (λ n x. option_map (binary_value op x) (values_in s b n)) (values_in s a) 0 o1 p0 some1 in
-    let h1 = max 0 o1.height in
-    let g2 = c.evaluate-2.new.guard in
-    let none_left = known_as w (values_in s b) s.left g1 g2 c.in_ok-right.field-0 (None) c.in_default-2.is c.in_ok-right.ensures.answer in
-    record { answer = mapped_part_fails w s.left f g0 g1 g2 g2 (binary_value op (plain o1.value)) (values_in s b) h1 p1 none_left; counted = counts_then w n0 c.evaluate.new.entry c.evaluate-2.new.entry g0 g1 g2 c.evaluate.ensures.counted c.evaluate-2.ensures.counted }
-
-pub operands::binary_operation-returns : goal.operands::binary_operation-returns
-operands::binary_operation-returns g t c =
-    let s = c.args.scene.now in
-    let w = world_in s in
-    let g0 = c.args.guard.now in
-    let n0 = c.args.entry.now in
-    let op = c.args.op in
-    let a = tree c.args.a.now in
-    let b = tree c.args.b.now in
-    let f = λ (n : ℕ). binary_in s op a b n in
-    let p0 = begins w s.left f (λ n. option_and_then (λ x. option_map (binary_value op x) (values_in s b n)) (values_in s a n)) g0 c.requires (λ n. refl) in
-    let g1 = c.evaluate.new.guard in
-    let o1 = c.in-Some.left in
-    let some1 = known_as w (values_in s a) s.left g0 g1 c.in_ok-left.field-0 (Some o1) c.in-Some.is c.in_ok-left.ensures.answer in
-    let p1 = part_done w s.left f g0 g0 g1 (λ n x. option_map (binary_value op x) (values_in s b n)) (values_in s a) 0 o1 p0 some1 in
-    let h1 = max 0 o1.height in
-    let g2 = c.evaluate-2.new.guard in
-    let o2 = c.in-Some-2.right in
-    let u : Outcome = record { value = c.binary-value.result; height = c.greater-height.result } in
-    let some2 = known_as w (values_in s b) s.left g1 g2 c.in_ok-right.field-0 (Some o2) c.in-Some-2.is c.in_ok-right.ensures.answer in
-    record { answer = finishes_mapped w s.left f g0 g1 g2 (binary_value op (plain o1.value)) (values_in s b) h1 o2 u p1 some2 c.binary-value.ensures (omega (arith, c.greater-height.ensures)); counted = counts_then w n0 c.evaluate.new.entry c.evaluate-2.new.entry g0 g1 g2 c.evaluate.ensures.counted c.evaluate-2.ensures.counted }
 
 pub operands::binary_operation-returns-in_err-left : goal.operands::binary_operation-returns-in_err-left
 operands::binary_operation-returns-in_err-left g t c =
@@ -466,17 +379,51 @@ operands::binary_operation-returns-in_err-left g t c =
     let w = world_in s in
     let g0 = c.args.guard.now in
     let n0 = c.args.entry.now in
-    record { answer = search rules; counted = c.evaluate.ensures.counted }
+    let op = c.args.op in
+    let a = tree c.args.a.now in
+    let b = tree c.args.b.now in
+    let f = λ (n : ℕ). binary_in s op a b n in
+    let p0 = begins w s.left f (λ n. option_and_then (λ x. option_map (binary_value op x) (values_in s b n)) (values_in s a n)) g0 c.requires (λ n. refl) in
+    let g1 = c.evaluate.new.guard in
+    record { answer = hands_on w s.left f g0 g1 c.from_residual.result c.in_err-left.field-0.0 c.from_residual.ensures.0 c.from_residual.ensures.1 (part_fails w s.left f g0 g0 g1 g1 (λ n x. option_map (binary_value op x) (values_in s b n)) (values_in s a) 0 c.in_err-left.field-0.0 p0 c.in_err-left.ensures.answer); counted = c.evaluate.ensures.counted }
 
-pub operands::binary_operation-returns-in_err-right : goal.operands::binary_operation-returns-in_err-right
-operands::binary_operation-returns-in_err-right g t c =
+pub operands::binary_operation-returns-in-Err : goal.operands::binary_operation-returns-in-Err
+operands::binary_operation-returns-in-Err g t c =
     let s = c.args.scene.now in
     let w = world_in s in
     let g0 = c.args.guard.now in
     let n0 = c.args.entry.now in
+    let op = c.args.op in
+    let a = tree c.args.a.now in
+    let b = tree c.args.b.now in
+    let f = λ (n : ℕ). binary_in s op a b n in
+    let p0 = begins w s.left f (λ n. option_and_then (λ x. option_map (binary_value op x) (values_in s b n)) (values_in s a n)) g0 c.requires (λ n. refl) in
     let g1 = c.evaluate.new.guard in
+    let o1 = c.in_ok-left.left in
+    let some1 = c.in_ok-left.ensures.answer in
+    let p1 = part_done w s.left f g0 g0 g1 (λ n x. option_map (binary_value op x) (values_in s b n)) (values_in s a) 0 o1 p0 some1 in
+    let h1 = max 0 o1.height in
     let g2 = c.evaluate-2.new.guard in
-    record { answer = search rules; counted = counts_then w n0 c.evaluate.new.entry c.evaluate-2.new.entry g0 g1 g2 c.evaluate.ensures.counted c.evaluate-2.ensures.counted }
+    record { answer = mapped_part_fails w s.left f g0 g1 g2 g2 (binary_value op (plain o1.value)) (values_in s b) h1 c.in-Err.stop p1 c.in-Err.ensures.answer; counted = counts_then w n0 c.evaluate.new.entry c.evaluate-2.new.entry g0 g1 g2 c.evaluate.ensures.counted c.evaluate-2.ensures.counted }
+
+pub operands::binary_operation-returns-in-Ok : goal.operands::binary_operation-returns-in-Ok
+operands::binary_operation-returns-in-Ok g t c =
+    let s = c.args.scene.now in
+    let w = world_in s in
+    let g0 = c.args.guard.now in
+    let n0 = c.args.entry.now in
+    let op = c.args.op in
+    let a = tree c.args.a.now in
+    let b = tree c.args.b.now in
+    let f = λ (n : ℕ). binary_in s op a b n in
+    let p0 = begins w s.left f (λ n. option_and_then (λ x. option_map (binary_value op x) (values_in s b n)) (values_in s a n)) g0 c.requires (λ n. refl) in
+    let g1 = c.evaluate.new.guard in
+    let o1 = c.in_ok-left.left in
+    let some1 = c.in_ok-left.ensures.answer in
+    let p1 = part_done w s.left f g0 g0 g1 (λ n x. option_map (binary_value op x) (values_in s b n)) (values_in s a) 0 o1 p0 some1 in
+    let h1 = max 0 o1.height in
+    let g2 = c.evaluate-2.new.guard in
+    record { answer = finishes_mapped w s.left f g0 g1 g2 (binary_value op (plain o1.value)) (values_in s b) h1 c.in-Ok.right c.binary.result p1 c.in-Ok.ensures.answer c.binary.ensures.value (omega (arith, c.binary.ensures.height)); counted = counts_then w n0 c.evaluate.new.entry c.evaluate-2.new.entry g0 g1 g2 c.evaluate.ensures.counted c.evaluate-2.ensures.counted }
 
 pub operands::selection-evaluate-requires : goal.operands::selection-evaluate-requires
 operands::selection-evaluate-requires g t c κs within =
@@ -490,20 +437,6 @@ operands::selection-evaluate-requires g t c κs within =
     let p0 = begins w s.left f (λ n. option_and_then (selected (attribute_value (value_at n w) w) x) (values_in s a n)) g0 c.requires (λ n. refl) in
     (omega (arith, c.decreases), (within, part_ready w s.left f g0 g0 (λ n. selected (attribute_value (value_at n w) w) x) (values_in s a) 0 p0))
 
-pub operands::selection-returns-in_default : goal.operands::selection-returns-in_default
-operands::selection-returns-in_default g t c =
-    let s = c.args.scene.now in
-    let w = world_in s in
-    let g0 = c.args.guard.now in
-    let n0 = c.args.entry.now in
-    let x = c.args.name.now in
-    let a = tree c.args.base.now in
-    let f = λ (n : ℕ). selected_in s x a n in
-    let p0 = begins w s.left f (λ n. option_and_then (selected (attribute_value (value_at n w) w) x) (values_in s a n)) g0 c.requires (λ n. refl) in
-    let g1 = c.evaluate.new.guard in
-    let none_left = known_as w (values_in s a) s.left g0 g1 c.in_ok-base.field-0 (None) c.in_default.is c.in_ok-base.ensures.answer in
-    record { answer = part_fails w s.left f g0 g0 g1 g1 (λ n. selected (attribute_value (value_at n w) w) x) (values_in s a) 0 p0 none_left; counted = c.evaluate.ensures.counted }
-
 pub operands::selection-follow-requires : goal.operands::selection-follow-requires
 operands::selection-follow-requires g t c κs within =
     let s = c.args.scene.now in
@@ -515,34 +448,13 @@ operands::selection-follow-requires g t c κs within =
     let f = λ (n : ℕ). selected_in s x a n in
     let p0 = begins w s.left f (λ n. option_and_then (selected (attribute_value (value_at n w) w) x) (values_in s a n)) g0 c.requires (λ n. refl) in
     let g1 = c.evaluate.new.guard in
-    let o1 = c.in-Some.base in
-    let some1 = known_as w (values_in s a) s.left g0 g1 c.in_ok-base.field-0 (Some o1) c.in-Some.is c.in_ok-base.ensures.answer in
+    let o1 = c.in_ok-base.base in
+    let some1 = c.in_ok-base.ensures.answer in
     let p1 = part_done w s.left f g0 g0 g1 (λ n. selected (attribute_value (value_at n w) w) x) (values_in s a) 0 o1 p0 some1 in
     let h1 = max 0 o1.height in
     let r = c.select-selected.result in
     let p2 = rewritten w f s.left g0 g1 (λ n. selected (attribute_value (value_at n w) w) x (plain o1.value)) (λ n. value_of (value_at n w) r) h1 (λ n. sym (c.select-selected.ensures.value (value_at n w))) p1 in
     (omega (arith, c.decreases), (within, (c.select-selected.ensures.there, rest_ready w s.left f g0 g1 (λ n. value_of (value_at n w) r) h1 p2)))
-
-pub operands::selection-returns-in_default-2 : goal.operands::selection-returns-in_default-2
-operands::selection-returns-in_default-2 g t c =
-    let s = c.args.scene.now in
-    let w = world_in s in
-    let g0 = c.args.guard.now in
-    let n0 = c.args.entry.now in
-    let x = c.args.name.now in
-    let a = tree c.args.base.now in
-    let f = λ (n : ℕ). selected_in s x a n in
-    let p0 = begins w s.left f (λ n. option_and_then (selected (attribute_value (value_at n w) w) x) (values_in s a n)) g0 c.requires (λ n. refl) in
-    let g1 = c.evaluate.new.guard in
-    let o1 = c.in-Some.base in
-    let some1 = known_as w (values_in s a) s.left g0 g1 c.in_ok-base.field-0 (Some o1) c.in-Some.is c.in_ok-base.ensures.answer in
-    let p1 = part_done w s.left f g0 g0 g1 (λ n. selected (attribute_value (value_at n w) w) x) (values_in s a) 0 o1 p0 some1 in
-    let h1 = max 0 o1.height in
-    let r = c.select-selected.result in
-    let p2 = rewritten w f s.left g0 g1 (λ n. selected (attribute_value (value_at n w) w) x (plain o1.value)) (λ n. value_of (value_at n w) r) h1 (λ n. sym (c.select-selected.ensures.value (value_at n w))) p1 in
-    let g2 = c.follow.new.guard in
-    let none_left = known_as w (λ n. value_of (value_at n w) r) s.left g1 g2 c.in_ok-found.field-0 (None) c.in_default-2.is c.in_ok-found.ensures.answer in
-    record { answer = rest_fails w s.left f g0 g1 g2 g2 (λ n. value_of (value_at n w) r) h1 p2 none_left; counted = counts_then w n0 c.evaluate.new.entry c.follow.new.entry g0 g1 g2 c.evaluate.ensures.counted c.follow.ensures.counted }
 
 pub operands::selection-returns : goal.operands::selection-returns
 operands::selection-returns g t c =
@@ -555,16 +467,14 @@ operands::selection-returns g t c =
     let f = λ (n : ℕ). selected_in s x a n in
     let p0 = begins w s.left f (λ n. option_and_then (selected (attribute_value (value_at n w) w) x) (values_in s a n)) g0 c.requires (λ n. refl) in
     let g1 = c.evaluate.new.guard in
-    let o1 = c.in-Some.base in
-    let some1 = known_as w (values_in s a) s.left g0 g1 c.in_ok-base.field-0 (Some o1) c.in-Some.is c.in_ok-base.ensures.answer in
+    let o1 = c.in_ok-base.base in
+    let some1 = c.in_ok-base.ensures.answer in
     let p1 = part_done w s.left f g0 g0 g1 (λ n. selected (attribute_value (value_at n w) w) x) (values_in s a) 0 o1 p0 some1 in
     let h1 = max 0 o1.height in
     let r = c.select-selected.result in
     let p2 = rewritten w f s.left g0 g1 (λ n. selected (attribute_value (value_at n w) w) x (plain o1.value)) (λ n. value_of (value_at n w) r) h1 (λ n. sym (c.select-selected.ensures.value (value_at n w))) p1 in
     let g2 = c.follow.new.guard in
-    let o2 = c.in-Some-2.found in
-    let some2 = known_as w (λ n. value_of (value_at n w) r) s.left g1 g2 c.in_ok-found.field-0 (Some o2) c.in-Some-2.is c.in_ok-found.ensures.answer in
-    record { answer = finishes_rest w s.left f g0 g1 g2 (λ n. value_of (value_at n w) r) h1 o2 c.at_least.result p2 some2 c.at_least.ensures.value (omega (arith, c.at_least.ensures.height)); counted = counts_then w n0 c.evaluate.new.entry c.follow.new.entry g0 g1 g2 c.evaluate.ensures.counted c.follow.ensures.counted }
+    record { answer = rest_ends w s.left f g0 g1 g2 (λ n. value_of (value_at n w) r) h1 o1.height c.follow.result c.at_least.result (omega arith) p2 c.follow.ensures.answer c.at_least.ensures; counted = counts_then w n0 c.evaluate.new.entry c.follow.new.entry g0 g1 g2 c.evaluate.ensures.counted c.follow.ensures.counted }
 
 pub operands::selection-returns-in_err-base : goal.operands::selection-returns-in_err-base
 operands::selection-returns-in_err-base g t c =
@@ -572,17 +482,12 @@ operands::selection-returns-in_err-base g t c =
     let w = world_in s in
     let g0 = c.args.guard.now in
     let n0 = c.args.entry.now in
-    record { answer = search rules; counted = c.evaluate.ensures.counted }
-
-pub operands::selection-returns-in_err-found : goal.operands::selection-returns-in_err-found
-operands::selection-returns-in_err-found g t c =
-    let s = c.args.scene.now in
-    let w = world_in s in
-    let g0 = c.args.guard.now in
-    let n0 = c.args.entry.now in
+    let x = c.args.name.now in
+    let a = tree c.args.base.now in
+    let f = λ (n : ℕ). selected_in s x a n in
+    let p0 = begins w s.left f (λ n. option_and_then (selected (attribute_value (value_at n w) w) x) (values_in s a n)) g0 c.requires (λ n. refl) in
     let g1 = c.evaluate.new.guard in
-    let g2 = c.follow.new.guard in
-    record { answer = search rules; counted = counts_then w n0 c.evaluate.new.entry c.follow.new.entry g0 g1 g2 c.evaluate.ensures.counted c.follow.ensures.counted }
+    record { answer = hands_on w s.left f g0 g1 c.from_residual.result c.in_err-base.field-0.0 c.from_residual.ensures.0 c.from_residual.ensures.1 (part_fails w s.left f g0 g0 g1 g1 (λ n. selected (attribute_value (value_at n w) w) x) (values_in s a) 0 c.in_err-base.field-0.0 p0 c.in_err-base.ensures.answer); counted = c.evaluate.ensures.counted }
 
 pub operands::subscription-evaluate-requires : goal.operands::subscription-evaluate-requires
 operands::subscription-evaluate-requires g t c κs within =
@@ -596,20 +501,6 @@ operands::subscription-evaluate-requires g t c κs within =
     let p0 = begins w s.left f (λ n. option_and_then (λ y. option_and_then (subscripted (attribute_value (value_at n w) w) y) (values_in s b n)) (values_in s a n)) g0 c.requires (λ n. refl) in
     (omega (arith, c.decreases), (within, part_ready w s.left f g0 g0 (λ n y. option_and_then (subscripted (attribute_value (value_at n w) w) y) (values_in s b n)) (values_in s a) 0 p0))
 
-pub operands::subscription-returns-in_default : goal.operands::subscription-returns-in_default
-operands::subscription-returns-in_default g t c =
-    let s = c.args.scene.now in
-    let w = world_in s in
-    let g0 = c.args.guard.now in
-    let n0 = c.args.entry.now in
-    let a = tree c.args.base.now in
-    let b = tree c.args.index.now in
-    let f = λ (n : ℕ). subscripted_in s a b n in
-    let p0 = begins w s.left f (λ n. option_and_then (λ y. option_and_then (subscripted (attribute_value (value_at n w) w) y) (values_in s b n)) (values_in s a n)) g0 c.requires (λ n. refl) in
-    let g1 = c.evaluate.new.guard in
-    let none_left = known_as w (values_in s a) s.left g0 g1 c.in_ok-base.field-0 (None) c.in_default.is c.in_ok-base.ensures.answer in
-    record { answer = part_fails w s.left f g0 g0 g1 g1 (λ n y. option_and_then (subscripted (attribute_value (value_at n w) w) y) (values_in s b n)) (values_in s a) 0 p0 none_left; counted = c.evaluate.ensures.counted }
-
 pub operands::subscription-evaluate-requires-2 : goal.operands::subscription-evaluate-requires-2
 operands::subscription-evaluate-requires-2 g t c κs within =
     let s = c.args.scene.now in
@@ -621,30 +512,11 @@ operands::subscription-evaluate-requires-2 g t c κs within =
     let f = λ (n : ℕ). subscripted_in s a b n in
     let p0 = begins w s.left f (λ n. option_and_then (λ y. option_and_then (subscripted (attribute_value (value_at n w) w) y) (values_in s b n)) (values_in s a n)) g0 c.requires (λ n. refl) in
     let g1 = c.evaluate.new.guard in
-    let o1 = c.in-Some.base in
-    let some1 = known_as w (values_in s a) s.left g0 g1 c.in_ok-base.field-0 (Some o1) c.in-Some.is c.in_ok-base.ensures.answer in
+    let o1 = c.in_ok-base.base in
+    let some1 = c.in_ok-base.ensures.answer in
     let p1 = part_done w s.left f g0 g0 g1 (λ n y. option_and_then (subscripted (attribute_value (value_at n w) w) y) (values_in s b n)) (values_in s a) 0 o1 p0 some1 in
     let h1 = max 0 o1.height in
     (omega (arith, c.decreases), (within, part_ready w s.left f g0 g1 (λ n. subscripted (attribute_value (value_at n w) w) (plain o1.value)) (values_in s b) h1 p1))
-
-pub operands::subscription-returns-in_default-2 : goal.operands::subscription-returns-in_default-2
-operands::subscription-returns-in_default-2 g t c =
-    let s = c.args.scene.now in
-    let w = world_in s in
-    let g0 = c.args.guard.now in
-    let n0 = c.args.entry.now in
-    let a = tree c.args.base.now in
-    let b = tree c.args.index.now in
-    let f = λ (n : ℕ). subscripted_in s a b n in
-    let p0 = begins w s.left f (λ n. option_and_then (λ y. option_and_then (subscripted (attribute_value (value_at n w) w) y) (values_in s b n)) (values_in s a n)) g0 c.requires (λ n. refl) in
-    let g1 = c.evaluate.new.guard in
-    let o1 = c.in-Some.base in
-    let some1 = known_as w (values_in s a) s.left g0 g1 c.in_ok-base.field-0 (Some o1) c.in-Some.is c.in_ok-base.ensures.answer in
-    let p1 = part_done w s.left f g0 g0 g1 (λ n y. option_and_then (subscripted (attribute_value (value_at n w) w) y) (values_in s b n)) (values_in s a) 0 o1 p0 some1 in
-    let h1 = max 0 o1.height in
-    let g2 = c.evaluate-2.new.guard in
-    let none_left = known_as w (values_in s b) s.left g1 g2 c.in_ok-index.field-0 (None) c.in_default-2.is c.in_ok-index.ensures.answer in
-    record { answer = part_fails w s.left f g0 g1 g2 g2 (λ n. subscripted (attribute_value (value_at n w) w) (plain o1.value)) (values_in s b) h1 p1 none_left; counted = counts_then w n0 c.evaluate.new.entry c.evaluate-2.new.entry g0 g1 g2 c.evaluate.ensures.counted c.evaluate-2.ensures.counted }
 
 pub operands::subscription-follow-requires : goal.operands::subscription-follow-requires
 operands::subscription-follow-requires g t c κs within =
@@ -657,44 +529,18 @@ operands::subscription-follow-requires g t c κs within =
     let f = λ (n : ℕ). subscripted_in s a b n in
     let p0 = begins w s.left f (λ n. option_and_then (λ y. option_and_then (subscripted (attribute_value (value_at n w) w) y) (values_in s b n)) (values_in s a n)) g0 c.requires (λ n. refl) in
     let g1 = c.evaluate.new.guard in
-    let o1 = c.in-Some.base in
-    let some1 = known_as w (values_in s a) s.left g0 g1 c.in_ok-base.field-0 (Some o1) c.in-Some.is c.in_ok-base.ensures.answer in
+    let o1 = c.in_ok-base.base in
+    let some1 = c.in_ok-base.ensures.answer in
     let p1 = part_done w s.left f g0 g0 g1 (λ n y. option_and_then (subscripted (attribute_value (value_at n w) w) y) (values_in s b n)) (values_in s a) 0 o1 p0 some1 in
     let h1 = max 0 o1.height in
     let g2 = c.evaluate-2.new.guard in
-    let o2 = c.in-Some-2.index in
-    let some2 = known_as w (values_in s b) s.left g1 g2 c.in_ok-index.field-0 (Some o2) c.in-Some-2.is c.in_ok-index.ensures.answer in
+    let o2 = c.in-Ok.index in
+    let some2 = c.in-Ok.ensures.answer in
     let p2 = part_done w s.left f g0 g1 g2 (λ n. subscripted (attribute_value (value_at n w) w) (plain o1.value)) (values_in s b) h1 o2 p1 some2 in
     let h2 = max h1 o2.height in
     let r = c.in_ok-element.element in
     let p3 = rewritten w f s.left g0 g2 (λ n. subscripted (attribute_value (value_at n w) w) (plain o1.value) (plain o2.value)) (λ n. value_of (value_at n w) r) h2 (λ n. sym (c.in_ok-element.ensures.value (value_at n w))) p2 in
     (omega (arith, c.decreases), (within, (c.in_ok-element.ensures.there, rest_ready w s.left f g0 g2 (λ n. value_of (value_at n w) r) h2 p3)))
-
-pub operands::subscription-returns-in_default-3 : goal.operands::subscription-returns-in_default-3
-operands::subscription-returns-in_default-3 g t c =
-    let s = c.args.scene.now in
-    let w = world_in s in
-    let g0 = c.args.guard.now in
-    let n0 = c.args.entry.now in
-    let a = tree c.args.base.now in
-    let b = tree c.args.index.now in
-    let f = λ (n : ℕ). subscripted_in s a b n in
-    let p0 = begins w s.left f (λ n. option_and_then (λ y. option_and_then (subscripted (attribute_value (value_at n w) w) y) (values_in s b n)) (values_in s a n)) g0 c.requires (λ n. refl) in
-    let g1 = c.evaluate.new.guard in
-    let o1 = c.in-Some.base in
-    let some1 = known_as w (values_in s a) s.left g0 g1 c.in_ok-base.field-0 (Some o1) c.in-Some.is c.in_ok-base.ensures.answer in
-    let p1 = part_done w s.left f g0 g0 g1 (λ n y. option_and_then (subscripted (attribute_value (value_at n w) w) y) (values_in s b n)) (values_in s a) 0 o1 p0 some1 in
-    let h1 = max 0 o1.height in
-    let g2 = c.evaluate-2.new.guard in
-    let o2 = c.in-Some-2.index in
-    let some2 = known_as w (values_in s b) s.left g1 g2 c.in_ok-index.field-0 (Some o2) c.in-Some-2.is c.in_ok-index.ensures.answer in
-    let p2 = part_done w s.left f g0 g1 g2 (λ n. subscripted (attribute_value (value_at n w) w) (plain o1.value)) (values_in s b) h1 o2 p1 some2 in
-    let h2 = max h1 o2.height in
-    let r = c.in_ok-element.element in
-    let p3 = rewritten w f s.left g0 g2 (λ n. subscripted (attribute_value (value_at n w) w) (plain o1.value) (plain o2.value)) (λ n. value_of (value_at n w) r) h2 (λ n. sym (c.in_ok-element.ensures.value (value_at n w))) p2 in
-    let g3 = c.follow.new.guard in
-    let none_left = known_as w (λ n. value_of (value_at n w) r) s.left g2 g3 c.in_ok-found.field-0 (None) c.in_default-3.is c.in_ok-found.ensures.answer in
-    record { answer = rest_fails w s.left f g0 g2 g3 g3 (λ n. value_of (value_at n w) r) h2 p3 none_left; counted = counts_then w n0 c.evaluate-2.new.entry c.follow.new.entry g0 g2 g3 (counts_then w n0 c.evaluate.new.entry c.evaluate-2.new.entry g0 g1 g2 c.evaluate.ensures.counted c.evaluate-2.ensures.counted) c.follow.ensures.counted }
 
 pub operands::subscription-returns : goal.operands::subscription-returns
 operands::subscription-returns g t c =
@@ -707,21 +553,19 @@ operands::subscription-returns g t c =
     let f = λ (n : ℕ). subscripted_in s a b n in
     let p0 = begins w s.left f (λ n. option_and_then (λ y. option_and_then (subscripted (attribute_value (value_at n w) w) y) (values_in s b n)) (values_in s a n)) g0 c.requires (λ n. refl) in
     let g1 = c.evaluate.new.guard in
-    let o1 = c.in-Some.base in
-    let some1 = known_as w (values_in s a) s.left g0 g1 c.in_ok-base.field-0 (Some o1) c.in-Some.is c.in_ok-base.ensures.answer in
+    let o1 = c.in_ok-base.base in
+    let some1 = c.in_ok-base.ensures.answer in
     let p1 = part_done w s.left f g0 g0 g1 (λ n y. option_and_then (subscripted (attribute_value (value_at n w) w) y) (values_in s b n)) (values_in s a) 0 o1 p0 some1 in
     let h1 = max 0 o1.height in
     let g2 = c.evaluate-2.new.guard in
-    let o2 = c.in-Some-2.index in
-    let some2 = known_as w (values_in s b) s.left g1 g2 c.in_ok-index.field-0 (Some o2) c.in-Some-2.is c.in_ok-index.ensures.answer in
+    let o2 = c.in-Ok.index in
+    let some2 = c.in-Ok.ensures.answer in
     let p2 = part_done w s.left f g0 g1 g2 (λ n. subscripted (attribute_value (value_at n w) w) (plain o1.value)) (values_in s b) h1 o2 p1 some2 in
     let h2 = max h1 o2.height in
     let r = c.in_ok-element.element in
     let p3 = rewritten w f s.left g0 g2 (λ n. subscripted (attribute_value (value_at n w) w) (plain o1.value) (plain o2.value)) (λ n. value_of (value_at n w) r) h2 (λ n. sym (c.in_ok-element.ensures.value (value_at n w))) p2 in
     let g3 = c.follow.new.guard in
-    let o3 = c.in-Some-3.found in
-    let some3 = known_as w (λ n. value_of (value_at n w) r) s.left g2 g3 c.in_ok-found.field-0 (Some o3) c.in-Some-3.is c.in_ok-found.ensures.answer in
-    record { answer = finishes_rest w s.left f g0 g2 g3 (λ n. value_of (value_at n w) r) h2 o3 c.at_least.result p3 some3 c.at_least.ensures.value (omega (arith, c.at_least.ensures.height, c.greater-height.ensures)); counted = counts_then w n0 c.evaluate-2.new.entry c.follow.new.entry g0 g2 g3 (counts_then w n0 c.evaluate.new.entry c.evaluate-2.new.entry g0 g1 g2 c.evaluate.ensures.counted c.evaluate-2.ensures.counted) c.follow.ensures.counted }
+    record { answer = rest_ends w s.left f g0 g2 g3 (λ n. value_of (value_at n w) r) h2 c.greater-height.result c.follow.result c.at_least.result (omega (arith, c.greater-height.ensures)) p3 c.follow.ensures.answer c.at_least.ensures; counted = counts_then w n0 c.evaluate-2.new.entry c.follow.new.entry g0 g2 g3 (counts_then w n0 c.evaluate.new.entry c.evaluate-2.new.entry g0 g1 g2 c.evaluate.ensures.counted c.evaluate-2.ensures.counted) c.follow.ensures.counted }
 
 pub operands::subscription-returns-in_err-base : goal.operands::subscription-returns-in_err-base
 operands::subscription-returns-in_err-base g t c =
@@ -729,17 +573,12 @@ operands::subscription-returns-in_err-base g t c =
     let w = world_in s in
     let g0 = c.args.guard.now in
     let n0 = c.args.entry.now in
-    record { answer = search rules; counted = c.evaluate.ensures.counted }
-
-pub operands::subscription-returns-in_err-index : goal.operands::subscription-returns-in_err-index
-operands::subscription-returns-in_err-index g t c =
-    let s = c.args.scene.now in
-    let w = world_in s in
-    let g0 = c.args.guard.now in
-    let n0 = c.args.entry.now in
+    let a = tree c.args.base.now in
+    let b = tree c.args.index.now in
+    let f = λ (n : ℕ). subscripted_in s a b n in
+    let p0 = begins w s.left f (λ n. option_and_then (λ y. option_and_then (subscripted (attribute_value (value_at n w) w) y) (values_in s b n)) (values_in s a n)) g0 c.requires (λ n. refl) in
     let g1 = c.evaluate.new.guard in
-    let g2 = c.evaluate-2.new.guard in
-    record { answer = search rules; counted = counts_then w n0 c.evaluate.new.entry c.evaluate-2.new.entry g0 g1 g2 c.evaluate.ensures.counted c.evaluate-2.ensures.counted }
+    record { answer = hands_on w s.left f g0 g1 c.from_residual.result c.in_err-base.field-0.0 c.from_residual.ensures.0 c.from_residual.ensures.1 (part_fails w s.left f g0 g0 g1 g1 (λ n y. option_and_then (subscripted (attribute_value (value_at n w) w) y) (values_in s b n)) (values_in s a) 0 c.in_err-base.field-0.0 p0 c.in_err-base.ensures.answer); counted = c.evaluate.ensures.counted }
 
 pub operands::subscription-returns-in_err-element : goal.operands::subscription-returns-in_err-element
 operands::subscription-returns-in_err-element g t c =
@@ -747,20 +586,35 @@ operands::subscription-returns-in_err-element g t c =
     let w = world_in s in
     let g0 = c.args.guard.now in
     let n0 = c.args.entry.now in
+    let a = tree c.args.base.now in
+    let b = tree c.args.index.now in
+    let f = λ (n : ℕ). subscripted_in s a b n in
+    let p0 = begins w s.left f (λ n. option_and_then (λ y. option_and_then (subscripted (attribute_value (value_at n w) w) y) (values_in s b n)) (values_in s a n)) g0 c.requires (λ n. refl) in
     let g1 = c.evaluate.new.guard in
+    let o1 = c.in_ok-base.base in
+    let some1 = c.in_ok-base.ensures.answer in
+    let p1 = part_done w s.left f g0 g0 g1 (λ n y. option_and_then (subscripted (attribute_value (value_at n w) w) y) (values_in s b n)) (values_in s a) 0 o1 p0 some1 in
+    let h1 = max 0 o1.height in
     let g2 = c.evaluate-2.new.guard in
-    record { answer = search rules; counted = counts_then w n0 c.evaluate.new.entry c.evaluate-2.new.entry g0 g1 g2 c.evaluate.ensures.counted c.evaluate-2.ensures.counted }
+    record { answer = hands_on w s.left f g0 g2 c.from_residual-in_err-element.result Stop.OutOfMemory c.from_residual-in_err-element.ensures.0 c.from_residual-in_err-element.ensures.1 (stops_wanting w s.left f g0 g2 Stop.OutOfMemory refl); counted = counts_then w n0 c.evaluate.new.entry c.evaluate-2.new.entry g0 g1 g2 c.evaluate.ensures.counted c.evaluate-2.ensures.counted }
 
-pub operands::subscription-returns-in_err-found : goal.operands::subscription-returns-in_err-found
-operands::subscription-returns-in_err-found g t c =
+pub operands::subscription-returns-in-Err : goal.operands::subscription-returns-in-Err
+operands::subscription-returns-in-Err g t c =
     let s = c.args.scene.now in
     let w = world_in s in
     let g0 = c.args.guard.now in
     let n0 = c.args.entry.now in
+    let a = tree c.args.base.now in
+    let b = tree c.args.index.now in
+    let f = λ (n : ℕ). subscripted_in s a b n in
+    let p0 = begins w s.left f (λ n. option_and_then (λ y. option_and_then (subscripted (attribute_value (value_at n w) w) y) (values_in s b n)) (values_in s a n)) g0 c.requires (λ n. refl) in
     let g1 = c.evaluate.new.guard in
+    let o1 = c.in_ok-base.base in
+    let some1 = c.in_ok-base.ensures.answer in
+    let p1 = part_done w s.left f g0 g0 g1 (λ n y. option_and_then (subscripted (attribute_value (value_at n w) w) y) (values_in s b n)) (values_in s a) 0 o1 p0 some1 in
+    let h1 = max 0 o1.height in
     let g2 = c.evaluate-2.new.guard in
-    let g3 = c.follow.new.guard in
-    record { answer = search rules; counted = counts_then w n0 c.evaluate-2.new.entry c.follow.new.entry g0 g2 g3 (counts_then w n0 c.evaluate.new.entry c.evaluate-2.new.entry g0 g1 g2 c.evaluate.ensures.counted c.evaluate-2.ensures.counted) c.follow.ensures.counted }
+    record { answer = part_fails w s.left f g0 g1 g2 g2 (λ n. subscripted (attribute_value (value_at n w) w) (plain o1.value)) (values_in s b) h1 c.in-Err.stop p1 c.in-Err.ensures.answer; counted = counts_then w n0 c.evaluate.new.entry c.evaluate-2.new.entry g0 g1 g2 c.evaluate.ensures.counted c.evaluate-2.ensures.counted }
 
 pub chains::list_literal-all_of-requires : goal.chains::list_literal-all_of-requires
 chains::list_literal-all_of-requires g t c κs within =
@@ -774,20 +628,6 @@ chains::list_literal-all_of-requires g t c κs within =
     let p0 = begins w s.left f (λ n. option_map list_value (all_demanded (results_in s ts n))) g0 c.requires (λ n. refl) in
     (omega (arith, c.decreases), (within, mapped_part_ready w s.left f g0 g0 list_value rest 0 p0))
 
-pub chains::list_literal-returns-in_default : goal.chains::list_literal-returns-in_default
-chains::list_literal-returns-in_default g t c =
-    let s = c.args.scene.now in
-    let w = world_in s in
-    let g0 = c.args.guard.now in
-    let n0 = c.args.entry.now in
-    let ts = pack (trees c.args.items.now) in
-    let rest = λ (n : ℕ). all_demanded (results_in s ts n) in
-    let f = λ (n : ℕ). listed_in s ts n in
-    let p0 = begins w s.left f (λ n. option_map list_value (all_demanded (results_in s ts n))) g0 c.requires (λ n. refl) in
-    let g1 = c.all_of.new.guard in
-    let none_left = known_all_as w rest s.left g0 g1 c.in_ok-all.field-0 (None) c.in_default.is c.in_ok-all.ensures.answer in
-    record { answer = all_part_fails w s.left f g0 g0 g1 g1 list_value rest 0 p0 none_left; counted = c.all_of.ensures.counted }
-
 pub chains::list_literal-returns : goal.chains::list_literal-returns
 chains::list_literal-returns g t c =
     let s = c.args.scene.now in
@@ -799,10 +639,7 @@ chains::list_literal-returns g t c =
     let f = λ (n : ℕ). listed_in s ts n in
     let p0 = begins w s.left f (λ n. option_map list_value (all_demanded (results_in s ts n))) g0 c.requires (λ n. refl) in
     let g1 = c.all_of.new.guard in
-    let o = c.in-Some.all in
-    let u : Outcome = record { value = c.bounded.result; height = o.height } in
-    let some = known_all_as w rest s.left g0 g1 c.in_ok-all.field-0 (Some o) c.in-Some.is c.in_ok-all.ensures.answer in
-    record { answer = finishes_all w s.left f g0 g0 g1 list_value rest 0 o u p0 some (c.bounded.ensures ∙ ap bounded (plain-List o.values)) (omega arith); counted = c.all_of.ensures.counted }
+    record { answer = finishes_all w s.left f g0 g0 g1 list_value rest 0 c.in_ok-all.all c.listed.result p0 c.in_ok-all.ensures.answer c.listed.ensures.value (omega (arith, c.listed.ensures.height)); counted = c.all_of.ensures.counted }
 
 pub chains::list_literal-returns-in_err-all : goal.chains::list_literal-returns-in_err-all
 chains::list_literal-returns-in_err-all g t c =
@@ -810,7 +647,12 @@ chains::list_literal-returns-in_err-all g t c =
     let w = world_in s in
     let g0 = c.args.guard.now in
     let n0 = c.args.entry.now in
-    record { answer = search rules; counted = c.all_of.ensures.counted }
+    let ts = pack (trees c.args.items.now) in
+    let rest = λ (n : ℕ). all_demanded (results_in s ts n) in
+    let f = λ (n : ℕ). listed_in s ts n in
+    let p0 = begins w s.left f (λ n. option_map list_value (all_demanded (results_in s ts n))) g0 c.requires (λ n. refl) in
+    let g1 = c.all_of.new.guard in
+    record { answer = hands_on w s.left f g0 g1 c.from_residual.result c.in_err-all.field-0.0 c.from_residual.ensures.0 c.from_residual.ensures.1 (all_part_fails w s.left f g0 g0 g1 g1 list_value rest 0 c.in_err-all.field-0.0 p0 c.in_err-all.ensures.answer); counted = c.all_of.ensures.counted }
 
 pub evaluation::follow-attribute-requires : goal.evaluation::follow-attribute-requires
 evaluation::follow-attribute-requires g t c κs within =
@@ -828,7 +670,7 @@ evaluation::follow-returns-in-Attribute g t c =
     let g0 = c.args.guard.now in
     let n0 = c.args.entry.now in
     let f = λ (r : Reference) (n : ℕ). value_of (value_at n w) r in
-    record { answer = subst (λ r. IfOk c.attribute.result (λ o. Answers w (f r) s.left g0 c.attribute.new.guard o)) (sym c.in-Attribute.is) c.attribute.ensures.answer; counted = c.attribute.ensures.counted }
+    record { answer = subst (λ r. Answers w (f r) s.left g0 c.attribute.new.guard c.attribute.result) (sym c.in-Attribute.is) c.attribute.ensures.answer; counted = c.attribute.ensures.counted }
 
 pub evaluation::follow-returns-in-Value : goal.evaluation::follow-returns-in-Value
 evaluation::follow-returns-in-Value g t c =
@@ -861,18 +703,10 @@ evaluation::attribute-returns-in-Pending g t c =
     let pos = c.args.pos in
     let f = λ (n : ℕ). value_at n w pos in
     let ready = ready_is w g0 f c.requires.ready in
-    record { answer = answers_none w f s.left g0 g0 (circle w g0 pos (sym c.in-Pending.ensures) ready s.left); counted = counts_same w n0 g0 }
+    record { answer = stops_by w f s.left g0 g0 Stop.References (λ is. circle w g0 pos (sym c.in-Pending.ensures) ready s.left); counted = counts_same w n0 g0 }
 
-pub evaluation::attribute-returns-in_err-copy-in-Done : goal.evaluation::attribute-returns-in_err-copy-in-Done
-evaluation::attribute-returns-in_err-copy-in-Done g t c =
-    let s = c.args.scene.now in
-    let w = world_in s in
-    let g0 = c.args.guard.now in
-    let n0 = c.args.entry.now in
-    record { answer = search rules; counted = counts_same w n0 g0 }
-
-pub evaluation::attribute-returns-in_ok-copy-in-Done : goal.evaluation::attribute-returns-in_ok-copy-in-Done
-evaluation::attribute-returns-in_ok-copy-in-Done g t c =
+pub evaluation::attribute-returns-in-Done : goal.evaluation::attribute-returns-in-Done
+evaluation::attribute-returns-in-Done g t c =
     let s = c.args.scene.now in
     let w = world_in s in
     let g0 = c.args.guard.now in
@@ -880,20 +714,7 @@ evaluation::attribute-returns-in_ok-copy-in-Done g t c =
     let pos = c.args.pos in
     let f = λ (n : ℕ). value_at n w pos in
     let ready = ready_is w g0 f c.requires.ready in
-    let v = plain c.in-Done.value.now in
-    let u : Outcome = record { value = c.in_ok-copy-in-Done.field-0; height = c.in-Done.height } in
-    record { answer = answers_some w f s.left g0 g0 u (reached_as w f s.left g0 g0 v (plain u.value) c.in-Done.height u.height c.in_ok-copy-in-Done.ensures refl (kept-reached w g0 pos s.left v c.in-Done.height ready (sym c.in-Done.ensures) c.if-height-scene.false)); counted = counts_same w n0 g0 }
-
-pub evaluation::attribute-returns-then-height-scene : goal.evaluation::attribute-returns-then-height-scene
-evaluation::attribute-returns-then-height-scene g t c =
-    let s = c.args.scene.now in
-    let w = world_in s in
-    let g0 = c.args.guard.now in
-    let n0 = c.args.entry.now in
-    let pos = c.args.pos in
-    let f = λ (n : ℕ). value_at n w pos in
-    let ready = ready_is w g0 f c.requires.ready in
-    record { answer = answers_none w f s.left g0 g0 (kept-short w g0 pos s.left (plain c.in-Done.value.now) c.in-Done.height ready (sym c.in-Done.ensures) c.if-height-scene.true); counted = counts_same w n0 g0 }
+    record { answer = recalls w s.left pos g0 (plain c.in-Done.value.now) c.in-Done.height c.recalled.result ready (sym c.in-Done.ensures) c.recalled.ensures; counted = counts_same w n0 g0 }
 
 pub evaluation::enter-enter-requires : goal.evaluation::enter-enter-requires
 evaluation::enter-enter-requires g t c =
@@ -920,7 +741,7 @@ evaluation::enter-returns-then-scene-eq0 g t c =
     let pos = c.args.pos in
     let f = λ (n : ℕ). value_at n w pos in
     let ready = ready_is w g0 f c.requires.ready in
-    record { answer = answers_none w f s.left g0 g0 (ap (λ (n : ℕ). value_at n w pos) c.if-scene-eq0.true ∙ value_at-none w pos); counted = counts_same w n0 g0 }
+    record { answer = stops_by w f s.left g0 g0 Stop.References (λ is. ap (λ (n : ℕ). value_at n w pos) c.if-scene-eq0.true ∙ value_at-none w pos); counted = counts_same w n0 g0 }
 
 pub evaluation::enter-returns-in_err-enter : goal.evaluation::enter-returns-in_err-enter
 evaluation::enter-returns-in_err-enter g t c =
@@ -928,8 +749,10 @@ evaluation::enter-returns-in_err-enter g t c =
     let w = world_in s in
     let g0 = c.args.guard.now in
     let n0 = c.args.entry.now in
+    let pos = c.args.pos in
+    let f = λ (n : ℕ). value_at n w pos in
     let g1 = c.enter.new.self in
-    record { answer = search rules; counted = counts_equal w n0 n0 g0 g1 refl (unseen-same w g0 g1 c.in_err-enter.ensures.err) }
+    record { answer = hands_on w s.left f g0 g1 c.from_residual.result Stop.OutOfMemory c.from_residual.ensures.0 c.from_residual.ensures.1 (stops_wanting w s.left f g0 g1 Stop.OutOfMemory refl); counted = counts_equal w n0 n0 g0 g1 refl (unseen-same w g0 g1 c.in_err-enter.ensures.err) }
 
 pub evaluation::enter-evaluate-requires : goal.evaluation::enter-evaluate-requires
 evaluation::enter-evaluate-requires g t c κs within =
@@ -968,119 +791,8 @@ evaluation::enter-returns-in_err-found g t c =
     let count1 = counts_entered w n0 c.expr_at-expr.new.entry g0 g1 c.expr_at-expr.ensures.counted fewer in
     let count2 = counts_there s i c.expr_at-expr.new.entry c.evaluate.new.entry g1 g2 c.inside-inner.ensures.world c.evaluate.ensures.counted in
     let count = counts_then w n0 c.expr_at-expr.new.entry c.evaluate.new.entry g0 g1 g2 count1 count2 in
-    record { answer = search rules; counted = count }
-
-pub evaluation::enter-returns-in_err-kept : goal.evaluation::enter-returns-in_err-kept
-evaluation::enter-returns-in_err-kept g t c =
-    let s = c.args.scene.now in
-    let w = world_in s in
-    let g0 = c.args.guard.now in
-    let n0 = c.args.entry.now in
-    let pos = c.args.pos in
-    let f = λ (n : ℕ). value_at n w pos in
-    let ready = ready_is w g0 f c.requires.ready in
-    let x = tree c.expr_at-expr.result.now in
-    let i = c.inside-inner.result in
-    let g1 = c.enter.new.self in
-    let there = world_has s pos x c.expr_at-expr.ensures.expr in
-    let entered = c.in_ok-enter.ensures.ok in
-    let g2 = c.evaluate.new.guard in
-    let fewer = unseen-fewer w g0 g1 pos pending refl entered x there c.requires.fresh in
-    let count1 = counts_entered w n0 c.expr_at-expr.new.entry g0 g1 c.expr_at-expr.ensures.counted fewer in
-    let count2 = counts_there s i c.expr_at-expr.new.entry c.evaluate.new.entry g1 g2 c.inside-inner.ensures.world c.evaluate.ensures.counted in
-    let count = counts_then w n0 c.expr_at-expr.new.entry c.evaluate.new.entry g0 g1 g2 count1 count2 in
-    record { answer = search rules; counted = count }
-
-pub evaluation::enter-returns-in_default : goal.evaluation::enter-returns-in_default
-evaluation::enter-returns-in_default g t c =
-    let s = c.args.scene.now in
-    let w = world_in s in
-    let g0 = c.args.guard.now in
-    let n0 = c.args.entry.now in
-    let pos = c.args.pos in
-    let f = λ (n : ℕ). value_at n w pos in
-    let ready = ready_is w g0 f c.requires.ready in
-    let x = tree c.expr_at-expr.result.now in
-    let i = c.inside-inner.result in
-    let g1 = c.enter.new.self in
-    let there = world_has s pos x c.expr_at-expr.ensures.expr in
-    let entered = c.in_ok-enter.ensures.ok in
-    let g2 = c.evaluate.new.guard in
-    let fewer = unseen-fewer w g0 g1 pos pending refl entered x there c.requires.fresh in
-    let count1 = counts_entered w n0 c.expr_at-expr.new.entry g0 g1 c.expr_at-expr.ensures.counted fewer in
-    let count2 = counts_there s i c.expr_at-expr.new.entry c.evaluate.new.entry g1 g2 c.inside-inner.ensures.world c.evaluate.ensures.counted in
-    let count = counts_then w n0 c.expr_at-expr.new.entry c.evaluate.new.entry g0 g1 g2 count1 count2 in
-    let none_left = answer_there_none s i pos x c.inside-inner.ensures.world c.inside-inner.ensures.at g1 g2 c.in_ok-found.field-0 c.inside-inner.ensures.left c.in_default.is c.in_ok-found.ensures.answer in
-    record { answer = answers_none w f s.left g0 g2 (fails_inside w g0 g1 pos x there entered s.left c.if-scene-eq0.false none_left); counted = count }
-
-pub evaluation::enter-finish-requires : goal.evaluation::enter-finish-requires
-evaluation::enter-finish-requires g t c =
-    let s = c.args.scene.now in
-    let w = world_in s in
-    let g0 = c.args.guard.now in
-    let n0 = c.args.entry.now in
-    let pos = c.args.pos in
-    let f = λ (n : ℕ). value_at n w pos in
-    let ready = ready_is w g0 f c.requires.ready in
-    let x = tree c.expr_at-expr.result.now in
-    let i = c.inside-inner.result in
-    let g1 = c.enter.new.self in
-    let there = world_has s pos x c.expr_at-expr.ensures.expr in
-    let entered = c.in_ok-enter.ensures.ok in
-    let g2 = c.evaluate.new.guard in
-    let fewer = unseen-fewer w g0 g1 pos pending refl entered x there c.requires.fresh in
-    let count1 = counts_entered w n0 c.expr_at-expr.new.entry g0 g1 c.expr_at-expr.ensures.counted fewer in
-    let count2 = counts_there s i c.expr_at-expr.new.entry c.evaluate.new.entry g1 g2 c.inside-inner.ensures.world c.evaluate.ensures.counted in
-    let count = counts_then w n0 c.expr_at-expr.new.entry c.evaluate.new.entry g0 g1 g2 count1 count2 in
-    let o = c.in-Some.found in
-    let reached = answer_there_some s i pos x c.inside-inner.ensures.world c.inside-inner.ensures.at g1 g2 c.in_ok-found.field-0 c.inside-inner.ensures.left o c.in-Some.is c.in_ok-found.ensures.answer in
-    still_pending w g0 g1 pos x there entered g2 g2 s.left (plain o.value) o.height reached
-
-pub evaluation::enter-overflow_add-found : goal.evaluation::enter-overflow_add-found
-evaluation::enter-overflow_add-found g t c =
-    let s = c.args.scene.now in
-    let w = world_in s in
-    let g0 = c.args.guard.now in
-    let n0 = c.args.entry.now in
-    let pos = c.args.pos in
-    let f = λ (n : ℕ). value_at n w pos in
-    let ready = ready_is w g0 f c.requires.ready in
-    let x = tree c.expr_at-expr.result.now in
-    let i = c.inside-inner.result in
-    let g1 = c.enter.new.self in
-    let there = world_has s pos x c.expr_at-expr.ensures.expr in
-    let entered = c.in_ok-enter.ensures.ok in
-    let g2 = c.evaluate.new.guard in
-    let fewer = unseen-fewer w g0 g1 pos pending refl entered x there c.requires.fresh in
-    let count1 = counts_entered w n0 c.expr_at-expr.new.entry g0 g1 c.expr_at-expr.ensures.counted fewer in
-    let count2 = counts_there s i c.expr_at-expr.new.entry c.evaluate.new.entry g1 g2 c.inside-inner.ensures.world c.evaluate.ensures.counted in
-    let count = counts_then w n0 c.expr_at-expr.new.entry c.evaluate.new.entry g0 g1 g2 count1 count2 in
-    let o = c.in-Some.found in
-    let reached = answer_there_some s i pos x c.inside-inner.ensures.world c.inside-inner.ensures.at g1 g2 c.in_ok-found.field-0 c.inside-inner.ensures.left o c.in-Some.is c.in_ok-found.ensures.answer in
-    omega (arith, reached.within)
-
-pub evaluation::enter-one_more-requires : goal.evaluation::enter-one_more-requires
-evaluation::enter-one_more-requires g t c =
-    let s = c.args.scene.now in
-    let w = world_in s in
-    let g0 = c.args.guard.now in
-    let n0 = c.args.entry.now in
-    let pos = c.args.pos in
-    let f = λ (n : ℕ). value_at n w pos in
-    let ready = ready_is w g0 f c.requires.ready in
-    let x = tree c.expr_at-expr.result.now in
-    let i = c.inside-inner.result in
-    let g1 = c.enter.new.self in
-    let there = world_has s pos x c.expr_at-expr.ensures.expr in
-    let entered = c.in_ok-enter.ensures.ok in
-    let g2 = c.evaluate.new.guard in
-    let fewer = unseen-fewer w g0 g1 pos pending refl entered x there c.requires.fresh in
-    let count1 = counts_entered w n0 c.expr_at-expr.new.entry g0 g1 c.expr_at-expr.ensures.counted fewer in
-    let count2 = counts_there s i c.expr_at-expr.new.entry c.evaluate.new.entry g1 g2 c.inside-inner.ensures.world c.evaluate.ensures.counted in
-    let count = counts_then w n0 c.expr_at-expr.new.entry c.evaluate.new.entry g0 g1 g2 count1 count2 in
-    let o = c.in-Some.found in
-    let reached = answer_there_some s i pos x c.inside-inner.ensures.world c.inside-inner.ensures.at g1 g2 c.in_ok-found.field-0 c.inside-inner.ensures.left o c.in-Some.is c.in_ok-found.ensures.answer in
-    omega (arith, reached.within)
+    let stop = c.in_err-found.field-0.0 in
+    record { answer = hands_on w s.left f g0 g2 c.from_residual-in_err-found.result stop c.from_residual-in_err-found.ensures.0 c.from_residual-in_err-found.ensures.1 (stops_by w f s.left g0 g2 stop (λ is. fails_inside w g0 g1 pos x there entered s.left c.if-scene-eq0.false (answer_there_none s i pos x c.inside-inner.ensures.world c.inside-inner.ensures.at g1 g2 c.inside-inner.ensures.left (subst (λ z. Answers (world_in i) (values_in i x) i.left g1 g2 (Err z)) is c.in_err-found.ensures.answer)))); counted = count }
 
 pub evaluation::enter-returns : goal.evaluation::enter-returns
 evaluation::enter-returns g t c =
@@ -1101,261 +813,148 @@ evaluation::enter-returns g t c =
     let count1 = counts_entered w n0 c.expr_at-expr.new.entry g0 g1 c.expr_at-expr.ensures.counted fewer in
     let count2 = counts_there s i c.expr_at-expr.new.entry c.evaluate.new.entry g1 g2 c.inside-inner.ensures.world c.evaluate.ensures.counted in
     let count = counts_then w n0 c.expr_at-expr.new.entry c.evaluate.new.entry g0 g1 g2 count1 count2 in
-    let o = c.in-Some.found in
-    let reached = answer_there_some s i pos x c.inside-inner.ensures.world c.inside-inner.ensures.at g1 g2 c.in_ok-found.field-0 c.inside-inner.ensures.left o c.in-Some.is c.in_ok-found.ensures.answer in
-    let g3 = c.finish.new.self in
-    let u = c.one_more.result in
-    let finished = finished_as pos (plain c.in_ok-kept.kept) (plain o.value) (o.height + 1) g2 g3 c.in_ok-kept.ensures c.finish.ensures in
-    let kept = kept_inside w g0 g1 pos x there entered g2 g3 s.left (plain o.value) o.height c.if-scene-eq0.false c.requires.fresh finished reached in
-    record { answer = answers_some w f s.left g0 g3 u (reached_as w f s.left g0 g3 (plain o.value) (plain u.value) (o.height + 1) u.height c.one_more.ensures.value c.one_more.ensures.height kept); counted = counts_then w n0 c.evaluate.new.entry c.evaluate.new.entry g0 g2 g3 count (counts_from w c.evaluate.new.entry c.evaluate.new.entry g2 g3 refl (unseen-after w g2 g3 pos (done (plain o.value) (o.height + 1)) refl finished)) }
+    let o = c.in_ok-found.found in
+    let reached = answer_there_some s i pos x c.inside-inner.ensures.world c.inside-inner.ensures.at g1 g2 c.inside-inner.ensures.left o c.in_ok-found.ensures.answer in
+    let g3 = c.keep.new.guard in
+    record { answer = keeps w s.left pos g0 g2 g3 (plain o.value) (o.height + 1) c.keep.result (λ finished. kept_inside w g0 g1 pos x there entered g2 g3 s.left (plain o.value) o.height c.if-scene-eq0.false c.requires.fresh finished reached) c.keep.ensures; counted = counts_then w n0 c.evaluate.new.entry c.evaluate.new.entry g0 g2 g3 count (counts_kept w s.left pos c.evaluate.new.entry g2 g3 (plain o.value) (o.height + 1) c.keep.result c.keep.ensures) }
 
-pub chains::conjunction-loop-i-init : goal.chains::conjunction-loop-i-init
-chains::conjunction-loop-i-init g t c =
+pub evaluation::enter-keep-requires : goal.evaluation::enter-keep-requires
+evaluation::enter-keep-requires g t c =
+    let s = c.args.scene.now in
+    let w = world_in s in
+    let g0 = c.args.guard.now in
+    let n0 = c.args.entry.now in
+    let pos = c.args.pos in
+    let f = λ (n : ℕ). value_at n w pos in
+    let ready = ready_is w g0 f c.requires.ready in
+    let x = tree c.expr_at-expr.result.now in
+    let i = c.inside-inner.result in
+    let g1 = c.enter.new.self in
+    let there = world_has s pos x c.expr_at-expr.ensures.expr in
+    let entered = c.in_ok-enter.ensures.ok in
+    let g2 = c.evaluate.new.guard in
+    let o = c.in_ok-found.found in
+    let reached = answer_there_some s i pos x c.inside-inner.ensures.world c.inside-inner.ensures.at g1 g2 c.inside-inner.ensures.left o c.in_ok-found.ensures.answer in
+    record { pending = still_pending w g0 g1 pos x there entered g2 g2 s.left (plain o.value) o.height reached; height = omega (arith, reached.within) }
+
+pub chains::chain-loop-i-init : goal.chains::chain-loop-i-init
+chains::chain-loop-i-init g t c =
     let s = c.args.scene.now in
     let w = world_in s in
     let g0 = c.args.guard.now in
     let n0 = c.args.entry.now in
     let ts = trees c.args.items.now in
-    let f = λ (n : ℕ). conjunction (boolean true) (results_in s (pack ts) n) in
-    let v = plain c.leaf-so_far.result.value in
-    let is = c.leaf-so_far.ensures.value ∙ plain-Boolean true in
-    let rest = λ (n : ℕ). conjunction v (results_in s (pack ts) n) in
-    record { partly = subst (λ (h : ℕ). IsPartly w f s.left g0 g0 rest h) (sym c.leaf-so_far.ensures.height) (begins w s.left f rest g0 c.requires (λ n. ap (λ (p : Plain). conjunction p (results_in s (pack ts) n)) (sym is))); counted = counts_same w n0 g0 }
+    let kind = c.args.kind in
+    let f = λ (n : ℕ). chained kind (start kind) (results_in s (pack ts) n) in
+    let v = plain c.start-so_far.result.value in
+    let is = c.start-so_far.ensures.value in
+    let rest = λ (n : ℕ). chained kind v (results_in s (pack ts) n) in
+    record { partly = subst (λ (h : ℕ). IsPartly w f s.left g0 g0 rest h) (sym c.start-so_far.ensures.height) (begins w s.left f rest g0 c.requires (λ n. ap (λ (p : Plain). chained kind p (results_in s (pack ts) n)) (sym is))); counted = counts_same w n0 g0 }
 
-pub chains::conjunction-returns : goal.chains::conjunction-returns
-chains::conjunction-returns g t c =
+pub chains::chain-returns : goal.chains::chain-returns
+chains::chain-returns g t c =
     let s = c.args.scene.now in
     let w = world_in s in
     let g0 = c.args.guard.now in
     let n0 = c.args.entry.now in
     let ts = trees c.args.items.now in
-    let f = λ (n : ℕ). conjunction (boolean true) (results_in s (pack ts) n) in
+    let kind = c.args.kind in
+    let f = λ (n : ℕ). chained kind (start kind) (results_in s (pack ts) n) in
     let g1 = c.loop-i.guard in
     let i = c.loop-i.i in
     let v = plain c.loop-i.so_far.value in
     let h = c.loop-i.so_far.height in
     let p0 = c.loop-i.invariant.partly in
-    let rest = λ (n : ℕ). conjunction v (results_in s (pack (drop i ts)) n) in
+    let rest = λ (n : ℕ). chained kind v (results_in s (pack (drop i ts)) n) in
     let past : length ts ≤ i = omega arith in
-    record { answer = finishes w s.left f g0 g1 rest h c.loop-i.so_far p0 (λ n. conjunction-end s ts i past n v) refl; counted = c.loop-i.invariant.counted }
+    record { answer = finishes w s.left f g0 g1 rest h c.loop-i.so_far p0 (λ n. chained-end s ts i past n kind v) refl; counted = c.loop-i.invariant.counted }
 
-pub chains::conjunction-returns-then-and_ends : goal.chains::conjunction-returns-then-and_ends
-chains::conjunction-returns-then-and_ends g t c =
+pub chains::chain-returns-then-is_decided : goal.chains::chain-returns-then-is_decided
+chains::chain-returns-then-is_decided g t c =
     let s = c.args.scene.now in
     let w = world_in s in
     let g0 = c.args.guard.now in
     let n0 = c.args.entry.now in
     let ts = trees c.args.items.now in
-    let f = λ (n : ℕ). conjunction (boolean true) (results_in s (pack ts) n) in
+    let kind = c.args.kind in
+    let f = λ (n : ℕ). chained kind (start kind) (results_in s (pack ts) n) in
     let g1 = c.loop-i.guard in
     let i = c.loop-i.i in
     let v = plain c.loop-i.so_far.value in
     let h = c.loop-i.so_far.height in
     let p0 = c.loop-i.invariant.partly in
-    let rest = λ (n : ℕ). conjunction v (results_in s (pack (drop i ts)) n) in
-    let decided = sym c.and_ends.ensures ∙ c.if-and_ends.true in
-    record { answer = finishes w s.left f g0 g1 rest h c.loop-i.so_far p0 (λ n. conjunction-decided v (results_in s (pack (drop i ts)) n) decided) refl; counted = c.loop-i.invariant.counted }
+    let rest = λ (n : ℕ). chained kind v (results_in s (pack (drop i ts)) n) in
+    let decided = sym c.is_decided.ensures ∙ c.if-is_decided.true in
+    record { answer = finishes w s.left f g0 g1 rest h c.loop-i.so_far p0 (λ n. chained-decided kind v (results_in s (pack (drop i ts)) n) decided) refl; counted = c.loop-i.invariant.counted }
 
-pub chains::conjunction-evaluate-requires : goal.chains::conjunction-evaluate-requires
-chains::conjunction-evaluate-requires g t c κs within =
+pub chains::chain-evaluate-requires : goal.chains::chain-evaluate-requires
+chains::chain-evaluate-requires g t c κs within =
     let s = c.args.scene.now in
     let w = world_in s in
     let g0 = c.args.guard.now in
     let n0 = c.args.entry.now in
     let ts = trees c.args.items.now in
-    let f = λ (n : ℕ). conjunction (boolean true) (results_in s (pack ts) n) in
+    let kind = c.args.kind in
+    let f = λ (n : ℕ). chained kind (start kind) (results_in s (pack ts) n) in
     let g1 = c.loop-i.guard in
     let i = c.loop-i.i in
     let v = plain c.loop-i.so_far.value in
     let h = c.loop-i.so_far.height in
     let p0 = c.loop-i.invariant.partly in
-    let rest = λ (n : ℕ). conjunction v (results_in s (pack (drop i ts)) n) in
+    let rest = λ (n : ℕ). chained kind v (results_in s (pack (drop i ts)) n) in
     let a = tree c.at.result.now in
-    let undecided = sym c.and_ends.ensures ∙ c.if-and_ends.false in
-    let k = λ (n : ℕ) (p : Plain). conjunction (and_value v p) (results_in s (pack (drop (i + 1) ts)) n) in
-    let p1 = rewritten w f s.left g0 g1 rest (λ n. option_and_then (k n) (values_in s a n)) h (λ n. conjunction-from s ts i a c.at.ensures n v undecided) p0 in
+    let undecided = sym c.is_decided.ensures ∙ c.if-is_decided.false in
+    let k = λ (n : ℕ) (p : Plain). chained kind (joined kind v p) (results_in s (pack (drop (i + 1) ts)) n) in
+    let p1 = rewritten w f s.left g0 g1 rest (λ n. option_and_then (k n) (values_in s a n)) h (λ n. chained-from s ts i a c.at.ensures n kind v undecided) p0 in
     (omega (arith, c.decreases, size-at ts i a c.at.ensures), (within, part_ready w s.left f g0 g1 k (values_in s a) h p1))
 
-pub chains::conjunction-returns-in_default : goal.chains::conjunction-returns-in_default
-chains::conjunction-returns-in_default g t c =
+pub chains::chain-loop-i-preserved : goal.chains::chain-loop-i-preserved
+chains::chain-loop-i-preserved g t c =
     let s = c.args.scene.now in
     let w = world_in s in
     let g0 = c.args.guard.now in
     let n0 = c.args.entry.now in
     let ts = trees c.args.items.now in
-    let f = λ (n : ℕ). conjunction (boolean true) (results_in s (pack ts) n) in
+    let kind = c.args.kind in
+    let f = λ (n : ℕ). chained kind (start kind) (results_in s (pack ts) n) in
     let g1 = c.loop-i.guard in
     let i = c.loop-i.i in
     let v = plain c.loop-i.so_far.value in
     let h = c.loop-i.so_far.height in
     let p0 = c.loop-i.invariant.partly in
-    let rest = λ (n : ℕ). conjunction v (results_in s (pack (drop i ts)) n) in
+    let rest = λ (n : ℕ). chained kind v (results_in s (pack (drop i ts)) n) in
     let a = tree c.at.result.now in
-    let undecided = sym c.and_ends.ensures ∙ c.if-and_ends.false in
-    let k = λ (n : ℕ) (p : Plain). conjunction (and_value v p) (results_in s (pack (drop (i + 1) ts)) n) in
-    let p1 = rewritten w f s.left g0 g1 rest (λ n. option_and_then (k n) (values_in s a n)) h (λ n. conjunction-from s ts i a c.at.ensures n v undecided) p0 in
+    let undecided = sym c.is_decided.ensures ∙ c.if-is_decided.false in
+    let k = λ (n : ℕ) (p : Plain). chained kind (joined kind v p) (results_in s (pack (drop (i + 1) ts)) n) in
+    let p1 = rewritten w f s.left g0 g1 rest (λ n. option_and_then (k n) (values_in s a n)) h (λ n. chained-from s ts i a c.at.ensures n kind v undecided) p0 in
     let g2 = c.evaluate.new.guard in
-    let none_left = known_as w (values_in s a) s.left g1 g2 c.in_ok-next.field-0 None c.in_default.is c.in_ok-next.ensures.answer in
-    record { answer = part_fails w s.left f g0 g1 g2 g2 k (values_in s a) h p1 none_left; counted = counts_then w n0 c.loop-i.entry c.evaluate.new.entry g0 g1 g2 c.loop-i.invariant.counted c.evaluate.ensures.counted }
-
-pub chains::conjunction-returns-in_err-next : goal.chains::conjunction-returns-in_err-next
-chains::conjunction-returns-in_err-next g t c =
-    let s = c.args.scene.now in
-    let w = world_in s in
-    let g0 = c.args.guard.now in
-    let n0 = c.args.entry.now in
-    let g1 = c.loop-i.guard in
-    let g2 = c.evaluate.new.guard in
-    record { answer = search rules; counted = counts_then w n0 c.loop-i.entry c.evaluate.new.entry g0 g1 g2 c.loop-i.invariant.counted c.evaluate.ensures.counted }
-
-pub chains::conjunction-loop-i-preserved : goal.chains::conjunction-loop-i-preserved
-chains::conjunction-loop-i-preserved g t c =
-    let s = c.args.scene.now in
-    let w = world_in s in
-    let g0 = c.args.guard.now in
-    let n0 = c.args.entry.now in
-    let ts = trees c.args.items.now in
-    let f = λ (n : ℕ). conjunction (boolean true) (results_in s (pack ts) n) in
-    let g1 = c.loop-i.guard in
-    let i = c.loop-i.i in
-    let v = plain c.loop-i.so_far.value in
-    let h = c.loop-i.so_far.height in
-    let p0 = c.loop-i.invariant.partly in
-    let rest = λ (n : ℕ). conjunction v (results_in s (pack (drop i ts)) n) in
-    let a = tree c.at.result.now in
-    let undecided = sym c.and_ends.ensures ∙ c.if-and_ends.false in
-    let k = λ (n : ℕ) (p : Plain). conjunction (and_value v p) (results_in s (pack (drop (i + 1) ts)) n) in
-    let p1 = rewritten w f s.left g0 g1 rest (λ n. option_and_then (k n) (values_in s a n)) h (λ n. conjunction-from s ts i a c.at.ensures n v undecided) p0 in
-    let g2 = c.evaluate.new.guard in
-    let o = c.in-Some.next in
-    let some = known_as w (values_in s a) s.left g1 g2 c.in_ok-next.field-0 (Some o) c.in-Some.is c.in_ok-next.ensures.answer in
+    let o = c.in-Ok.next in
+    let some = c.in-Ok.ensures.answer in
     let p2 = part_done w s.left f g0 g1 g2 k (values_in s a) h o p1 some in
-    let p3 = subst (λ (p : Plain). IsPartly w f s.left g0 g2 (λ n. conjunction p (results_in s (pack (drop (i + 1) ts)) n)) (max h o.height)) (sym c.and-so_far.ensures.value) p2 in
-    record { partly = subst (λ (m : ℕ). IsPartly w f s.left g0 g2 (λ n. conjunction (plain c.and-so_far.result.value) (results_in s (pack (drop (i + 1) ts)) n)) m) (sym c.and-so_far.ensures.height) p3; counted = counts_then w n0 c.loop-i.entry c.evaluate.new.entry g0 g1 g2 c.loop-i.invariant.counted c.evaluate.ensures.counted }
+    let p3 = subst (λ (p : Plain). IsPartly w f s.left g0 g2 (λ n. chained kind p (results_in s (pack (drop (i + 1) ts)) n)) (max h o.height)) (sym c.join-so_far.ensures.value) p2 in
+    record { partly = subst (λ (m : ℕ). IsPartly w f s.left g0 g2 (λ n. chained kind (plain c.join-so_far.result.value) (results_in s (pack (drop (i + 1) ts)) n)) m) (sym c.join-so_far.ensures.height) p3; counted = counts_then w n0 c.loop-i.entry c.evaluate.new.entry g0 g1 g2 c.loop-i.invariant.counted c.evaluate.ensures.counted }
 
-pub chains::disjunction-loop-i-init : goal.chains::disjunction-loop-i-init
-chains::disjunction-loop-i-init g t c =
+pub chains::chain-returns-in-Err : goal.chains::chain-returns-in-Err
+chains::chain-returns-in-Err g t c =
     let s = c.args.scene.now in
     let w = world_in s in
     let g0 = c.args.guard.now in
     let n0 = c.args.entry.now in
     let ts = trees c.args.items.now in
-    let f = λ (n : ℕ). disjunction (boolean false) (results_in s (pack ts) n) in
-    let v = plain c.leaf-so_far.result.value in
-    let is = c.leaf-so_far.ensures.value ∙ plain-Boolean false in
-    let rest = λ (n : ℕ). disjunction v (results_in s (pack ts) n) in
-    record { partly = subst (λ (h : ℕ). IsPartly w f s.left g0 g0 rest h) (sym c.leaf-so_far.ensures.height) (begins w s.left f rest g0 c.requires (λ n. ap (λ (p : Plain). disjunction p (results_in s (pack ts) n)) (sym is))); counted = counts_same w n0 g0 }
-
-pub chains::disjunction-returns : goal.chains::disjunction-returns
-chains::disjunction-returns g t c =
-    let s = c.args.scene.now in
-    let w = world_in s in
-    let g0 = c.args.guard.now in
-    let n0 = c.args.entry.now in
-    let ts = trees c.args.items.now in
-    let f = λ (n : ℕ). disjunction (boolean false) (results_in s (pack ts) n) in
+    let kind = c.args.kind in
+    let f = λ (n : ℕ). chained kind (start kind) (results_in s (pack ts) n) in
     let g1 = c.loop-i.guard in
     let i = c.loop-i.i in
     let v = plain c.loop-i.so_far.value in
     let h = c.loop-i.so_far.height in
     let p0 = c.loop-i.invariant.partly in
-    let rest = λ (n : ℕ). disjunction v (results_in s (pack (drop i ts)) n) in
-    let past : length ts ≤ i = omega arith in
-    record { answer = finishes w s.left f g0 g1 rest h c.loop-i.so_far p0 (λ n. disjunction-end s ts i past n v) refl; counted = c.loop-i.invariant.counted }
-
-pub chains::disjunction-returns-then-or_ends : goal.chains::disjunction-returns-then-or_ends
-chains::disjunction-returns-then-or_ends g t c =
-    let s = c.args.scene.now in
-    let w = world_in s in
-    let g0 = c.args.guard.now in
-    let n0 = c.args.entry.now in
-    let ts = trees c.args.items.now in
-    let f = λ (n : ℕ). disjunction (boolean false) (results_in s (pack ts) n) in
-    let g1 = c.loop-i.guard in
-    let i = c.loop-i.i in
-    let v = plain c.loop-i.so_far.value in
-    let h = c.loop-i.so_far.height in
-    let p0 = c.loop-i.invariant.partly in
-    let rest = λ (n : ℕ). disjunction v (results_in s (pack (drop i ts)) n) in
-    let decided = sym c.or_ends.ensures ∙ c.if-or_ends.true in
-    record { answer = finishes w s.left f g0 g1 rest h c.loop-i.so_far p0 (λ n. disjunction-decided v (results_in s (pack (drop i ts)) n) decided) refl; counted = c.loop-i.invariant.counted }
-
-pub chains::disjunction-evaluate-requires : goal.chains::disjunction-evaluate-requires
-chains::disjunction-evaluate-requires g t c κs within =
-    let s = c.args.scene.now in
-    let w = world_in s in
-    let g0 = c.args.guard.now in
-    let n0 = c.args.entry.now in
-    let ts = trees c.args.items.now in
-    let f = λ (n : ℕ). disjunction (boolean false) (results_in s (pack ts) n) in
-    let g1 = c.loop-i.guard in
-    let i = c.loop-i.i in
-    let v = plain c.loop-i.so_far.value in
-    let h = c.loop-i.so_far.height in
-    let p0 = c.loop-i.invariant.partly in
-    let rest = λ (n : ℕ). disjunction v (results_in s (pack (drop i ts)) n) in
+    let rest = λ (n : ℕ). chained kind v (results_in s (pack (drop i ts)) n) in
     let a = tree c.at.result.now in
-    let undecided = sym c.or_ends.ensures ∙ c.if-or_ends.false in
-    let k = λ (n : ℕ) (p : Plain). disjunction (or_value v p) (results_in s (pack (drop (i + 1) ts)) n) in
-    let p1 = rewritten w f s.left g0 g1 rest (λ n. option_and_then (k n) (values_in s a n)) h (λ n. disjunction-from s ts i a c.at.ensures n v undecided) p0 in
-    (omega (arith, c.decreases, size-at ts i a c.at.ensures), (within, part_ready w s.left f g0 g1 k (values_in s a) h p1))
-
-pub chains::disjunction-returns-in_default : goal.chains::disjunction-returns-in_default
-chains::disjunction-returns-in_default g t c =
-    let s = c.args.scene.now in
-    let w = world_in s in
-    let g0 = c.args.guard.now in
-    let n0 = c.args.entry.now in
-    let ts = trees c.args.items.now in
-    let f = λ (n : ℕ). disjunction (boolean false) (results_in s (pack ts) n) in
-    let g1 = c.loop-i.guard in
-    let i = c.loop-i.i in
-    let v = plain c.loop-i.so_far.value in
-    let h = c.loop-i.so_far.height in
-    let p0 = c.loop-i.invariant.partly in
-    let rest = λ (n : ℕ). disjunction v (results_in s (pack (drop i ts)) n) in
-    let a = tree c.at.result.now in
-    let undecided = sym c.or_ends.ensures ∙ c.if-or_ends.false in
-    let k = λ (n : ℕ) (p : Plain). disjunction (or_value v p) (results_in s (pack (drop (i + 1) ts)) n) in
-    let p1 = rewritten w f s.left g0 g1 rest (λ n. option_and_then (k n) (values_in s a n)) h (λ n. disjunction-from s ts i a c.at.ensures n v undecided) p0 in
+    let undecided = sym c.is_decided.ensures ∙ c.if-is_decided.false in
+    let k = λ (n : ℕ) (p : Plain). chained kind (joined kind v p) (results_in s (pack (drop (i + 1) ts)) n) in
+    let p1 = rewritten w f s.left g0 g1 rest (λ n. option_and_then (k n) (values_in s a n)) h (λ n. chained-from s ts i a c.at.ensures n kind v undecided) p0 in
     let g2 = c.evaluate.new.guard in
-    let none_left = known_as w (values_in s a) s.left g1 g2 c.in_ok-next.field-0 None c.in_default.is c.in_ok-next.ensures.answer in
-    record { answer = part_fails w s.left f g0 g1 g2 g2 k (values_in s a) h p1 none_left; counted = counts_then w n0 c.loop-i.entry c.evaluate.new.entry g0 g1 g2 c.loop-i.invariant.counted c.evaluate.ensures.counted }
-
-pub chains::disjunction-returns-in_err-next : goal.chains::disjunction-returns-in_err-next
-chains::disjunction-returns-in_err-next g t c =
-    let s = c.args.scene.now in
-    let w = world_in s in
-    let g0 = c.args.guard.now in
-    let n0 = c.args.entry.now in
-    let g1 = c.loop-i.guard in
-    let g2 = c.evaluate.new.guard in
-    record { answer = search rules; counted = counts_then w n0 c.loop-i.entry c.evaluate.new.entry g0 g1 g2 c.loop-i.invariant.counted c.evaluate.ensures.counted }
-
-pub chains::disjunction-loop-i-preserved : goal.chains::disjunction-loop-i-preserved
-chains::disjunction-loop-i-preserved g t c =
-    let s = c.args.scene.now in
-    let w = world_in s in
-    let g0 = c.args.guard.now in
-    let n0 = c.args.entry.now in
-    let ts = trees c.args.items.now in
-    let f = λ (n : ℕ). disjunction (boolean false) (results_in s (pack ts) n) in
-    let g1 = c.loop-i.guard in
-    let i = c.loop-i.i in
-    let v = plain c.loop-i.so_far.value in
-    let h = c.loop-i.so_far.height in
-    let p0 = c.loop-i.invariant.partly in
-    let rest = λ (n : ℕ). disjunction v (results_in s (pack (drop i ts)) n) in
-    let a = tree c.at.result.now in
-    let undecided = sym c.or_ends.ensures ∙ c.if-or_ends.false in
-    let k = λ (n : ℕ) (p : Plain). disjunction (or_value v p) (results_in s (pack (drop (i + 1) ts)) n) in
-    let p1 = rewritten w f s.left g0 g1 rest (λ n. option_and_then (k n) (values_in s a n)) h (λ n. disjunction-from s ts i a c.at.ensures n v undecided) p0 in
-    let g2 = c.evaluate.new.guard in
-    let o = c.in-Some.next in
-    let some = known_as w (values_in s a) s.left g1 g2 c.in_ok-next.field-0 (Some o) c.in-Some.is c.in_ok-next.ensures.answer in
-    let p2 = part_done w s.left f g0 g1 g2 k (values_in s a) h o p1 some in
-    let p3 = subst (λ (p : Plain). IsPartly w f s.left g0 g2 (λ n. disjunction p (results_in s (pack (drop (i + 1) ts)) n)) (max h o.height)) (sym c.or-so_far.ensures.value) p2 in
-    record { partly = subst (λ (m : ℕ). IsPartly w f s.left g0 g2 (λ n. disjunction (plain c.or-so_far.result.value) (results_in s (pack (drop (i + 1) ts)) n)) m) (sym c.or-so_far.ensures.height) p3; counted = counts_then w n0 c.loop-i.entry c.evaluate.new.entry g0 g1 g2 c.loop-i.invariant.counted c.evaluate.ensures.counted }
+    record { answer = part_fails w s.left f g0 g1 g2 g2 k (values_in s a) h c.in-Err.stop p1 c.in-Err.ensures.answer; counted = counts_then w n0 c.loop-i.entry c.evaluate.new.entry g0 g1 g2 c.loop-i.invariant.counted c.evaluate.ensures.counted }
 
 pub chains::all_of-loop-i-init : goal.chains::all_of-loop-i-init
 chains::all_of-loop-i-init g t c =
@@ -1404,8 +1003,8 @@ chains::all_of-evaluate-requires g t c κs within =
     let p1 = rewritten w f s.left g0 g1 rest (λ n. option_and_then (k n) (values_in s a n)) h (λ n. all_demanded-from s ts i a c.at.ensures n vs) p0 in
     (omega (arith, c.decreases, size-at ts i a c.at.ensures), (within, part_ready w s.left f g0 g1 k (values_in s a) h p1))
 
-pub chains::all_of-returns-in_default : goal.chains::all_of-returns-in_default
-chains::all_of-returns-in_default g t c =
+pub chains::all_of-returns-in_err-all : goal.chains::all_of-returns-in_err-all
+chains::all_of-returns-in_err-all g t c =
     let s = c.args.scene.now in
     let w = world_in s in
     let g0 = c.args.guard.now in
@@ -1413,37 +1012,8 @@ chains::all_of-returns-in_default g t c =
     let ts = trees c.args.items.now in
     let f = λ (n : ℕ). all_demanded (results_in s (pack ts) n) in
     let g1 = c.loop-i.guard in
-    let i = c.loop-i.i in
-    let vs = plains c.loop-i.all.values in
-    let h = c.loop-i.all.height in
-    let p0 = c.loop-i.invariant.partly in
-    let rest = λ (n : ℕ). values_and vs (all_demanded (results_in s (pack (drop i ts)) n)) in
-    let a = tree c.at.result.now in
-    let k = λ (n : ℕ) (p : Plain). values_and (vs ++ p ∷ []) (all_demanded (results_in s (pack (drop (i + 1) ts)) n)) in
-    let p1 = rewritten w f s.left g0 g1 rest (λ n. option_and_then (k n) (values_in s a n)) h (λ n. all_demanded-from s ts i a c.at.ensures n vs) p0 in
     let g2 = c.evaluate.new.guard in
-    let none_left = known_as w (values_in s a) s.left g1 g2 c.in_ok-next.field-0 None c.in_default.is c.in_ok-next.ensures.answer in
-    record { answer = part_fails_all w s.left f g0 g1 g2 g2 k (values_in s a) h p1 none_left; counted = counts_then w n0 c.loop-i.entry c.evaluate.new.entry g0 g1 g2 c.loop-i.invariant.counted c.evaluate.ensures.counted }
-
-pub chains::all_of-returns-in_err-next : goal.chains::all_of-returns-in_err-next
-chains::all_of-returns-in_err-next g t c =
-    let s = c.args.scene.now in
-    let w = world_in s in
-    let g0 = c.args.guard.now in
-    let n0 = c.args.entry.now in
-    let g1 = c.loop-i.guard in
-    let g2 = c.evaluate.new.guard in
-    record { answer = search rules; counted = counts_then w n0 c.loop-i.entry c.evaluate.new.entry g0 g1 g2 c.loop-i.invariant.counted c.evaluate.ensures.counted }
-
-pub chains::all_of-returns-in_err-all : goal.chains::all_of-returns-in_err-all
-chains::all_of-returns-in_err-all g t c =
-    let s = c.args.scene.now in
-    let w = world_in s in
-    let g0 = c.args.guard.now in
-    let n0 = c.args.entry.now in
-    let g1 = c.loop-i.guard in
-    let g2 = c.evaluate.new.guard in
-    record { answer = search rules; counted = counts_then w n0 c.loop-i.entry c.evaluate.new.entry g0 g1 g2 c.loop-i.invariant.counted c.evaluate.ensures.counted }
+    record { answer = hands_on_all w s.left f g0 g2 c.from_residual.result Stop.OutOfMemory c.from_residual.ensures.0 c.from_residual.ensures.1 (stops_all_by w f s.left g0 g2 Stop.OutOfMemory (λ is. absurd (cc))); counted = counts_then w n0 c.loop-i.entry c.evaluate.new.entry g0 g1 g2 c.loop-i.invariant.counted c.evaluate.ensures.counted }
 
 pub chains::all_of-loop-i-preserved : goal.chains::all_of-loop-i-preserved
 chains::all_of-loop-i-preserved g t c =
@@ -1463,11 +1033,31 @@ chains::all_of-loop-i-preserved g t c =
     let k = λ (n : ℕ) (p : Plain). values_and (vs ++ p ∷ []) (all_demanded (results_in s (pack (drop (i + 1) ts)) n)) in
     let p1 = rewritten w f s.left g0 g1 rest (λ n. option_and_then (k n) (values_in s a n)) h (λ n. all_demanded-from s ts i a c.at.ensures n vs) p0 in
     let g2 = c.evaluate.new.guard in
-    let o = c.in-Some.next in
-    let some = known_as w (values_in s a) s.left g1 g2 c.in_ok-next.field-0 (Some o) c.in-Some.is c.in_ok-next.ensures.answer in
+    let o = c.in-Ok.next in
+    let some = c.in-Ok.ensures.answer in
     let p2 = part_done w s.left f g0 g1 g2 k (values_in s a) h o p1 some in
     let p3 = subst (λ (us : List Plain). IsPartly w f s.left g0 g2 (λ n. values_and us (all_demanded (results_in s (pack (drop (i + 1) ts)) n))) (max h o.height)) (sym c.in_ok-all.ensures.values) p2 in
     record { partly = subst (λ (m : ℕ). IsPartly w f s.left g0 g2 (λ n. values_and (plains c.in_ok-all.all.values) (all_demanded (results_in s (pack (drop (i + 1) ts)) n))) m) (sym c.in_ok-all.ensures.height) p3; counted = counts_then w n0 c.loop-i.entry c.evaluate.new.entry g0 g1 g2 c.loop-i.invariant.counted c.evaluate.ensures.counted }
+
+pub chains::all_of-returns-in-Err : goal.chains::all_of-returns-in-Err
+chains::all_of-returns-in-Err g t c =
+    let s = c.args.scene.now in
+    let w = world_in s in
+    let g0 = c.args.guard.now in
+    let n0 = c.args.entry.now in
+    let ts = trees c.args.items.now in
+    let f = λ (n : ℕ). all_demanded (results_in s (pack ts) n) in
+    let g1 = c.loop-i.guard in
+    let i = c.loop-i.i in
+    let vs = plains c.loop-i.all.values in
+    let h = c.loop-i.all.height in
+    let p0 = c.loop-i.invariant.partly in
+    let rest = λ (n : ℕ). values_and vs (all_demanded (results_in s (pack (drop i ts)) n)) in
+    let a = tree c.at.result.now in
+    let k = λ (n : ℕ) (p : Plain). values_and (vs ++ p ∷ []) (all_demanded (results_in s (pack (drop (i + 1) ts)) n)) in
+    let p1 = rewritten w f s.left g0 g1 rest (λ n. option_and_then (k n) (values_in s a n)) h (λ n. all_demanded-from s ts i a c.at.ensures n vs) p0 in
+    let g2 = c.evaluate.new.guard in
+    record { answer = part_fails_all w s.left f g0 g1 g2 g2 k (values_in s a) h c.in-Err.stop p1 c.in-Err.ensures.answer; counted = counts_then w n0 c.loop-i.entry c.evaluate.new.entry g0 g1 g2 c.loop-i.invariant.counted c.evaluate.ensures.counted }
 
 pub chains::conditional-evaluate-requires : goal.chains::conditional-evaluate-requires
 chains::conditional-evaluate-requires g t c κs within =
@@ -1489,14 +1079,6 @@ chains::conditional-returns-in_err-condition g t c =
     let w = world_in s in
     let g0 = c.args.guard.now in
     let n0 = c.args.entry.now in
-    record { answer = search rules; counted = c.evaluate.ensures.counted }
-
-pub chains::conditional-returns-in_default : goal.chains::conditional-returns-in_default
-chains::conditional-returns-in_default g t c =
-    let s = c.args.scene.now in
-    let w = world_in s in
-    let g0 = c.args.guard.now in
-    let n0 = c.args.entry.now in
     let a = tree c.args.condition.now in
     let b = tree c.args.first.now in
     let d = tree c.args.second.now in
@@ -1504,8 +1086,7 @@ chains::conditional-returns-in_default g t c =
     let k = λ (n : ℕ). chosen (values_in s b n) (values_in s d n) in
     let p0 = begins w s.left f (λ n. option_and_then (k n) (values_in s a n)) g0 c.requires (λ n. conditional-three s a b d n) in
     let g1 = c.evaluate.new.guard in
-    let none_left = known_as w (values_in s a) s.left g0 g1 c.in_ok-condition.field-0 None c.in_default.is c.in_ok-condition.ensures.answer in
-    record { answer = part_fails w s.left f g0 g0 g1 g1 k (values_in s a) 0 p0 none_left; counted = c.evaluate.ensures.counted }
+    record { answer = hands_on w s.left f g0 g1 c.from_residual.result c.in_err-condition.field-0.0 c.from_residual.ensures.0 c.from_residual.ensures.1 (part_fails w s.left f g0 g0 g1 g1 k (values_in s a) 0 c.in_err-condition.field-0.0 p0 c.in_err-condition.ensures.answer); counted = c.evaluate.ensures.counted }
 
 pub chains::conditional-returns-in-Value : goal.chains::conditional-returns-in-Value
 chains::conditional-returns-in-Value g t c =
@@ -1520,8 +1101,8 @@ chains::conditional-returns-in-Value g t c =
     let k = λ (n : ℕ). chosen (values_in s b n) (values_in s d n) in
     let p0 = begins w s.left f (λ n. option_and_then (k n) (values_in s a n)) g0 c.requires (λ n. conditional-three s a b d n) in
     let g1 = c.evaluate.new.guard in
-    let o1 = c.in-Some.condition in
-    let some1 = known_as w (values_in s a) s.left g0 g1 c.in_ok-condition.field-0 (Some o1) c.in-Some.is c.in_ok-condition.ensures.answer in
+    let o1 = c.in_ok-condition.condition in
+    let some1 = c.in_ok-condition.ensures.answer in
     let h1 = max 0 o1.height in
     let p1 = part_done w s.left f g0 g0 g1 k (values_in s a) 0 o1 p0 some1 in
     let u : Outcome = record { value = c.in-Value.value; height = o1.height } in
@@ -1541,8 +1122,8 @@ chains::conditional-evaluate-requires-in-Taken g t c κs within =
     let k = λ (n : ℕ). chosen (values_in s b n) (values_in s d n) in
     let p0 = begins w s.left f (λ n. option_and_then (k n) (values_in s a n)) g0 c.requires (λ n. conditional-three s a b d n) in
     let g1 = c.evaluate.new.guard in
-    let o1 = c.in-Some.condition in
-    let some1 = known_as w (values_in s a) s.left g0 g1 c.in_ok-condition.field-0 (Some o1) c.in-Some.is c.in_ok-condition.ensures.answer in
+    let o1 = c.in_ok-condition.condition in
+    let some1 = c.in_ok-condition.ensures.answer in
     let h1 = max 0 o1.height in
     let p1 = part_done w s.left f g0 g0 g1 k (values_in s a) 0 o1 p0 some1 in
     let e = tree c.in-Taken.branch.now in
@@ -1550,8 +1131,8 @@ chains::conditional-evaluate-requires-in-Taken g t c κs within =
     let p2 = rewritten w f s.left g0 g1 (λ n. k n (plain o1.value)) (values_in s e) h1 (λ n. is.0 (λ (t : Tree). values_in s t n)) p1 in
     (omega (arith, c.decreases, is.1), (within, rest_ready w s.left f g0 g1 (values_in s e) h1 p2))
 
-pub chains::conditional-returns-in_default-2 : goal.chains::conditional-returns-in_default-2
-chains::conditional-returns-in_default-2 g t c =
+pub chains::conditional-returns-in-Taken : goal.chains::conditional-returns-in-Taken
+chains::conditional-returns-in-Taken g t c =
     let s = c.args.scene.now in
     let w = world_in s in
     let g0 = c.args.guard.now in
@@ -1563,51 +1144,15 @@ chains::conditional-returns-in_default-2 g t c =
     let k = λ (n : ℕ). chosen (values_in s b n) (values_in s d n) in
     let p0 = begins w s.left f (λ n. option_and_then (k n) (values_in s a n)) g0 c.requires (λ n. conditional-three s a b d n) in
     let g1 = c.evaluate.new.guard in
-    let o1 = c.in-Some.condition in
-    let some1 = known_as w (values_in s a) s.left g0 g1 c.in_ok-condition.field-0 (Some o1) c.in-Some.is c.in_ok-condition.ensures.answer in
+    let o1 = c.in_ok-condition.condition in
+    let some1 = c.in_ok-condition.ensures.answer in
     let h1 = max 0 o1.height in
     let p1 = part_done w s.left f g0 g0 g1 k (values_in s a) 0 o1 p0 some1 in
     let e = tree c.in-Taken.branch.now in
     let is = c.in-Taken.ensures in
     let p2 = rewritten w f s.left g0 g1 (λ n. k n (plain o1.value)) (values_in s e) h1 (λ n. is.0 (λ (t : Tree). values_in s t n)) p1 in
     let g2 = c.evaluate-in-Taken.new.guard in
-    let none_left = known_as w (values_in s e) s.left g1 g2 c.in_ok-taken-in-Taken.field-0 None c.in_default-2.is c.in_ok-taken-in-Taken.ensures.answer in
-    record { answer = rest_fails w s.left f g0 g1 g2 g2 (values_in s e) h1 p2 none_left; counted = counts_then w n0 c.evaluate.new.entry c.evaluate-in-Taken.new.entry g0 g1 g2 c.evaluate.ensures.counted c.evaluate-in-Taken.ensures.counted }
-
-pub chains::conditional-returns-in_err-taken-in-Taken : goal.chains::conditional-returns-in_err-taken-in-Taken
-chains::conditional-returns-in_err-taken-in-Taken g t c =
-    let s = c.args.scene.now in
-    let w = world_in s in
-    let g0 = c.args.guard.now in
-    let n0 = c.args.entry.now in
-    let g1 = c.evaluate.new.guard in
-    let g2 = c.evaluate-in-Taken.new.guard in
-    record { answer = search rules; counted = counts_then w n0 c.evaluate.new.entry c.evaluate-in-Taken.new.entry g0 g1 g2 c.evaluate.ensures.counted c.evaluate-in-Taken.ensures.counted }
-
-pub chains::conditional-returns-in-Some-2 : goal.chains::conditional-returns-in-Some-2
-chains::conditional-returns-in-Some-2 g t c =
-    let s = c.args.scene.now in
-    let w = world_in s in
-    let g0 = c.args.guard.now in
-    let n0 = c.args.entry.now in
-    let a = tree c.args.condition.now in
-    let b = tree c.args.first.now in
-    let d = tree c.args.second.now in
-    let f = λ (n : ℕ). conditional (results_in s (three a b d) n) in
-    let k = λ (n : ℕ). chosen (values_in s b n) (values_in s d n) in
-    let p0 = begins w s.left f (λ n. option_and_then (k n) (values_in s a n)) g0 c.requires (λ n. conditional-three s a b d n) in
-    let g1 = c.evaluate.new.guard in
-    let o1 = c.in-Some.condition in
-    let some1 = known_as w (values_in s a) s.left g0 g1 c.in_ok-condition.field-0 (Some o1) c.in-Some.is c.in_ok-condition.ensures.answer in
-    let h1 = max 0 o1.height in
-    let p1 = part_done w s.left f g0 g0 g1 k (values_in s a) 0 o1 p0 some1 in
-    let e = tree c.in-Taken.branch.now in
-    let is = c.in-Taken.ensures in
-    let p2 = rewritten w f s.left g0 g1 (λ n. k n (plain o1.value)) (values_in s e) h1 (λ n. is.0 (λ (t : Tree). values_in s t n)) p1 in
-    let g2 = c.evaluate-in-Taken.new.guard in
-    let o2 = c.in-Some-2.taken in
-    let some2 = known_as w (values_in s e) s.left g1 g2 c.in_ok-taken-in-Taken.field-0 (Some o2) c.in-Some-2.is c.in_ok-taken-in-Taken.ensures.answer in
-    record { answer = finishes_rest w s.left f g0 g1 g2 (values_in s e) h1 o2 c.at_least.result p2 some2 c.at_least.ensures.value (omega (arith, c.at_least.ensures.height)); counted = counts_then w n0 c.evaluate.new.entry c.evaluate-in-Taken.new.entry g0 g1 g2 c.evaluate.ensures.counted c.evaluate-in-Taken.ensures.counted }
+    record { answer = rest_ends w s.left f g0 g1 g2 (values_in s e) h1 o1.height c.evaluate-in-Taken.result c.at_least.result (omega arith) p2 c.evaluate-in-Taken.ensures.answer c.at_least.ensures; counted = counts_then w n0 c.evaluate.new.entry c.evaluate-in-Taken.new.entry g0 g1 g2 c.evaluate.ensures.counted c.evaluate-in-Taken.ensures.counted }
 
 pub chains::call_function-returns-then-not-known : goal.chains::call_function-returns-then-not-known
 chains::call_function-returns-then-not-known g t c =
@@ -1674,7 +1219,7 @@ chains::call_function-returns-then-is_named g t c =
     let shape = pack-three ts a b d long c.at.ensures c.at-then-is_named.ensures c.at-then-is_named-2.ensures in
     let same = λ (n : ℕ). called-choice s x ts n knows names ∙ ap (λ (us : Trees). conditional (results_in s us n)) shape in
     let rest = λ (n : ℕ). conditional (results_in s (three a b d) n) in
-    record { answer = IfOk-map c.conditional.result (λ o. Answers w rest s.left g0 c.conditional.new.guard o) (λ o. Answers w f s.left g0 c.conditional.new.guard o) (λ o h. answers_of w s.left f rest g0 c.conditional.new.guard o same h) c.conditional.ensures.answer; counted = c.conditional.ensures.counted }
+    record { answer = answers_of w s.left f rest g0 c.conditional.new.guard c.conditional.result same c.conditional.ensures.answer; counted = c.conditional.ensures.counted }
 
 pub chains::call_function-at-requires-then-is_named : goal.chains::call_function-at-requires-then-is_named
 chains::call_function-at-requires-then-is_named g t c =
@@ -1699,23 +1244,6 @@ chains::call_function-all_of-requires g t c κs within =
     let p0 = begins w s.left f (λ n. option_map (function_value w x) (rest n)) g0 c.requires (λ n. called-function s x ts n knows unnamed) in
     (omega (arith, c.decreases), (within, mapped_part_ready w s.left f g0 g0 (function_value w x) rest 0 p0))
 
-pub chains::call_function-returns-in_default : goal.chains::call_function-returns-in_default
-chains::call_function-returns-in_default g t c =
-    let s = c.args.scene.now in
-    let w = world_in s in
-    let g0 = c.args.guard.now in
-    let n0 = c.args.entry.now in
-    let x = c.args.name.now in
-    let ts = trees c.args.items.now in
-    let f = λ (n : ℕ). called w x (results_in s (pack ts) n) in
-    let knows = sym (c.known.ensures ∙ ap (is_known x) c.len.ensures) ∙ c.if-not-known.false in
-    let unnamed = sym c.is_named.ensures ∙ c.if-is_named.false in
-    let rest = λ (n : ℕ). all_demanded (results_in s (pack ts) n) in
-    let p0 = begins w s.left f (λ n. option_map (function_value w x) (rest n)) g0 c.requires (λ n. called-function s x ts n knows unnamed) in
-    let g1 = c.all_of.new.guard in
-    let none_left = known_all_as w rest s.left g0 g1 c.in_ok-args.field-0 None c.in_default.is c.in_ok-args.ensures.answer in
-    record { answer = all_part_fails w s.left f g0 g0 g1 g1 (function_value w x) rest 0 p0 none_left; counted = c.all_of.ensures.counted }
-
 pub chains::call_function-returns : goal.chains::call_function-returns
 chains::call_function-returns g t c =
     let s = c.args.scene.now in
@@ -1730,10 +1258,7 @@ chains::call_function-returns g t c =
     let rest = λ (n : ℕ). all_demanded (results_in s (pack ts) n) in
     let p0 = begins w s.left f (λ n. option_map (function_value w x) (rest n)) g0 c.requires (λ n. called-function s x ts n knows unnamed) in
     let g1 = c.all_of.new.guard in
-    let o = c.in-Some.args in
-    let u : Outcome = record { value = c.in_ok-value.value; height = o.height } in
-    let some = known_all_as w rest s.left g0 g1 c.in_ok-args.field-0 (Some o) c.in-Some.is c.in_ok-args.ensures.answer in
-    record { answer = finishes_all w s.left f g0 g0 g1 (function_value w x) rest 0 o u p0 some c.in_ok-value.ensures (omega arith); counted = c.all_of.ensures.counted }
+    record { answer = finishes_applied w s.left f g0 g0 g1 (function_value w x) rest 0 c.in_ok-args.args c.apply_function.result p0 c.in_ok-args.ensures.answer c.apply_function.ensures refl; counted = c.all_of.ensures.counted }
 
 pub chains::call_function-returns-in_err-args : goal.chains::call_function-returns-in_err-args
 chains::call_function-returns-in_err-args g t c =
@@ -1741,12 +1266,12 @@ chains::call_function-returns-in_err-args g t c =
     let w = world_in s in
     let g0 = c.args.guard.now in
     let n0 = c.args.entry.now in
-    record { answer = search rules; counted = c.all_of.ensures.counted }
-
-pub chains::call_function-returns-in_err-value : goal.chains::call_function-returns-in_err-value
-chains::call_function-returns-in_err-value g t c =
-    let s = c.args.scene.now in
-    let w = world_in s in
-    let g0 = c.args.guard.now in
-    let n0 = c.args.entry.now in
-    record { answer = search rules; counted = c.all_of.ensures.counted }
+    let x = c.args.name.now in
+    let ts = trees c.args.items.now in
+    let f = λ (n : ℕ). called w x (results_in s (pack ts) n) in
+    let knows = sym (c.known.ensures ∙ ap (is_known x) c.len.ensures) ∙ c.if-not-known.false in
+    let unnamed = sym c.is_named.ensures ∙ c.if-is_named.false in
+    let rest = λ (n : ℕ). all_demanded (results_in s (pack ts) n) in
+    let p0 = begins w s.left f (λ n. option_map (function_value w x) (rest n)) g0 c.requires (λ n. called-function s x ts n knows unnamed) in
+    let g1 = c.all_of.new.guard in
+    record { answer = hands_on w s.left f g0 g1 c.from_residual.result c.in_err-args.field-0.0 c.from_residual.ensures.0 c.from_residual.ensures.1 (all_part_fails w s.left f g0 g0 g1 g1 (function_value w x) rest 0 c.in_err-args.field-0.0 p0 c.in_err-args.ensures.answer); counted = c.all_of.ensures.counted }

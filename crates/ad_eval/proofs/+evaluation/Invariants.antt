@@ -1,7 +1,8 @@
-use Rattle.std.proofs.Common.{◌+◌, ◌*◌, true, false, drop}
+use Rattle.std.proofs.Common.{◌+◌, ◌*◌, drop}
 use Rattle.ad_tree.specs.Tree.{pack, size, size_all, three, tree, trees}
-use Rattle.ad_value.specs.Plain.{boolean, plain, plains}
-use Rattle.ad_value.specs.Demands.{all_demanded, conjunction, disjunction}
+use Rattle.ad_value.specs.Plain.{plain, plains}
+use Rattle.ad_value.specs.Demands.{all_demanded}
+use Rattle.ad_eval.specs.Chain.{chained, start}
 use Rattle.ad_eval.specs.Kept.{Counts}
 use Rattle.ad_eval.specs.Scene.{results_in, world_in}
 use Rattle.ad_eval.proofs.KeptLemmas.{IsPartly}
@@ -46,22 +47,13 @@ decreases-chains::conditional g l = 8 * (l.scene.now.left * turn (world_in l.sce
 abbrev pub decreases-chains::all_of : goal.decreases-chains::all_of
 decreases-chains::all_of g l = 8 * (l.scene.now.left * turn (world_in l.scene.now)) + (8 * size_all (pack (trees l.items.now)) + 1)
 
-abbrev pub decreases-chains::conjunction : goal.decreases-chains::conjunction
-decreases-chains::conjunction g l = 8 * (l.scene.now.left * turn (world_in l.scene.now)) + (8 * size_all (pack (trees l.items.now)) + 1)
-
-abbrev pub decreases-chains::disjunction : goal.decreases-chains::disjunction
-decreases-chains::disjunction g l = 8 * (l.scene.now.left * turn (world_in l.scene.now)) + (8 * size_all (pack (trees l.items.now)) + 1)
+abbrev pub decreases-chains::chain : goal.decreases-chains::chain
+decreases-chains::chain g l = 8 * (l.scene.now.left * turn (world_in l.scene.now)) + (8 * size_all (pack (trees l.items.now)) + 1)
 
 -- what is evaluated of a chain, and what is left of it
-abbrev pub invariant-chains::conjunction-loop-i : goal.invariant-chains::conjunction-loop-i
-invariant-chains::conjunction-loop-i g l = record {
-  partly : IsPartly (world_in l.scene) (λ n. conjunction (boolean true) (results_in l.scene (pack (trees l.items)) n)) l.scene.left l.fn.guard l.guard (λ n. conjunction (plain l.so_far.value) (results_in l.scene (pack (drop l.i (trees l.items))) n)) l.so_far.height;
-  counted : Counts (world_in l.scene) l.fn.entry l.entry l.fn.guard l.guard;
-}
-
-abbrev pub invariant-chains::disjunction-loop-i : goal.invariant-chains::disjunction-loop-i
-invariant-chains::disjunction-loop-i g l = record {
-  partly : IsPartly (world_in l.scene) (λ n. disjunction (boolean false) (results_in l.scene (pack (trees l.items)) n)) l.scene.left l.fn.guard l.guard (λ n. disjunction (plain l.so_far.value) (results_in l.scene (pack (drop l.i (trees l.items))) n)) l.so_far.height;
+abbrev pub invariant-chains::chain-loop-i : goal.invariant-chains::chain-loop-i
+invariant-chains::chain-loop-i g l = record {
+  partly : IsPartly (world_in l.scene) (λ n. chained l.kind (start l.kind) (results_in l.scene (pack (trees l.items)) n)) l.scene.left l.fn.guard l.guard (λ n. chained l.kind (plain l.so_far.value) (results_in l.scene (pack (drop l.i (trees l.items))) n)) l.so_far.height;
   counted : Counts (world_in l.scene) l.fn.entry l.entry l.fn.guard l.guard;
 }
 

@@ -1,5 +1,6 @@
-use Rattle.std.proofs.Common.{IsSome, unwrap_or, ap, sym, ◌∙◌, subst, arith}
+use Rattle.std.proofs.Common.{IsSome, unwrap_or, ap, sym, subst, arith}
 use Rattle.ad_value.specs.Plain.{error}
+use Rattle.eval_scope.specs.Shown.{world_of}
 use Rattle.eval_scope.specs.World.{PlainWorld, expr_of, frame_of_attribute}
 use Rattle.ad_eval.specs.declared.scene.Scene.{Scene as TheScene}
 use Rattle.ad_eval.specs.Scene.{world_in}
@@ -17,22 +18,10 @@ attribute-evaluated-requires-clause-ready g c =
     let s : TheScene = record { alloc = c.args.alloc; world = c.args.world; at = frame_of_attribute c.args.pos; left = 24 } in
     ready_new (world_in s) c.new-guard.result (λ n. value_at n (world_in s) c.args.pos) c.new-guard.ensures
 
-pub returns-in_err-answer-clause-entries : goal.returns-in_err-answer-clause-entries
-returns-in_err-answer-clause-entries g c =
-    let s : TheScene = record { alloc = c.args.alloc; world = c.args.world; at = frame_of_attribute c.args.pos; left = 24 } in
-    entered-in s c.args.entry.now c.attribute-evaluated.new.entry c.new-guard.result c.attribute-evaluated.new.guard c.attribute-evaluated.ensures.counted
-
-pub returns-in_err-answer-clause-ratio : goal.returns-in_err-answer-clause-ratio
-returns-in_err-answer-clause-ratio g c small =
-    let s : TheScene = record { alloc = c.args.alloc; world = c.args.world; at = frame_of_attribute c.args.pos; left = 24 } in
-    omega (arith, c.tick.ensures, few-attributes c.args.world.now small, entered-in s c.args.entry.now c.attribute-evaluated.new.entry c.new-guard.result c.attribute-evaluated.new.guard c.attribute-evaluated.ensures.counted)
-
 pub returns-clause-value : goal.returns-clause-value
 returns-clause-value g c =
     let s : TheScene = record { alloc = c.args.alloc; world = c.args.world; at = frame_of_attribute c.args.pos; left = 24 } in
-    c.value_or_error.ensures
-    ∙ result_of (world_in s) (λ n. value_at n (world_in s) c.args.pos) 24 c.new-guard.result c.attribute-evaluated.new.guard c.in_ok-answer.answer c.in_ok-answer.ensures.answer
-    ∙ ap (λ (w : PlainWorld). unwrap_or (value_at 24 w c.args.pos) error) (scene_world s)
+    result_of (world_in s) (λ n. value_at n (world_in s) c.args.pos) 24 c.new-guard.result c.attribute-evaluated.new.guard c.attribute-evaluated.result c.value_or_error.result (unwrap_or (value_at 24 (world_of c.args.world.now) c.args.pos) error) (ap (λ (w : PlainWorld). unwrap_or (value_at 24 w c.args.pos) error) (scene_world s)) c.attribute-evaluated.ensures.answer c.value_or_error.ensures
 
 pub returns-clause-entries : goal.returns-clause-entries
 returns-clause-entries g c =

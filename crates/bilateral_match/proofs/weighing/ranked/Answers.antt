@@ -1,8 +1,45 @@
-use Rattle.std.proofs.Common.{sym, ◌∙◌}
+use Rattle.std.proofs.Common.{◌≡◌, IfOk, ap, arith, subst, sym, ◌∙◌}
 use Rattle.ad_tree.specs.Ad.{ad_frames}
-use Rattle.bilateral_match.proofs.WeighLemmas.{ranked-decided}
+use Rattle.conjunct_plan.specs.Decided.{is_dock_decided}
+use Rattle.conjunct_plan.specs.Tests.{labels_of}
+use Rattle.eval_scope.specs.Shown.{world_of}
+use Rattle.eval_scope.specs.World.{PlainWorld}
+use Rattle.bilateral_match.specs.Docks.{ranked_in}
+use Rattle.bilateral_match.proofs.SmallLemmas.{pair-small}
+use Rattle.bilateral_match.proofs.WeighLemmas.{ranked-decided, three-evaluations, three-worlds, world-is}
 use Rattle.bilateral_match.proofs.weighing.ranked.Goals as goal
 
 pub returns-then-is_decided-clause-rank : goal.returns-then-is_decided-clause-rank
 returns-then-is_decided-clause-rank g c =
-    sym (ranked-decided c.args.moment (ad_frames c.args.request.now.ad) (ad_frames c.args.ad.now) (sym c.is_decided.ensures ∙ c.if-is_decided.true))
+    let request = ad_frames c.args.request.now.ad in
+    let ad = ad_frames c.args.ad.now in
+    sym (ranked-decided c.args.moment request ad (ap (λ ports. is_dock_decided request 0 (labels_of ports) ad) (sym c.requires) ∙ sym c.is_decided.ensures ∙ c.if-is_decided.true))
+
+pub returns-clause-rank : goal.returns-clause-rank
+returns-clause-rank g c =
+    let request = ad_frames c.args.request.now.ad in
+    let ad = ad_frames c.args.ad.now in
+    let same = world-is c.args.moment request ad c.args.request.now.ports (world_of c.new.result) (world_of c.with-world.result) c.new.ensures c.with-world.ensures c.requires in
+    subst (λ (w : PlainWorld). IfOk c.ranked_in.result (λ rank. rank ≡ ranked_in w)) same c.ranked_in.ensures.rank
+
+pub returns-clause-evaluations : goal.returns-clause-evaluations
+returns-clause-evaluations g c =
+    let request = ad_frames c.args.request.now.ad in
+    let ad = ad_frames c.args.ad.now in
+    let undecided = ap (λ ports. is_dock_decided request 0 (labels_of ports) ad) (sym c.requires) ∙ sym c.is_decided.ensures ∙ c.if-is_decided.false in
+    omega (arith, c.ranked_in.ensures.evaluations, three-evaluations c.args.moment request ad undecided)
+
+pub returns-clause-entries : goal.returns-clause-entries
+returns-clause-entries g c =
+    let request = ad_frames c.args.request.now.ad in
+    let ad = ad_frames c.args.ad.now in
+    let undecided = ap (λ ports. is_dock_decided request 0 (labels_of ports) ad) (sym c.requires) ∙ sym c.is_decided.ensures ∙ c.if-is_decided.false in
+    let same = world-is c.args.moment request ad c.args.request.now.ports (world_of c.new.result) (world_of c.with-world.result) c.new.ensures c.with-world.ensures c.requires in
+    omega (arith, c.ranked_in.ensures.entries, three-worlds c.args.moment request ad (world_of c.with-world.result) same undecided)
+
+pub returns-clause-ratio : goal.returns-clause-ratio
+returns-clause-ratio g c small_request small_ad =
+    let request = ad_frames c.args.request.now.ad in
+    let ad = ad_frames c.args.ad.now in
+    let same = world-is c.args.moment request ad c.args.request.now.ports (world_of c.new.result) (world_of c.with-world.result) c.new.ensures c.with-world.ensures c.requires in
+    c.ranked_in.ensures.ratio (pair-small c.args.moment request ad (world_of c.with-world.result) same small_request small_ad)

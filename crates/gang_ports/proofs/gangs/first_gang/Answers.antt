@@ -10,8 +10,8 @@ use Rattle.gang_ports.proofs.PoolLemmas.{attributes-whole, evaluations-whole, fo
 use Rattle.gang_ports.proofs.SmallLemmas.{sides-small, start-small}
 use Rattle.gang_ports.proofs.gangs.first_gang.Goals as goal
 
-pub returns-in_err-search-clause-evaluations : goal.returns-in_err-search-clause-evaluations
-returns-in_err-search-clause-evaluations g c =
+pub returns-in_err-found-clause-evaluations : goal.returns-in_err-found-clause-evaluations
+returns-in_err-found-clause-evaluations g c =
     let stock = stock_of c.args.store.now in
     let pool : Pool = pool_of c.args.moment stock (g.H.Holdings.is_offered c.args.held.now) (g.H.Holdings.holding c.args.held.now) in
     let request = ad_frames c.args.request.now.ad in
@@ -21,10 +21,10 @@ returns-in_err-search-clause-evaluations g c =
     let before = c.new-places.result.items in
     let starting : IsBehind pool w before sides = starts pool request ports w c.new-world.ensures before c.new-places.ensures.items sides c.in_ok-sides.sides.items c.as_mut_slice.ensures.value c.in_ok-sides.ensures.sides in
     let many : length sides ≡ length ports = ap length c.as_mut_slice.ensures.value ∙ c.in_ok-sides.ensures.many in
-    evaluations-whole pool request ports w c.new-world.ensures before c.new-places.ensures.items (length sides) c.args.tops.now c.search.new.tops many (c.search.ensures.evaluations pool starting)
+    evaluations-whole pool request ports w c.new-world.ensures before c.new-places.ensures.items (length sides) c.args.tops.now c.search-searched.new.tops many (c.search-searched.ensures.evaluations pool starting)
 
-pub returns-in_err-search-clause-entries : goal.returns-in_err-search-clause-entries
-returns-in_err-search-clause-entries g c =
+pub returns-in_err-found-clause-entries : goal.returns-in_err-found-clause-entries
+returns-in_err-found-clause-entries g c =
     let stock = stock_of c.args.store.now in
     let pool : Pool = pool_of c.args.moment stock (g.H.Holdings.is_offered c.args.held.now) (g.H.Holdings.holding c.args.held.now) in
     let request = ad_frames c.args.request.now.ad in
@@ -34,10 +34,10 @@ returns-in_err-search-clause-entries g c =
     let before = c.new-places.result.items in
     let starting : IsBehind pool w before sides = starts pool request ports w c.new-world.ensures before c.new-places.ensures.items sides c.in_ok-sides.sides.items c.as_mut_slice.ensures.value c.in_ok-sides.ensures.sides in
     let many : length sides ≡ length ports = ap length c.as_mut_slice.ensures.value ∙ c.in_ok-sides.ensures.many in
-    attributes-whole pool request ports w c.new-world.ensures before c.new-places.ensures.items (length sides) c.args.entry.now c.search.new.entry many (c.search.ensures.entries pool starting)
+    attributes-whole pool request ports w c.new-world.ensures before c.new-places.ensures.items (length sides) c.args.entry.now c.search-searched.new.entry many (c.search-searched.ensures.entries pool starting)
 
-pub returns-then-not-branch-clause-gang : goal.returns-then-not-branch-clause-gang
-returns-then-not-branch-clause-gang g c =
+pub returns-then-not-found-clause-gang : goal.returns-then-not-found-clause-gang
+returns-then-not-found-clause-gang g c =
     let stock = stock_of c.args.store.now in
     let pool : Pool = pool_of c.args.moment stock (g.H.Holdings.is_offered c.args.held.now) (g.H.Holdings.holding c.args.held.now) in
     let request = ad_frames c.args.request.now.ad in
@@ -47,12 +47,12 @@ returns-then-not-branch-clause-gang g c =
     let before = c.new-places.result.items in
     let starting : IsBehind pool w before sides = starts pool request ports w c.new-world.ensures before c.new-places.ensures.items sides c.in_ok-sides.sides.items c.as_mut_slice.ensures.value c.in_ok-sides.ensures.sides in
     let many : length sides ≡ length ports = ap length c.as_mut_slice.ensures.value ∙ c.in_ok-sides.ensures.many in
-    let o : Outcome (choice_in pool w) (length sides) before c.search.new.before.items false =
-    subst (λ (found : Bool). Outcome (choice_in pool w) (length sides) before c.search.new.before.items found) c.if-not-branch.true (c.in_ok-search.ensures.outcome pool starting) in
-    ap (option_map (map (slot_at stock))) (sym (none-whole pool request ports w c.new-world.ensures before c.new-places.ensures.items (length sides) c.search.new.before.items many o))
+    let o : Outcome (choice_in pool w) (length sides) before c.search-searched.new.before.items false =
+    subst (λ (found : Bool). Outcome (choice_in pool w) (length sides) before c.search-searched.new.before.items found) c.if-not-found.true (c.in_ok-found.ensures.outcome pool starting) in
+    ap (option_map (map (slot_at stock))) (sym (none-whole pool request ports w c.new-world.ensures before c.new-places.ensures.items (length sides) c.search-searched.new.before.items many o))
 
-pub returns-then-not-branch-clause-evaluations : goal.returns-then-not-branch-clause-evaluations
-returns-then-not-branch-clause-evaluations g c =
+pub returns-then-not-found-clause-evaluations : goal.returns-then-not-found-clause-evaluations
+returns-then-not-found-clause-evaluations g c =
     let stock = stock_of c.args.store.now in
     let pool : Pool = pool_of c.args.moment stock (g.H.Holdings.is_offered c.args.held.now) (g.H.Holdings.holding c.args.held.now) in
     let request = ad_frames c.args.request.now.ad in
@@ -62,10 +62,10 @@ returns-then-not-branch-clause-evaluations g c =
     let before = c.new-places.result.items in
     let starting : IsBehind pool w before sides = starts pool request ports w c.new-world.ensures before c.new-places.ensures.items sides c.in_ok-sides.sides.items c.as_mut_slice.ensures.value c.in_ok-sides.ensures.sides in
     let many : length sides ≡ length ports = ap length c.as_mut_slice.ensures.value ∙ c.in_ok-sides.ensures.many in
-    evaluations-whole pool request ports w c.new-world.ensures before c.new-places.ensures.items (length sides) c.args.tops.now c.search.new.tops many (c.search.ensures.evaluations pool starting)
+    evaluations-whole pool request ports w c.new-world.ensures before c.new-places.ensures.items (length sides) c.args.tops.now c.search-searched.new.tops many (c.search-searched.ensures.evaluations pool starting)
 
-pub returns-then-not-branch-clause-entries : goal.returns-then-not-branch-clause-entries
-returns-then-not-branch-clause-entries g c =
+pub returns-then-not-found-clause-entries : goal.returns-then-not-found-clause-entries
+returns-then-not-found-clause-entries g c =
     let stock = stock_of c.args.store.now in
     let pool : Pool = pool_of c.args.moment stock (g.H.Holdings.is_offered c.args.held.now) (g.H.Holdings.holding c.args.held.now) in
     let request = ad_frames c.args.request.now.ad in
@@ -75,7 +75,7 @@ returns-then-not-branch-clause-entries g c =
     let before = c.new-places.result.items in
     let starting : IsBehind pool w before sides = starts pool request ports w c.new-world.ensures before c.new-places.ensures.items sides c.in_ok-sides.sides.items c.as_mut_slice.ensures.value c.in_ok-sides.ensures.sides in
     let many : length sides ≡ length ports = ap length c.as_mut_slice.ensures.value ∙ c.in_ok-sides.ensures.many in
-    attributes-whole pool request ports w c.new-world.ensures before c.new-places.ensures.items (length sides) c.args.entry.now c.search.new.entry many (c.search.ensures.entries pool starting)
+    attributes-whole pool request ports w c.new-world.ensures before c.new-places.ensures.items (length sides) c.args.entry.now c.search-searched.new.entry many (c.search-searched.ensures.entries pool starting)
 
 pub slots_at-requires : goal.slots_at-requires
 slots_at-requires g c =
@@ -87,10 +87,10 @@ slots_at-requires g c =
     let sides = c.as_mut_slice.result.now in
     let before = c.new-places.result.items in
     let starting : IsBehind pool w before sides = starts pool request ports w c.new-world.ensures before c.new-places.ensures.items sides c.in_ok-sides.sides.items c.as_mut_slice.ensures.value c.in_ok-sides.ensures.sides in
-    let o : Outcome (choice_in pool w) (length sides) before c.search.new.before.items true =
-    subst (λ (found : Bool). Outcome (choice_in pool w) (length sides) before c.search.new.before.items found) c.if-not-branch.false (c.in_ok-search.ensures.outcome pool starting) in
+    let o : Outcome (choice_in pool w) (length sides) before c.search-searched.new.before.items true =
+    subst (λ (found : Bool). Outcome (choice_in pool w) (length sides) before c.search-searched.new.before.items found) c.if-not-found.false (c.in_ok-found.ensures.outcome pool starting) in
     let fits : length stock.ads ≤ length stock.slots = simp length-map (omega arith) in
-    subst (λ (places : List ℕ). All (λ place. place < length stock.slots) places) (sym c.as_slice.ensures.value) (within-whole pool request ports w c.new-world.ensures before c.new-places.ensures.items (length sides) (length stock.slots) c.search.new.before.items fits o)
+    subst (λ (places : List ℕ). All (λ place. place < length stock.slots) places) (sym c.as_slice.ensures.value) (within-whole pool request ports w c.new-world.ensures before c.new-places.ensures.items (length sides) (length stock.slots) c.search-searched.new.before.items fits o)
 
 pub returns-in_err-slots_at-clause-evaluations : goal.returns-in_err-slots_at-clause-evaluations
 returns-in_err-slots_at-clause-evaluations g c =
@@ -103,7 +103,7 @@ returns-in_err-slots_at-clause-evaluations g c =
     let before = c.new-places.result.items in
     let starting : IsBehind pool w before sides = starts pool request ports w c.new-world.ensures before c.new-places.ensures.items sides c.in_ok-sides.sides.items c.as_mut_slice.ensures.value c.in_ok-sides.ensures.sides in
     let many : length sides ≡ length ports = ap length c.as_mut_slice.ensures.value ∙ c.in_ok-sides.ensures.many in
-    evaluations-whole pool request ports w c.new-world.ensures before c.new-places.ensures.items (length sides) c.args.tops.now c.search.new.tops many (c.search.ensures.evaluations pool starting)
+    evaluations-whole pool request ports w c.new-world.ensures before c.new-places.ensures.items (length sides) c.args.tops.now c.search-searched.new.tops many (c.search-searched.ensures.evaluations pool starting)
 
 pub returns-in_err-slots_at-clause-entries : goal.returns-in_err-slots_at-clause-entries
 returns-in_err-slots_at-clause-entries g c =
@@ -116,7 +116,7 @@ returns-in_err-slots_at-clause-entries g c =
     let before = c.new-places.result.items in
     let starting : IsBehind pool w before sides = starts pool request ports w c.new-world.ensures before c.new-places.ensures.items sides c.in_ok-sides.sides.items c.as_mut_slice.ensures.value c.in_ok-sides.ensures.sides in
     let many : length sides ≡ length ports = ap length c.as_mut_slice.ensures.value ∙ c.in_ok-sides.ensures.many in
-    attributes-whole pool request ports w c.new-world.ensures before c.new-places.ensures.items (length sides) c.args.entry.now c.search.new.entry many (c.search.ensures.entries pool starting)
+    attributes-whole pool request ports w c.new-world.ensures before c.new-places.ensures.items (length sides) c.args.entry.now c.search-searched.new.entry many (c.search-searched.ensures.entries pool starting)
 
 pub returns-clause-gang : goal.returns-clause-gang
 returns-clause-gang g c =
@@ -129,10 +129,10 @@ returns-clause-gang g c =
     let before = c.new-places.result.items in
     let starting : IsBehind pool w before sides = starts pool request ports w c.new-world.ensures before c.new-places.ensures.items sides c.in_ok-sides.sides.items c.as_mut_slice.ensures.value c.in_ok-sides.ensures.sides in
     let many : length sides ≡ length ports = ap length c.as_mut_slice.ensures.value ∙ c.in_ok-sides.ensures.many in
-    let o : Outcome (choice_in pool w) (length sides) before c.search.new.before.items true =
-    subst (λ (found : Bool). Outcome (choice_in pool w) (length sides) before c.search.new.before.items found) c.if-not-branch.false (c.in_ok-search.ensures.outcome pool starting) in
+    let o : Outcome (choice_in pool w) (length sides) before c.search-searched.new.before.items true =
+    subst (λ (found : Bool). Outcome (choice_in pool w) (length sides) before c.search-searched.new.before.items found) c.if-not-found.false (c.in_ok-found.ensures.outcome pool starting) in
     ap (λ (slots : List ℕ). Some slots) (c.in_ok-slots_at.ensures ∙ ap (map (slot_at stock)) c.as_slice.ensures.value)
-    ∙ ap (option_map (map (slot_at stock))) (sym (found-whole pool request ports w c.new-world.ensures before c.new-places.ensures.items (length sides) c.search.new.before.items many o))
+    ∙ ap (option_map (map (slot_at stock))) (sym (found-whole pool request ports w c.new-world.ensures before c.new-places.ensures.items (length sides) c.search-searched.new.before.items many o))
 
 pub returns-clause-evaluations : goal.returns-clause-evaluations
 returns-clause-evaluations g c =
@@ -145,7 +145,7 @@ returns-clause-evaluations g c =
     let before = c.new-places.result.items in
     let starting : IsBehind pool w before sides = starts pool request ports w c.new-world.ensures before c.new-places.ensures.items sides c.in_ok-sides.sides.items c.as_mut_slice.ensures.value c.in_ok-sides.ensures.sides in
     let many : length sides ≡ length ports = ap length c.as_mut_slice.ensures.value ∙ c.in_ok-sides.ensures.many in
-    evaluations-whole pool request ports w c.new-world.ensures before c.new-places.ensures.items (length sides) c.args.tops.now c.search.new.tops many (c.search.ensures.evaluations pool starting)
+    evaluations-whole pool request ports w c.new-world.ensures before c.new-places.ensures.items (length sides) c.args.tops.now c.search-searched.new.tops many (c.search-searched.ensures.evaluations pool starting)
 
 pub returns-clause-entries : goal.returns-clause-entries
 returns-clause-entries g c =
@@ -158,10 +158,10 @@ returns-clause-entries g c =
     let before = c.new-places.result.items in
     let starting : IsBehind pool w before sides = starts pool request ports w c.new-world.ensures before c.new-places.ensures.items sides c.in_ok-sides.sides.items c.as_mut_slice.ensures.value c.in_ok-sides.ensures.sides in
     let many : length sides ≡ length ports = ap length c.as_mut_slice.ensures.value ∙ c.in_ok-sides.ensures.many in
-    attributes-whole pool request ports w c.new-world.ensures before c.new-places.ensures.items (length sides) c.args.entry.now c.search.new.entry many (c.search.ensures.entries pool starting)
+    attributes-whole pool request ports w c.new-world.ensures before c.new-places.ensures.items (length sides) c.args.entry.now c.search-searched.new.entry many (c.search-searched.ensures.entries pool starting)
 
-pub returns-in_err-search-clause-once : goal.returns-in_err-search-clause-once
-returns-in_err-search-clause-once g c =
+pub returns-in_err-found-clause-once : goal.returns-in_err-found-clause-once
+returns-in_err-found-clause-once g c =
     let stock = stock_of c.args.store.now in
     let pool : Pool = pool_of c.args.moment stock (g.H.Holdings.is_offered c.args.held.now) (g.H.Holdings.holding c.args.held.now) in
     let request = ad_frames c.args.request.now.ad in
@@ -171,10 +171,10 @@ returns-in_err-search-clause-once g c =
     let before = c.new-places.result.items in
     let starting : IsBehind pool w before sides = starts pool request ports w c.new-world.ensures before c.new-places.ensures.items sides c.in_ok-sides.sides.items c.as_mut_slice.ensures.value c.in_ok-sides.ensures.sides in
     let many : length sides ≡ length ports = ap length c.as_mut_slice.ensures.value ∙ c.in_ok-sides.ensures.many in
-    once-whole pool request ports w c.new-world.ensures before c.new-places.ensures.items sides c.in_ok-sides.sides.items c.as_mut_slice.ensures.value c.in_ok-sides.ensures.sides many c.args.tops.now c.search.new.tops (c.search.ensures.once pool starting)
+    once-whole pool request ports w c.new-world.ensures before c.new-places.ensures.items sides c.in_ok-sides.sides.items c.as_mut_slice.ensures.value c.in_ok-sides.ensures.sides many c.args.tops.now c.search-searched.new.tops (c.search-searched.ensures.once pool starting)
 
-pub returns-then-not-branch-clause-once : goal.returns-then-not-branch-clause-once
-returns-then-not-branch-clause-once g c =
+pub returns-then-not-found-clause-once : goal.returns-then-not-found-clause-once
+returns-then-not-found-clause-once g c =
     let stock = stock_of c.args.store.now in
     let pool : Pool = pool_of c.args.moment stock (g.H.Holdings.is_offered c.args.held.now) (g.H.Holdings.holding c.args.held.now) in
     let request = ad_frames c.args.request.now.ad in
@@ -184,7 +184,7 @@ returns-then-not-branch-clause-once g c =
     let before = c.new-places.result.items in
     let starting : IsBehind pool w before sides = starts pool request ports w c.new-world.ensures before c.new-places.ensures.items sides c.in_ok-sides.sides.items c.as_mut_slice.ensures.value c.in_ok-sides.ensures.sides in
     let many : length sides ≡ length ports = ap length c.as_mut_slice.ensures.value ∙ c.in_ok-sides.ensures.many in
-    once-whole pool request ports w c.new-world.ensures before c.new-places.ensures.items sides c.in_ok-sides.sides.items c.as_mut_slice.ensures.value c.in_ok-sides.ensures.sides many c.args.tops.now c.search.new.tops (c.search.ensures.once pool starting)
+    once-whole pool request ports w c.new-world.ensures before c.new-places.ensures.items sides c.in_ok-sides.sides.items c.as_mut_slice.ensures.value c.in_ok-sides.ensures.sides many c.args.tops.now c.search-searched.new.tops (c.search-searched.ensures.once pool starting)
 
 pub returns-in_err-slots_at-clause-once : goal.returns-in_err-slots_at-clause-once
 returns-in_err-slots_at-clause-once g c =
@@ -197,7 +197,7 @@ returns-in_err-slots_at-clause-once g c =
     let before = c.new-places.result.items in
     let starting : IsBehind pool w before sides = starts pool request ports w c.new-world.ensures before c.new-places.ensures.items sides c.in_ok-sides.sides.items c.as_mut_slice.ensures.value c.in_ok-sides.ensures.sides in
     let many : length sides ≡ length ports = ap length c.as_mut_slice.ensures.value ∙ c.in_ok-sides.ensures.many in
-    once-whole pool request ports w c.new-world.ensures before c.new-places.ensures.items sides c.in_ok-sides.sides.items c.as_mut_slice.ensures.value c.in_ok-sides.ensures.sides many c.args.tops.now c.search.new.tops (c.search.ensures.once pool starting)
+    once-whole pool request ports w c.new-world.ensures before c.new-places.ensures.items sides c.in_ok-sides.sides.items c.as_mut_slice.ensures.value c.in_ok-sides.ensures.sides many c.args.tops.now c.search-searched.new.tops (c.search-searched.ensures.once pool starting)
 
 pub returns-clause-once : goal.returns-clause-once
 returns-clause-once g c =
@@ -210,23 +210,23 @@ returns-clause-once g c =
     let before = c.new-places.result.items in
     let starting : IsBehind pool w before sides = starts pool request ports w c.new-world.ensures before c.new-places.ensures.items sides c.in_ok-sides.sides.items c.as_mut_slice.ensures.value c.in_ok-sides.ensures.sides in
     let many : length sides ≡ length ports = ap length c.as_mut_slice.ensures.value ∙ c.in_ok-sides.ensures.many in
-    once-whole pool request ports w c.new-world.ensures before c.new-places.ensures.items sides c.in_ok-sides.sides.items c.as_mut_slice.ensures.value c.in_ok-sides.ensures.sides many c.args.tops.now c.search.new.tops (c.search.ensures.once pool starting)
+    once-whole pool request ports w c.new-world.ensures before c.new-places.ensures.items sides c.in_ok-sides.sides.items c.as_mut_slice.ensures.value c.in_ok-sides.ensures.sides many c.args.tops.now c.search-searched.new.tops (c.search-searched.ensures.once pool starting)
 
-pub returns-in_err-search-clause-ratio : goal.returns-in_err-search-clause-ratio
-returns-in_err-search-clause-ratio g c small stored =
+pub returns-in_err-found-clause-ratio : goal.returns-in_err-found-clause-ratio
+returns-in_err-found-clause-ratio g c small stored =
     let stock = stock_of c.args.store.now in
     let pool : Pool = pool_of c.args.moment stock (g.H.Holdings.is_offered c.args.held.now) (g.H.Holdings.holding c.args.held.now) in
     let request = ad_frames c.args.request.now.ad in
     let ports = c.args.request.now.ports in
-    omega (arith, c.search.ensures.ratio (start-small pool request ports (world_of c.new-world.result) c.new-world.ensures small) (sides-small pool request ports c.as_mut_slice.result.now c.in_ok-sides.sides.items c.as_mut_slice.ensures.value c.in_ok-sides.ensures.sides stored))
+    omega (arith, c.search-searched.ensures.ratio (start-small pool request ports (world_of c.new-world.result) c.new-world.ensures small) (sides-small pool request ports c.as_mut_slice.result.now c.in_ok-sides.sides.items c.as_mut_slice.ensures.value c.in_ok-sides.ensures.sides stored))
 
-pub returns-then-not-branch-clause-ratio : goal.returns-then-not-branch-clause-ratio
-returns-then-not-branch-clause-ratio g c small stored =
+pub returns-then-not-found-clause-ratio : goal.returns-then-not-found-clause-ratio
+returns-then-not-found-clause-ratio g c small stored =
     let stock = stock_of c.args.store.now in
     let pool : Pool = pool_of c.args.moment stock (g.H.Holdings.is_offered c.args.held.now) (g.H.Holdings.holding c.args.held.now) in
     let request = ad_frames c.args.request.now.ad in
     let ports = c.args.request.now.ports in
-    omega (arith, c.search.ensures.ratio (start-small pool request ports (world_of c.new-world.result) c.new-world.ensures small) (sides-small pool request ports c.as_mut_slice.result.now c.in_ok-sides.sides.items c.as_mut_slice.ensures.value c.in_ok-sides.ensures.sides stored))
+    omega (arith, c.search-searched.ensures.ratio (start-small pool request ports (world_of c.new-world.result) c.new-world.ensures small) (sides-small pool request ports c.as_mut_slice.result.now c.in_ok-sides.sides.items c.as_mut_slice.ensures.value c.in_ok-sides.ensures.sides stored))
 
 pub returns-in_err-slots_at-clause-ratio : goal.returns-in_err-slots_at-clause-ratio
 returns-in_err-slots_at-clause-ratio g c small stored =
@@ -234,7 +234,7 @@ returns-in_err-slots_at-clause-ratio g c small stored =
     let pool : Pool = pool_of c.args.moment stock (g.H.Holdings.is_offered c.args.held.now) (g.H.Holdings.holding c.args.held.now) in
     let request = ad_frames c.args.request.now.ad in
     let ports = c.args.request.now.ports in
-    omega (arith, c.search.ensures.ratio (start-small pool request ports (world_of c.new-world.result) c.new-world.ensures small) (sides-small pool request ports c.as_mut_slice.result.now c.in_ok-sides.sides.items c.as_mut_slice.ensures.value c.in_ok-sides.ensures.sides stored))
+    omega (arith, c.search-searched.ensures.ratio (start-small pool request ports (world_of c.new-world.result) c.new-world.ensures small) (sides-small pool request ports c.as_mut_slice.result.now c.in_ok-sides.sides.items c.as_mut_slice.ensures.value c.in_ok-sides.ensures.sides stored))
 
 pub returns-clause-ratio : goal.returns-clause-ratio
 returns-clause-ratio g c small stored =
@@ -242,4 +242,4 @@ returns-clause-ratio g c small stored =
     let pool : Pool = pool_of c.args.moment stock (g.H.Holdings.is_offered c.args.held.now) (g.H.Holdings.holding c.args.held.now) in
     let request = ad_frames c.args.request.now.ad in
     let ports = c.args.request.now.ports in
-    omega (arith, c.search.ensures.ratio (start-small pool request ports (world_of c.new-world.result) c.new-world.ensures small) (sides-small pool request ports c.as_mut_slice.result.now c.in_ok-sides.sides.items c.as_mut_slice.ensures.value c.in_ok-sides.ensures.sides stored))
+    omega (arith, c.search-searched.ensures.ratio (start-small pool request ports (world_of c.new-world.result) c.new-world.ensures small) (sides-small pool request ports c.as_mut_slice.result.now c.in_ok-sides.sides.items c.as_mut_slice.ensures.value c.in_ok-sides.ensures.sides stored))

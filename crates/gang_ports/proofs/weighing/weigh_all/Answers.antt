@@ -1,4 +1,5 @@
-use Rattle.std.proofs.Common.{◌≡◌, ◌<◌, ◌≤◌, ◌+◌, length, get_or, set, ap, sym, ◌∙◌, subst, arith}
+use Rattle.std.proofs.Common.{◌≡◌, ◌<◌, ◌≤◌, ◌+◌, ◌++◌, [], length, get_or, set, ap, refl, sym, ◌∙◌, subst, arith}
+use Rattle.std.specs.List.{cons_option}
 use Rattle.std.proofs.lemmas.List.Edits.{map_over_more}
 use Rattle.eval_scope.specs.Shown.{world_of}
 use Rattle.gang_ports.specs.declared.weighing.Resource.{Resource}
@@ -8,8 +9,8 @@ use Rattle.gang_ports.proofs.ListLemmas.{count-all, count-next, count-within}
 use Rattle.gang_ports.proofs.SmallLemmas.{item-small}
 use Rattle.gang_ports.proofs.weighing.weigh_all.Goals as goal
 
-pub returns-in_err-found-clause-evaluations : goal.returns-in_err-found-clause-evaluations
-returns-in_err-found-clause-evaluations g c =
+pub returns-in_err-weigh-clause-evaluations : goal.returns-in_err-weigh-clause-evaluations
+returns-in_err-weigh-clause-evaluations g c =
     let w = world_of c.args.world.now in
     let before = c.args.before.now in
     let start = c.args.resources.now in
@@ -20,8 +21,8 @@ returns-in_err-found-clause-evaluations g c =
     count-within (evaluations_in before) start i c.args.tops.now c.loop-resource.tops c.loop-resource.invariant.evaluations item c.weigh.new.tops within at
     (subst (λ (r : Resource). c.weigh.new.tops ≤ c.loop-resource.tops + evaluations_in before r) (sym c.resource-item.is) c.weigh.ensures.evaluations)
 
-pub returns-in_err-found-clause-entries : goal.returns-in_err-found-clause-entries
-returns-in_err-found-clause-entries g c =
+pub returns-in_err-weigh-clause-entries : goal.returns-in_err-weigh-clause-entries
+returns-in_err-weigh-clause-entries g c =
     let w = world_of c.args.world.now in
     let before = c.args.before.now in
     let start = c.args.resources.now in
@@ -32,42 +33,8 @@ returns-in_err-found-clause-entries g c =
     count-within (attributes_of w before) start i c.args.entry.now c.loop-resource.entry c.loop-resource.invariant.entries item c.weigh.new.entry within at
     (subst (λ (r : Resource). c.weigh.new.entry ≤ c.loop-resource.entry + attributes_of w before r) (sym c.resource-item.is) c.weigh.ensures.entries)
 
-pub returns-in_err-found-clause-ratio : goal.returns-in_err-found-clause-ratio
-returns-in_err-found-clause-ratio g c small are =
-    let w = world_of c.args.world.now in
-    let before = c.args.before.now in
-    let start = c.args.resources.now in
-    let i = c.loop-resource.resource-index in
-    let item = c.resource-item.result in
-    let within : i < length start = omega (arith, c.loop-resource-test.true, c.loop-resource.auto.resource-index-end, c.loop-resource.auto.resources) in
-    omega (arith, c.loop-resource.invariant.ratio small are, c.weigh.ensures.ratio small (item-small (weighed_in w before) start c.loop-resource.resources i item within c.resource-item.is c.loop-resource.invariant.kept are))
-
-pub returns-in_err-keep-clause-evaluations : goal.returns-in_err-keep-clause-evaluations
-returns-in_err-keep-clause-evaluations g c =
-    let w = world_of c.args.world.now in
-    let before = c.args.before.now in
-    let start = c.args.resources.now in
-    let i = c.loop-resource.resource-index in
-    let item = c.resource-item.result in
-    let within : i < length start = omega (arith, c.loop-resource-test.true, c.loop-resource.auto.resource-index-end, c.loop-resource.auto.resources) in
-    let at : item ≡ get_or start i item = item-at (weighed_in w before) start c.loop-resource.resources i item c.resource-item.is c.loop-resource.invariant.kept in
-    count-within (evaluations_in before) start i c.args.tops.now c.loop-resource.tops c.loop-resource.invariant.evaluations item c.weigh.new.tops within at
-    (subst (λ (r : Resource). c.weigh.new.tops ≤ c.loop-resource.tops + evaluations_in before r) (sym c.resource-item.is) c.weigh.ensures.evaluations)
-
-pub returns-in_err-keep-clause-entries : goal.returns-in_err-keep-clause-entries
-returns-in_err-keep-clause-entries g c =
-    let w = world_of c.args.world.now in
-    let before = c.args.before.now in
-    let start = c.args.resources.now in
-    let i = c.loop-resource.resource-index in
-    let item = c.resource-item.result in
-    let within : i < length start = omega (arith, c.loop-resource-test.true, c.loop-resource.auto.resource-index-end, c.loop-resource.auto.resources) in
-    let at : item ≡ get_or start i item = item-at (weighed_in w before) start c.loop-resource.resources i item c.resource-item.is c.loop-resource.invariant.kept in
-    count-within (attributes_of w before) start i c.args.entry.now c.loop-resource.entry c.loop-resource.invariant.entries item c.weigh.new.entry within at
-    (subst (λ (r : Resource). c.weigh.new.entry ≤ c.loop-resource.entry + attributes_of w before r) (sym c.resource-item.is) c.weigh.ensures.entries)
-
-pub returns-in_err-keep-clause-ratio : goal.returns-in_err-keep-clause-ratio
-returns-in_err-keep-clause-ratio g c small are =
+pub returns-in_err-weigh-clause-ratio : goal.returns-in_err-weigh-clause-ratio
+returns-in_err-weigh-clause-ratio g c small are =
     let w = world_of c.args.world.now in
     let before = c.args.before.now in
     let start = c.args.resources.now in
@@ -88,10 +55,10 @@ loop-resource-preserved g c =
     let now = c.loop-resource.resources in
     record {
       tries =
-          found-next (candidate_in w before) start i item c.loop-resource.tries.items c.keep.new.tries.items c.in_ok-found.found within at c.loop-resource.invariant.tries
-          (c.in_ok-found.ensures.found ∙ ap (candidate_in w before) (sym c.resource-item.is)) c.in_ok-keep.ensures;
+          found-next (candidate_in w before) start i item c.loop-resource.tries.items c.weigh.new.tries.items (candidate_in w before item) within at c.loop-resource.invariant.tries
+          refl (c.in_ok-weigh.ensures.found ∙ ap (λ (r : Resource). c.loop-resource.tries.items ++ cons_option (candidate_in w before r) []) (sym c.resource-item.is));
       kept =
-          ap (λ (r : Resource). set now i r) (c.in_ok-found.ensures.kept ∙ ap (weighed_in w before) (sym c.resource-item.is))
+          ap (λ (r : Resource). set now i r) (c.in_ok-weigh.ensures.kept ∙ ap (weighed_in w before) (sym c.resource-item.is))
           ∙ map_over_more (weighed_in w before) start now i item within c.loop-resource.invariant.kept c.resource-item.is;
       evaluations =
           count-next (evaluations_in before) start i c.args.tops.now c.loop-resource.tops c.loop-resource.invariant.evaluations item c.weigh.new.tops within at

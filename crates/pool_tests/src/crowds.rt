@@ -10,15 +10,19 @@ use std::test::Fail;
 fn machines(alloc: Global, count: u64) -> Result<Text, OutOfMemory> {
     let mut script = Text::new(alloc);
     for i in 0..count {
-        script.append(b"advertise m")?;
-        append_count(&mut script, i)?;
-        script.append(b" 600\n[ A")?;
-        append_count(&mut script, i % 1000)?;
-        script.append(b" = ")?;
-        append_count(&mut script, i)?;
-        script.append(b"; Requirements = true ]\n.\n")?;
+        append_machine(&mut script, i)?;
     }
     Ok(script)
+}
+
+fn append_machine(script: &mut Text, i: u64) -> Result<(), OutOfMemory> {
+    script.append(b"advertise m")?;
+    append_count(script, i)?;
+    script.append(b" 600\n[ A")?;
+    append_count(script, i % 1000)?;
+    script.append(b" = ")?;
+    append_count(script, i)?;
+    script.append(b"; Requirements = true ]\n.\n")
 }
 
 // A run of this script refuses one command, and its last replies are these.
@@ -65,13 +69,17 @@ fn long_texts(alloc: Global, count: u64) -> Result<Text, OutOfMemory> {
     let block = longest_block(alloc)?;
     let mut script = Text::new(alloc);
     for i in 0..count {
-        script.append(b"advertise m")?;
-        append_count(&mut script, i)?;
-        script.append(b" 600\n")?;
-        script.append(block.bytes())?;
-        script.append(b".\n")?;
+        append_text(&mut script, i, block.bytes())?;
     }
     Ok(script)
+}
+
+fn append_text(script: &mut Text, i: u64, block: &[u8]) -> Result<(), OutOfMemory> {
+    script.append(b"advertise m")?;
+    append_count(script, i)?;
+    script.append(b" 600\n")?;
+    script.append(block)?;
+    script.append(b".\n")
 }
 
 /// Three ads more, of which the second takes the place of a long one.

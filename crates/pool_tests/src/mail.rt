@@ -1,9 +1,8 @@
 // Mailboxes that listen to a run.
-use crate::runs::{calls, run_with};
+use crate::runs::{calls, run_over, source_of};
 use notice_desk::{Desk, MemoryMailbox, Notices};
 use pool_engine::*;
-use pool_io::{MemorySink, MemorySource};
-use pool_text::{OutOfMemory, Slots, Text};
+use pool_text::{OutOfMemory, Text};
 use std::alloc::Global;
 use std::process::Abort;
 use std::test::Fail;
@@ -36,9 +35,38 @@ fn mailbox(alloc: Global, fails: usize) -> Result<Box<MemoryMailbox>, OutOfMemor
 // Runs a script with a box for `m`, which fails at one of its notices, and a box for `u`.
 fn run_heard(alloc: Global, script: &[u8], fails: usize) -> Result<Seen, OutOfMemory> {
     let mut desk = Desk::new(alloc);
-    let _added = desk.add(b"m", mailbox(alloc, fails)?);
-    let _added = desk.add(b"u", mailbox(alloc, 0)?);
-    let replies = replies(alloc, script, &mut desk)?;
+    let seen = run_on(alloc, script, fails, &mut desk);
+    drop(desk);
+    seen
+}
+
+// The same on a desk that is empty.
+fn run_on(
+    alloc: Global,
+    script: &[u8],
+    fails: usize,
+    desk: &mut Desk,
+) -> Result<Seen, OutOfMemory> {
+    listen(alloc, desk, b"m", fails)?;
+    listen(alloc, desk, b"u", 0)?;
+    let replies = replies(alloc, script, desk)?;
+    what_is_seen(alloc, desk, replies)
+}
+
+/// Puts a box on a desk, which fails at one of its notices.
+pub(crate) fn listen(
+    alloc: Global,
+    desk: &mut Desk,
+    name: &[u8],
+    fails: usize,
+) -> Result<(), OutOfMemory> {
+    let mailbox = mailbox(alloc, fails)?;
+    drop(desk.add(name, mailbox));
+    Ok(())
+}
+
+// What was written, and what the boxes show.
+fn what_is_seen(alloc: Global, desk: &Desk, replies: Text) -> Result<Seen, OutOfMemory> {
     Ok(Seen {
         replies,
         m: kept(alloc, desk.shown(b"m"))?,
@@ -57,12 +85,11 @@ fn kept(alloc: Global, shown: Option<&[u8]>) -> Result<Option<Text>, OutOfMemory
 
 // What a script writes, over a desk.
 fn replies<D: Notices>(alloc: Global, script: &[u8], desk: &mut D) -> Result<Text, OutOfMemory> {
-    let text = Text::from_bytes(alloc, script)?;
-    let mut source = MemorySource::new(text, 7, Slots::new(alloc));
-    let mut sink = MemorySink::new(alloc, 99, 1 << 20, Slots::new(alloc))?;
-    let words = Vec::new(alloc);
-    let _end = run_with(alloc, &words, &mut source, &mut sink, desk);
-    Text::from_bytes(alloc, sink.taken())
+    let mut source = source_of(alloc, script, 7, 0)?;
+    let ran = run_over(alloc, &[], &mut source, (99, 0), desk);
+    drop(source);
+    let (_, written) = ran?;
+    Ok(written)
 }
 
 // Whether a box shows these bytes.

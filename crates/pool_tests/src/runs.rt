@@ -1,6 +1,7 @@
 // Scripts over sources and sinks in memory that are cut and fail.
 ghost use Rattle.std.specs.Prelude.{◌≡◌};
 
+use crate::mail::texts;
 use notice_desk::{Desk, Notices};
 use pool_engine::*;
 use pool_io::{MemorySink, MemorySource};
@@ -21,6 +22,52 @@ pub(crate) fn calls(alloc: Global, number: usize) -> Result<Slots, OutOfMemory> 
     Ok(list)
 }
 
+/// A source of these bytes, which gives so many a call and fails at one call.
+pub(crate) fn source_of(
+    alloc: Global,
+    bytes: &[u8],
+    most: usize,
+    fails: usize,
+) -> Result<MemorySource, OutOfMemory> {
+    let failing = calls(alloc, fails)?;
+    let text = Text::from_bytes(alloc, bytes)?;
+    Ok(MemorySource::new(text, most.max(1), failing))
+}
+
+/// A sink that takes so many bytes a call and fails at one call.
+pub(crate) fn sink_of(alloc: Global, most: usize, fails: usize) -> Result<MemorySink, OutOfMemory> {
+    let failing = calls(alloc, fails)?;
+    MemorySink::new(alloc, most.max(1), 1 << 20, failing)
+}
+
+/// How a run ends over a sink that takes so many bytes a call and fails at one call, and what was written.
+pub(crate) fn run_over<D: Notices>(
+    alloc: Global,
+    words: &[Text],
+    source: &mut MemorySource,
+    (most, fails): (usize, usize),
+    desk: &mut D,
+) -> Result<(RunEnd, Text), OutOfMemory> {
+    let mut sink = sink_of(alloc, most, fails)?;
+    let end = run_with(alloc, words, source, &mut sink, desk);
+    let written = Text::from_bytes(alloc, sink.taken());
+    drop(sink);
+    Ok((end, written?))
+}
+
+// The same over an empty desk.
+fn run_alone(
+    alloc: Global,
+    words: &[Text],
+    source: &mut MemorySource,
+    sink: (usize, usize),
+) -> Result<(RunEnd, Text), OutOfMemory> {
+    let mut desk = Desk::new(alloc);
+    let ran = run_over(alloc, words, source, sink, &mut desk);
+    drop(desk);
+    ran
+}
+
 // How a run ends over a source and a sink that take so many bytes a call and fail at one call each, and what was written.
 pub(crate) fn run(
     alloc: Global,
@@ -29,13 +76,10 @@ pub(crate) fn run(
     source_fails: usize,
     sink_fails: usize,
 ) -> Result<(RunEnd, Text), OutOfMemory> {
-    let text = Text::from_bytes(alloc, script)?;
-    let mut source = MemorySource::new(text, most.0.max(1), calls(alloc, source_fails)?);
-    let mut sink = MemorySink::new(alloc, most.1.max(1), 1 << 20, calls(alloc, sink_fails)?)?;
-    let words = Vec::new(alloc);
-    let end = run_uncounted(alloc, &words, &mut source, &mut sink);
-    let written = Text::from_bytes(alloc, sink.taken())?;
-    Ok((end, written))
+    let mut source = source_of(alloc, script, most.0, source_fails)?;
+    let ran = run_alone(alloc, &[], &mut source, (most.1, sink_fails));
+    drop(source);
+    ran
 }
 
 /// A run over such a source and such a sink, which fail at these calls, ends like this, with these replies.
@@ -81,17 +125,6 @@ fn run_counted<F: Ledger, E: Ledger, T: Ledger, D: Notices>(
     run_pool(
         alloc, words, source, sink, desk, &mut tops, &mut entry, &mut touch,
     )
-}
-
-// Runs it with a desk that is empty.
-fn run_uncounted(
-    alloc: Global,
-    words: &[Text],
-    source: &mut MemorySource,
-    sink: &mut MemorySink,
-) -> RunEnd {
-    let mut desk = Desk::new(alloc);
-    run_with(alloc, words, source, sink, &mut desk)
 }
 
 /// Runs a script with a desk, and counters that nothing reads.
@@ -164,14 +197,11 @@ fn a_reply_is_offered_before_the_next_read(rt: HostRuntime) -> Result<(), Fail> 
 
 // How a run of a script ends where it is given this word, and what was written.
 fn run_with_word(alloc: Global, word: &[u8]) -> Result<(RunEnd, Text), OutOfMemory> {
-    let mut words = Vec::new(alloc);
-    words.push(Text::from_bytes(alloc, word)?)?;
-    let text = Text::from_bytes(alloc, b"eval 1")?;
-    let mut source = MemorySource::new(text, 4096, Slots::new(alloc));
-    let mut sink = MemorySink::new(alloc, 4096, 100, Slots::new(alloc))?;
-    let end = run_uncounted(alloc, &words, &mut source, &mut sink);
-    let written = Text::from_bytes(alloc, sink.taken())?;
-    Ok((end, written))
+    let words = texts(alloc, &[word])?;
+    let mut source = source_of(alloc, b"eval 1", 4096, 0)?;
+    let ran = run_alone(alloc, &words, &mut source, (4096, 0));
+    drop(source);
+    ran
 }
 
 #[test]

@@ -1,7 +1,7 @@
 // Schedules of the claiming protocol with their replies, over sources and sinks in memory that are cut and fail.
-use crate::runs::calls;
+use crate::runs::{sink_of, source_of};
 use pool_engine::{RunEnd, run_wire};
-use pool_io::{MemorySink, MemorySource};
+use pool_io::MemorySource;
 use pool_text::{OutOfMemory, Text};
 use std::alloc::Global;
 use std::process::Abort;
@@ -16,12 +16,23 @@ fn run(
     source_fails: usize,
     sink_fails: usize,
 ) -> Result<(RunEnd, Text), OutOfMemory> {
-    let text = Text::from_bytes(alloc, schedule)?;
-    let mut source = MemorySource::new(text, most.0.max(1), calls(alloc, source_fails)?);
-    let mut sink = MemorySink::new(alloc, most.1.max(1), 1 << 20, calls(alloc, sink_fails)?)?;
-    let end = run_wire(alloc, 1, 2, &mut source, &mut sink);
-    let written = Text::from_bytes(alloc, sink.taken())?;
-    Ok((end, written))
+    let mut source = source_of(alloc, schedule, most.0, source_fails)?;
+    let ran = run_over(alloc, &mut source, (most.1, sink_fails));
+    drop(source);
+    ran
+}
+
+// The same over a sink that takes so many bytes a call and fails at one call.
+fn run_over(
+    alloc: Global,
+    source: &mut MemorySource,
+    (most, fails): (usize, usize),
+) -> Result<(RunEnd, Text), OutOfMemory> {
+    let mut sink = sink_of(alloc, most, fails)?;
+    let end = run_wire(alloc, 1, 2, source, &mut sink);
+    let written = Text::from_bytes(alloc, sink.taken());
+    drop(sink);
+    Ok((end, written?))
 }
 
 // A run over such a source and such a sink, which fail at these calls, ends like this, with these replies.

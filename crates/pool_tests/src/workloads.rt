@@ -1,10 +1,10 @@
 // Workloads, and the words that ask for them.
-use crate::mail::texts;
-use crate::runs::{calls, run_with};
-use notice_desk::{Desk, MemoryMailbox, Notices};
+use crate::mail::{listen, texts};
+use crate::runs::{run_over, source_of};
+use notice_desk::{Desk, Notices};
 use pool_engine::*;
-use pool_io::{MemorySink, MemorySource, Source};
-use pool_text::{OutOfMemory, Slots, Text};
+use pool_io::{MemorySource, Source};
+use pool_text::{OutOfMemory, Text};
 use std::alloc::Global;
 use std::process::Abort;
 use std::test::Fail;
@@ -21,12 +21,23 @@ fn run(
     fails: usize,
 ) -> Result<(RunEnd, Text), OutOfMemory> {
     let words = texts(alloc, words)?;
-    let mut source = MemorySource::new(Text::new(alloc), 9, calls(alloc, 1)?);
-    let mut sink = MemorySink::new(alloc, most.max(1), 1 << 20, calls(alloc, fails)?)?;
     let mut desk = Desk::new(alloc);
-    let end = run_with(alloc, &words, &mut source, &mut sink, &mut desk);
-    let written = Text::from_bytes(alloc, sink.taken())?;
-    Ok((end, written))
+    let ran = run_to(alloc, &words, (most, fails), &mut desk);
+    drop(desk);
+    ran
+}
+
+// The same on a desk, over a source that fails at its first call.
+fn run_to(
+    alloc: Global,
+    words: &[Text],
+    sink: (usize, usize),
+    desk: &mut Desk,
+) -> Result<(RunEnd, Text), OutOfMemory> {
+    let mut source = source_of(alloc, b"", 9, 1)?;
+    let ran = run_over(alloc, words, &mut source, sink, desk);
+    drop(source);
+    ran
 }
 
 // Such a run ends like this, with these bytes.
@@ -54,18 +65,19 @@ fn a_summary_is_written(rt: HostRuntime) -> Result<(), Fail> {
 }
 
 // How a workload ends over a source.
-fn run_over(alloc: Global, source: &mut MemorySource) -> Result<RunEnd, OutOfMemory> {
+fn run_from(alloc: Global, source: &mut MemorySource) -> Result<RunEnd, OutOfMemory> {
     let words = texts(alloc, FOUR)?;
-    let mut sink = MemorySink::new(alloc, 99, 1 << 20, Slots::new(alloc))?;
     let mut desk = Desk::new(alloc);
-    Ok(run_with(alloc, &words, source, &mut sink, &mut desk))
+    let ran = run_over(alloc, &words, source, (99, 0), &mut desk);
+    drop(desk);
+    let (end, _) = ran?;
+    Ok(end)
 }
 
 #[test]
 fn the_source_is_left_alone(rt: HostRuntime) -> Result<(), Fail> {
-    let script = Text::from_bytes(rt.alloc(), b"eval 1")?;
-    let mut source = MemorySource::new(script, 99, calls(rt.alloc(), 1)?);
-    let end = run_over(rt.alloc(), &mut source)?;
+    let mut source = source_of(rt.alloc(), b"eval 1", 99, 1)?;
+    let end = run_from(rt.alloc(), &mut source)?;
     assert!(rt; end.status() == 0);
     // The first call fails still, and the second one reads all.
     let mut buffer = [0; 99];
@@ -90,27 +102,17 @@ fn each_write_may_fail(rt: HostRuntime) -> Result<(), Fail> {
     Ok(())
 }
 
-fn listen(alloc: Global, desk: &mut Desk, name: &[u8]) -> Result<(), OutOfMemory> {
-    let mailbox = MemoryMailbox::new(alloc, 1 << 10, Slots::new(alloc))?;
-    let _added = desk.add(name, Box::new(alloc, mailbox)?);
-    Ok(())
-}
-
 // How a workload to which names listen ends, and what was written.
 fn run_heard(alloc: Global, desk: &mut Desk) -> Result<(RunEnd, Text), OutOfMemory> {
     let words = texts(alloc, &[b"--mail", b"bob=x", b"--generate", b"4"])?;
-    let mut source = MemorySource::new(Text::new(alloc), 9, Slots::new(alloc));
-    let mut sink = MemorySink::new(alloc, 99, 1 << 20, Slots::new(alloc))?;
-    let end = run_with(alloc, &words, &mut source, &mut sink, desk);
-    let written = Text::from_bytes(alloc, sink.taken())?;
-    Ok((end, written))
+    run_to(alloc, &words, (99, 0), desk)
 }
 
 #[test]
 fn names_listen_to_a_workload(rt: HostRuntime) -> Result<(), Fail> {
     let mut desk = Desk::new(rt.alloc());
-    listen(rt.alloc(), &mut desk, b"alice")?;
-    listen(rt.alloc(), &mut desk, b"bob")?;
+    listen(rt.alloc(), &mut desk, b"alice", 0)?;
+    listen(rt.alloc(), &mut desk, b"bob", 0)?;
     let (end, written) = run_heard(rt.alloc(), &mut desk)?;
     assert!(rt; end == RunEnd::Done { refused: 0 });
     assert!(rt; written.bytes() == FOUR_SUMMARY);

@@ -4,6 +4,7 @@ use Rattle.std.specs.List.{find, list_all}
 use Rattle.std.specs.Option.{option_and_then, option_map_or}
 use Rattle.std.specs.Cmp.Lexicographic.{bytes_decides}
 use Rattle.std.proofs.lemmas.List.Elements.{All-cons, All-head, All-nil, All-tail}
+use Rattle.std.proofs.lemmas.Option.{none-some, same_Some}
 use Rattle.ad_tree.specs.declared.request.Request.{Request}
 use Rattle.ad_store.specs.Stock.{Stock}
 use Rattle.ad_store.proofs.HeldLemmas.{both}
@@ -76,11 +77,11 @@ kept-released P (Some i) jobs kept = kept-standing P i Standing.Idle jobs kept
 -- ---- the job of a name
 
 named-by : (name : List ℕ) (jobs : List Job) (job : Job) → find (is_named name) jobs ≡ Some job → is_named name job ≡ true
-named-by name [] job found = absurd (cc)
+named-by name [] job found = absurd (none-some job found)
 named-by name (x ∷ xs) job found = by (is_named name x) refl found (λ later. named-by name xs job later)
   where
     by : (b : Bool) → is_named name x ≡ b → cond b (Some x) (find (is_named name) xs) ≡ Some job → (find (is_named name) xs ≡ Some job → is_named name job ≡ true) → is_named name job ≡ true
-    by true is here rest = let same : x ≡ job = cc in ap (is_named name) (sym same) ∙ is
+    by true is here rest = let same : x ≡ job = same_Some x job here in ap (is_named name) (sym same) ∙ is
     by false is later rest = rest later
 
 itself : (name : List ℕ) → bytes_eq name name ≡ true

@@ -4,6 +4,7 @@ use Rattle.std.specs.List.{find, list_all, list_any, position_or_len}
 use Rattle.std.specs.Option.{option_map_or}
 use Rattle.std.proofs.lemmas.List.{take-map}
 use Rattle.std.proofs.lemmas.List.Elements.{All-head, All-tail}
+use Rattle.std.proofs.lemmas.Option.{none-some as never_found, same_Some}
 use Rattle.ad_tree.specs.Ad.{ad_frames}
 use Rattle.ad_tree.specs.Frames.{Frame}
 use Rattle.ad_tree.specs.declared.request.Port.{Port}
@@ -55,14 +56,14 @@ claim-held slots (Standing.Matched own) held = refl
 claim-held slots (Standing.Claimed own) held = held
 
 found-held : (slots : List ℕ) (test : Job → Bool) (jobs : List Job) (job : Job) → are_stored slots jobs ≡ true → find test jobs ≡ Some job → is_stored slots job ≡ true
-found-held slots test [] job stored found = absurd (cc)
+found-held slots test [] job stored found = absurd (never_found job found)
 found-held slots test (x ∷ jobs) job stored found = by (test x) found (λ later. found-held slots test jobs job parts.1 later)
   where
     parts : (is_stored slots x ≡ true) × (are_stored slots jobs ≡ true)
     parts = both (is_stored slots x) (are_stored slots jobs) stored
 
     by : (b : Bool) → cond b (Some x) (find test jobs) ≡ Some job → (find test jobs ≡ Some job → is_stored slots job ≡ true) → is_stored slots job ≡ true
-    by true is later = let same : x ≡ job = cc in ap (is_stored slots) (sym same) ∙ parts.0
+    by true is later = let same : x ≡ job = same_Some x job is in ap (is_stored slots) (sym same) ∙ parts.0
     by false is later = later is
 
 pub holders-stored : (stock : Stock) (jobs : List Job) → are_stored stock.slots jobs ≡ true → AreStored stock (holder_of jobs)
@@ -70,9 +71,9 @@ holders-stored stock jobs stored = λ slot h is.
     by slot h (find (λ job. lists (claim_of job.standing) slot) jobs) refl (sym (ap (option_map (holding_in slot)) (found-first (λ job. lists (claim_of job.standing) slot) jobs)) ∙ is)
   where
     by : (slot : ℕ) (h : Holding) (o : Option Job) → find (λ job. lists (claim_of job.standing) slot) jobs ≡ o → option_map (holding_in slot) o ≡ Some h → All (Contains stock.slots) h.slots
-    by slot h None found is = absurd (cc)
+    by slot h None found is = absurd (never_found h is)
     by slot h (Some job) found is =
-        let same : holding_in slot job ≡ h = cc in
+        let same : holding_in slot job ≡ h = same_Some (holding_in slot job) h is in
         subst (λ (k : Holding). All (Contains stock.slots) k.slots) same
         (all-contained stock.slots (claim_of job.standing) (claim-held stock.slots job.standing (found-held stock.slots (λ j. lists (claim_of j.standing) slot) jobs job stored found)))
 

@@ -1,6 +1,7 @@
 -- The jobs once one of them has another standing, by its number and by its name.
 use Rattle.std.proofs.Common.{◌≡◌, ℕ, zero, suc, Bool, true, false, bytes_eq, cond, List, [], ◌∷◌, map, position, slice_get, slice_set, Option, None, Some, refl, sym, ◌∙◌, ap}
 use Rattle.std.specs.Option.{option_map_or}
+use Rattle.std.proofs.lemmas.Option.{none-some, same_Some}
 use Rattle.ad_store.specs.Stock.{Stock}
 use Rattle.claim_table.specs.Claims as claims
 use Rattle.claim_table.specs.Jobs.{AreNamedApart, idle_at, is_named, numbered, with_standing}
@@ -16,6 +17,9 @@ use Rattle.pool_state.proofs.QueueLemmas.{AtMostOne, none_behind, once_behind}
 
 -- ---- the job of a name with another standing
 
+never_next : {A : Type 0} (i : ℕ) → 0 ≡ suc i → A
+never_next i clash = absurd (cc)
+
 none_restood : (stock : Stock) (name : List ℕ) (standing : JobStanding) (jobs : List Job) → ((j : ℕ) (b : Job) → slice_get jobs j ≡ Some b → is_named name b ≡ false) → map (queued stock) jobs ≡ seen.restood name standing (map (queued stock) jobs)
 none_restood stock name standing [] none = refl
 none_restood stock name standing (x ∷ xs) none =
@@ -24,9 +28,9 @@ none_restood stock name standing (x ∷ xs) none =
 
 restood_where : (stock : Stock) (name : List ℕ) (standing : Standing) (jobs : List Job) (i : ℕ) (job : Job) → slice_get jobs i ≡ Some job → is_named name job ≡ true → AtMostOne (is_named name) jobs
     → map (queued stock) (with_standing jobs i standing) ≡ seen.restood name (named_standing stock standing) (map (queued stock) jobs)
-restood_where stock name standing [] i job at named once = absurd (cc)
+restood_where stock name standing [] i job at named once = absurd (none-some job at)
 restood_where stock name standing (x ∷ xs) zero job at named once =
-    let same : x ≡ job = cc in
+    let same : x ≡ job = same_Some x job at in
     let here : is_named name x ≡ true = ap (is_named name) same ∙ named in
     ap (λ b. cond b (record (queued stock x) { standing = named_standing stock standing }) (queued stock x) ∷ map (queued stock) xs) (sym here)
     ∙ ap (λ l. cond (is_named name x) (record (queued stock x) { standing = named_standing stock standing }) (queued stock x) ∷ l) (none_restood stock name (named_standing stock standing) xs (none_behind (is_named name) x xs once here))
@@ -36,7 +40,7 @@ restood_where stock name standing (x ∷ xs) (suc i) job at named once =
     ∙ ap (λ l. cond (is_named name x) (record (queued stock x) { standing = named_standing stock standing }) (queued stock x) ∷ l) (restood_where stock name standing xs i job at named (once_behind (is_named name) x xs once))
   where
     other : (b : Bool) → is_named name x ≡ b → b ≡ false
-    other true is = let clash : 0 ≡ suc i = once 0 (suc i) x job refl at is named in absurd (cc)
+    other true is = never_next i (once 0 (suc i) x job refl at is named)
     other false is = refl
 
 pub restood-seen : (stock : Stock) (name : List ℕ) (standing : Standing) (jobs : List Job) (i : ℕ) (job : Job) → AreNamedApart jobs → slice_get jobs i ≡ Some job → is_named name job ≡ true
@@ -66,13 +70,13 @@ record At (jobs : List Job) (i : ℕ) (name : List ℕ) : Type 0 where
   pub called : job.name ≡ name
 
 at-names : (jobs : List Job) (i : ℕ) (name : List ℕ) → slice_get (names jobs) i ≡ Some name → At jobs i name
-at-names [] i name at = absurd (cc)
-at-names (x ∷ xs) zero name at = record { job = x; at = refl; called = cc }
+at-names [] i name at = absurd (none-some name at)
+at-names (x ∷ xs) zero name at = record { job = x; at = refl; called = same_Some x.name name at }
 at-names (x ∷ xs) (suc i) name at = let rest = at-names xs i name at in record { job = rest.job; at = rest.at; called = rest.called }
 
 names-at : (jobs : List Job) (i : ℕ) (job : Job) → slice_get jobs i ≡ Some job → slice_get (names jobs) i ≡ Some job.name
-names-at [] i job at = absurd (cc)
-names-at (x ∷ xs) zero job at = let same : x ≡ job = cc in ap (λ (j : Job). Some j.name) same
+names-at [] i job at = absurd (none-some job at)
+names-at (x ∷ xs) zero job at = let same : x ≡ job = same_Some x job at in ap (λ (j : Job). Some j.name) same
 names-at (x ∷ xs) (suc i) job at = names-at xs i job at
 
 numbered-names : (name : List ℕ) (jobs later : List Job) → names later ≡ names jobs → numbered name later ≡ numbered name jobs

@@ -3,7 +3,7 @@ use Rattle.std.proofs.Common.{◌≡◌, ℕ, zero, suc, All, Bool, true, false,
 use Rattle.std.specs.List.{list_all}
 use Rattle.std.specs.Cmp.Lexicographic.{bytes_decides}
 use Rattle.std.proofs.lemmas.List.Elements.{All-cons, All-nil}
-use Rattle.std.proofs.lemmas.Option.{slice_get-map}
+use Rattle.std.proofs.lemmas.Option.{none-some, same_Some, slice_get-map}
 use Rattle.ad_store.specs.Stock.{Advert, Stock, has}
 use Rattle.ad_store.proofs.HeldLemmas.{both}
 use Rattle.claim_table.specs.declared.job.Job.{Job}
@@ -34,9 +34,9 @@ record Behind (stock : Stock) (jobs : List Job) (i : ℕ) (seen : QueuedJob) : T
   pub stored : is_stored stock.slots job ≡ true
 
 stored-at : (slots : List ℕ) (jobs : List Job) (i : ℕ) (job : Job) → are_stored slots jobs ≡ true → slice_get jobs i ≡ Some job → is_stored slots job ≡ true
-stored-at slots [] i job stored at = absurd (cc)
+stored-at slots [] i job stored at = absurd (none-some job at)
 stored-at slots (x ∷ jobs) zero job stored at =
-    let same : x ≡ job = cc in
+    let same : x ≡ job = same_Some x job at in
     ap (is_stored slots) (sym same) ∙ (both (is_stored slots x) (are_stored slots jobs) stored).0
 stored-at slots (x ∷ jobs) (suc i) job stored at = stored-at slots jobs i job (both (is_stored slots x) (are_stored slots jobs) stored).1 at
 
@@ -44,8 +44,8 @@ behind : (stock : Stock) (jobs : List Job) (i : ℕ) (seen : QueuedJob) → are_
 behind stock jobs i seen stored at = by (slice_get jobs i) refl (sym (slice_get-map (queued stock) jobs i) ∙ at)
   where
     by : (o : Option Job) → slice_get jobs i ≡ o → option_map (queued stock) o ≡ Some seen → Behind stock jobs i seen
-    by None found is = absurd (cc)
-    by (Some job) found is = record { job = job; at = found; is = cc; stored = stored-at stock.slots jobs i job stored found }
+    by None found is = absurd (none-some seen is)
+    by (Some job) found is = record { job = job; at = found; is = same_Some (queued stock job) seen is; stored = stored-at stock.slots jobs i job stored found }
 
 -- a slot's name is an ad's
 held-in : (stock : Stock) (beside : AreBeside stock.ads stock.slots) (slot : ℕ) (name : List ℕ) → lists stock.slots slot ≡ true → name ≡ name_in stock slot → Held stock name
@@ -53,10 +53,13 @@ held-in stock beside slot name listed is =
     let there : Named stock.ads stock.slots slot (named_beside stock.ads stock.slots slot) = name_there stock.ads stock.slots slot beside.long listed in
     record { place = there.place; advert = there.advert; slot = slot; at = there.at; slot_at = there.slot_at; called = there.called ∙ sym (beside-is stock.ads stock.slots slot) ∙ sym is }
 
+never_listed : {A : Type 0} → false ≡ true → A
+never_listed listed = absurd (cc)
+
 module _ (stock : Stock) (beside : AreBeside stock.ads stock.slots) where
   -- a listed name is an ad's
   held-of : (name : List ℕ) (own : List ℕ) → list_all (lists stock.slots) own ≡ true → is_listed name (map (name_in stock) own) ≡ true → Held stock name
-  held-of name [] stored listed = absurd (cc)
+  held-of name [] stored listed = never_listed listed
   held-of name (s ∷ own) stored listed = by (bytes_eq name (name_in stock s)) refl listed (λ later. held-of name own parts.1 later)
     where
       parts : (lists stock.slots s ≡ true) × (list_all (lists stock.slots) own ≡ true)
@@ -76,13 +79,22 @@ module _ (stock : Stock) (beside : AreBeside stock.ads stock.slots) where
         ∙ ap (λ n. is_listed n (map (name_in stock) (part job.standing))) held.called
         ∙ listed
 
+    held-by : (name : List ℕ) (jobs : List Job) (i : ℕ) (seen : QueuedJob) (x : Behind stock jobs i seen) → is_listed name (names seen.standing) ≡ true → Held stock name
+    held-by name jobs i seen x listed = held-of name (part x.job.standing) (within x.job.standing x.stored) (by-slots name x.job seen x.is listed)
+
+    lists-slot : (name : List ℕ) (held : Held stock name) (jobs : List Job) (i : ℕ) (seen : QueuedJob) (x : Behind stock jobs i seen) → is_listed name (names seen.standing) ≡ true → lists (part x.job.standing) held.slot ≡ true
+    lists-slot name held jobs i seen x listed = lists-it name held x.job x.stored (by-slots name x.job seen x.is listed)
+
+    -- two jobs that list an ad's name are one
+    one-place : (jobs : List Job) → AreApart part jobs → (name : List ℕ) (held : Held stock name) (i j : ℕ) (a b : QueuedJob) (x : Behind stock jobs i a) (y : Behind stock jobs j b) → is_listed name (names a.standing) ≡ true → is_listed name (names b.standing) ≡ true → i ≡ j
+    one-place jobs apart name held i j a b x y in_a in_b = apart held.slot i j x.job y.job x.at y.at (lists-slot name held jobs i a x in_a) (lists-slot name held jobs j b y in_b)
+
+    same-place : (jobs : List Job) → AreApart part jobs → (name : List ℕ) (i j : ℕ) (a b : QueuedJob) → Behind stock jobs i a → Behind stock jobs j b → is_listed name (names a.standing) ≡ true → is_listed name (names b.standing) ≡ true → i ≡ j
+    same-place jobs apart name i j a b x y in_a in_b = one-place jobs apart name (held-by name jobs i a x in_a) i j a b x y in_a in_b
+
     exclusive : (jobs : List Job) → are_stored stock.slots jobs ≡ true → AreApart part jobs → AreExclusive names (map (queued stock) jobs)
     exclusive jobs stored apart = λ name i j a b at_i at_j in_a in_b.
-        let x : Behind stock jobs i a = behind stock jobs i a stored at_i in
-        let y : Behind stock jobs j b = behind stock jobs j b stored at_j in
-        let own = by-slots name x.job a x.is in_a in
-        let held : Held stock name = held-of name (part x.job.standing) (within x.job.standing x.stored) own in
-        apart held.slot i j x.job y.job x.at y.at (lists-it name held x.job x.stored own) (lists-it name held y.job y.stored (by-slots name y.job b y.is in_b))
+        same-place jobs apart name i j a b (behind stock jobs i a stored at_i) (behind stock jobs j b stored at_j) in_a in_b
 
   -- ---- offers and claims
 

@@ -13,7 +13,7 @@ ghost use Rattle.pool_state.specs.Pool.{state_with};
 ghost use Rattle.pool_state.specs.Step as steps;
 
 use crate::books::Books;
-use crate::pool::told;
+use crate::pool::faulty;
 use ad_parser::parse_ad;
 use ad_printer::print_ad;
 use ad_store::{Put, PutFault, Store};
@@ -44,7 +44,7 @@ pub(crate) fn advertise<T: Ledger>(
 {
     let ad = match parse_ad(alloc, block) {
         Ok(ad) => ad,
-        Err(fault) => return Ok(Reply::Refused(Refusal::AdText(told(fault)?))),
+        Err(fault) => return faulty(fault),
     };
     let named = name.copy()?;
     let size = block.len() as u64;
@@ -69,12 +69,10 @@ pub(crate) fn withdraw<T: Ledger>(
     ensures printable { IfOk result (λ reply. IsTrue (is_printable reply)) }
     ensures looks { touch.new ≤ touch.old + 1 }
 {
-    let named = name.copy()?;
-    if books.withdraw(name.bytes(), touch)? {
-        Ok(Reply::Withdrawn(named))
-    } else {
-        Ok(Reply::Refused(Refusal::UnknownName))
+    if !books.withdraw(name.bytes(), touch)? {
+        return Ok(Reply::Refused(Refusal::UnknownName));
     }
+    Ok(Reply::Withdrawn(name.copy()?))
 }
 
 /// `show`: the ad of the name is printed. It counts one in `touch`.
@@ -96,15 +94,17 @@ pub(crate) fn show<T: Ledger>(
 }
 
 /// `list`: a row for each ad in order.
-pub(crate) fn rows(alloc: Global, books: &Books) -> Result<AdRows, OutOfMemory>
-    ensures { IfOk result (λ rows. rows ≡ map (steps.ad_row (queue_of books.now)) (ads_of books.now.ads)) }
+#[tactic(auto, unfolding(pool_replies::specs::Replies::is_printable))]
+pub(crate) fn list(alloc: Global, books: &Books) -> Result<Reply, OutOfMemory>
+    ensures reply { IfOk result (λ reply. steps.list (queue_of books.now) (ads_of books.now.ads) ≡ reply) }
+    ensures printable { IfOk result (λ reply. IsTrue (is_printable reply)) }
 {
     let store = &books.ads.store;
     let mut rows = AdRows::new(alloc);
     for i in 0..store.len() {
         rows.push(row(books, store.at(i))?)?;
     }
-    Ok(rows)
+    Ok(Reply::Ads(rows))
 }
 
 // The row of the ad in a slot.

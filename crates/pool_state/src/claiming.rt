@@ -1,7 +1,9 @@
 // The commands that claim what is offered to a job, and that give it back.
-ghost use Rattle.std.specs.Prelude.{◌≡◌, ◌≤◌, ◌+◌, ◌*◌, ℕ, List, map, Contains, IfOk, IsTrue};
+ghost use Rattle.std.specs.Prelude.{◌≡◌, ◌≤◌, ◌+◌, ◌*◌, ℕ, List, true, map, Contains, Err, IfOk, IsTrue};
 ghost use Rattle.ad_store.specs.Store.{stock_of};
+ghost use Rattle.claim_table.specs.declared.answers.ClaimFault.TheVariants as faults;
 ghost use Rattle.negotiator.specs.Priorities.{Setting};
+ghost use Rattle.pool_replies.specs.Refusals.{is_wrong_state};
 ghost use Rattle.pool_replies.specs.Replies.{is_printable};
 ghost use Rattle.pool_replies.specs.declared.refusal.Refusal.TheVariants as why;
 ghost use Rattle.pool_replies.specs.declared.reply.Reply.TheVariants as replies;
@@ -9,11 +11,12 @@ ghost use Rattle.pool_state.specs.Books.{queue_of};
 ghost use Rattle.pool_state.specs.ClaimAnswers as answers;
 ghost use Rattle.pool_state.specs.Claiming as steps;
 ghost use Rattle.pool_state.specs.Pool.{name_in, state_with};
+ghost use Rattle.pool_state.specs.State.{State};
 
 use crate::books::Books;
 use crate::negotiation::{name_of, names_of};
 use ad_store::Store;
-use claim_table::{ClaimFault, FreedList, JobFault};
+use claim_table::{ClaimFault, FreedList, JobFault, JobState};
 use pool_replies::{Refusal, Reply};
 use pool_steps::Steps;
 use pool_text::{Names, OutOfMemory, Text};
@@ -43,15 +46,34 @@ pub(crate) fn claim<F: Ledger, E: Ledger, T: Ledger>(
 {
     let named = job.copy()?;
     let names = names_given(alloc, books, job.bytes())?;
-    match books.claim(job.bytes(), moment, tops, entry, touch) {
+    let answer = books.claim(job.bytes(), moment, tops, entry, touch);
+    claim_reply(alloc, &books.ads.store, named, names, answer)
+}
+
+// The reply to a claim of a job, which has these resources, that is answered so.
+#[tactic(auto, unfolding(pool_replies::specs::Replies::is_printable, pool_replies::specs::Refusals::is_printable_refusal))]
+fn claim_reply(
+    alloc: Global,
+    store: &Store,
+    job: Text,
+    names: Names,
+    answer: Result<FreedList, ClaimFault>,
+) -> Result<Reply, OutOfMemory>
+    requires held { (slot : ℕ) → answer ≡ Err (faults.Stale slot) → Contains (stock_of store.now).slots slot }
+    requires wrong { (state : JobState) → answer ≡ Err (faults.WrongState state) → is_wrong_state state ≡ true }
+    ensures step { IfOk result (λ reply. (s t : State) → answers.IsClaimAnswer (stock_of store.now) s job t answer
+        → names ≡ answers.names_given job s.jobs → steps.claim s job ≡ (t, reply)) }
+    ensures printable { IfOk result (λ reply. IsTrue (is_printable reply)) }
+{
+    match answer {
         Ok(freed) => {
-            let reply = granted(alloc, named, names, &freed);
+            let reply = granted(alloc, job, names, &freed);
             drop(freed);
             reply
         }
         Err(ClaimFault::NoJob) => Ok(Reply::Refused(Refusal::UnknownName)),
         Err(ClaimFault::WrongState(state)) => Ok(Reply::Refused(Refusal::WrongState(state))),
-        Err(ClaimFault::Stale(slot)) => stale(&books.ads.store, slot),
+        Err(ClaimFault::Stale(slot)) => stale(store, slot),
         Err(ClaimFault::OutOfMemory) => Err(OutOfMemory),
     }
 }

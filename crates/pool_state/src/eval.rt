@@ -10,7 +10,7 @@ ghost use Rattle.pool_script.specs.Form.{is_expr};
 ghost use Rattle.pool_replies.specs.Replies.{is_printable};
 ghost use Rattle.pool_state.specs.Step as steps;
 
-use crate::pool::told;
+use crate::pool::faulty;
 use ad_eval::value;
 use ad_parser::parse_expr;
 use ad_printer::print_value;
@@ -40,7 +40,7 @@ pub(crate) fn eval<F: Ledger, E: Ledger>(
 {
     let phrase = match parse_expr(alloc, expr) {
         Ok(phrase) => phrase,
-        Err(fault) => return Ok(Reply::Refused(Refusal::AdText(told(fault)?))),
+        Err(fault) => return faulty(fault),
     };
     let ports = Ports::new(alloc);
     let text = value_alone(alloc, moment, &phrase, &ports, tops, entry);
@@ -69,7 +69,7 @@ pub(crate) fn eval_in<F: Ledger, E: Ledger, T: Ledger>(
 {
     let phrase = match parse_expr(alloc, expr) {
         Ok(phrase) => phrase,
-        Err(fault) => return Ok(Reply::Refused(Refusal::AdText(told(fault)?))),
+        Err(fault) => return faulty(fault),
     };
     let reply = eval_beside(alloc, store, moment, name, &phrase, tops, entry, touch);
     drop(phrase);

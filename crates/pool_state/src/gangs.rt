@@ -15,7 +15,7 @@ ghost use Rattle.pool_state.specs.Negotiation.{pool_in};
 
 use crate::books::Books;
 use crate::negotiation::names_of;
-use crate::pool::told;
+use crate::pool::faulty;
 use ad_parser::parse_ad;
 use ad_tree::{Ad, Ports, Request};
 use gang_ports::{PortsFault, first_gang, read_ports};
@@ -48,7 +48,7 @@ pub(crate) fn gang<F: Ledger, E: Ledger, T: Ledger>(
 {
     let ad = match parse_ad(alloc, block) {
         Ok(ad) => ad,
-        Err(fault) => return Ok(Reply::Refused(Refusal::AdText(told(fault)?))),
+        Err(fault) => return faulty(fault),
     };
     let Some(ports) = listed_ports(alloc, &ad)? else {
         return Ok(Reply::Refused(Refusal::BadPorts));

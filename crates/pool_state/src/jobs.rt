@@ -16,7 +16,7 @@ ghost use Rattle.pool_state.specs.Step as steps;
 
 use crate::books::Books;
 use crate::gangs::listed_ports;
-use crate::pool::told;
+use crate::pool::faulty;
 use ad_parser::parse_ad;
 use ad_tree::{Ad, Ports, Request};
 use negotiator::{Priorities, PriorityFault};
@@ -45,7 +45,7 @@ pub(crate) fn submit(
 {
     let ad = match parse_ad(alloc, block) {
         Ok(ad) => ad,
-        Err(fault) => return Ok(Reply::Refused(Refusal::AdText(told(fault)?))),
+        Err(fault) => return faulty(fault),
     };
     let size = block.len() as u64;
     if let Some(reason) = refusal(books, job.bytes(), size) {
@@ -54,9 +54,8 @@ pub(crate) fn submit(
     let Some(request) = request_of(alloc, ad)? else {
         return Ok(Reply::Refused(Refusal::BadPorts));
     };
-    let named = job.copy()?;
     books.submit(job.bytes(), user.bytes(), request, size)?;
-    Ok(Reply::Submitted(named))
+    Ok(Reply::Submitted(job.copy()?))
 }
 
 // The request of a job's ad, with the ports that the ad lists; none where these are bad.

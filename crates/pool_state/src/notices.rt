@@ -1,5 +1,5 @@
 // Notices about jobs, and those of a step by its reply.
-ghost use Rattle.std.specs.Prelude.{◌≡◌, ◌++◌, ◌∷◌, bytes_eq, IfOk, OnErr, OnOk};
+ghost use Rattle.std.specs.Prelude.{◌≡◌, ◌++◌, ◌∷◌, bytes_eq, codes, IfOk, OnErr, OnOk};
 ghost use Rattle.std.specs.List.{AllZip};
 ghost use Rattle.pool_replies.specs.Cycles.{with_blanks};
 ghost use Rattle.pool_state.specs.Notices as rules;
@@ -76,28 +76,51 @@ fn line(alloc: Global, word: &[u8], job: &Text, names: &Names) -> Result<Text, O
 {
     let mut line = Text::from_bytes(alloc, word)?;
     line.append(job.bytes())?;
-    for name in names.as_slice() {
-        line.append(b" ")?;
-        line.append(name.bytes())?;
-    }
+    append_names(&mut line, names)?;
     Ok(line)
 }
 
-/// Posts the notices of a step that is answered so to a desk. All memory is taken before the first post.
+// Appends the names, each with a blank before it.
+fn append_names(line: &mut Text, names: &Names) -> Result<(), OutOfMemory>
+    ensures { OnOk result (line.new ≡ line.old ++ with_blanks names.now) }
+{
+    for name in names.as_slice() {
+        append_name(line, name)?;
+    }
+    Ok(())
+}
+
+// Appends a blank and a name.
+fn append_name(line: &mut Text, name: &Text) -> Result<(), OutOfMemory>
+    ensures { OnOk result (line.new ≡ line.old ++ codes " " ++ name.now) }
+{
+    line.append(b" ")?;
+    line.append(name.bytes())
+}
+
+/// Posts the notices of a step that is answered so to a desk, and hands the reply on. All memory is taken before the first post.
 pub(crate) fn tell<D: Notices>(
     alloc: Global,
-    reply: &Reply,
+    reply: Reply,
     granted: NoticeList,
     stale: NoticeList,
     desk: &mut D,
-) -> Result<(), OutOfMemory>
-    ensures posted { OnOk result (AllZip (RowAfter (posts_of_all (rules.told reply.now granted stale)))
+) -> Result<Reply, OutOfMemory>
+    ensures same { IfOk result (λ told. told ≡ reply) }
+    ensures posted { OnOk result (AllZip (RowAfter (posts_of_all (rules.told reply granted stale)))
         (D.shows desk.old) (D.shows desk.new)) }
     ensures none { OnErr result (D.shows desk.new ≡ D.shows desk.old) }
 {
-    let notices = told(alloc, reply, granted, stale)?;
-    post_all(desk, &notices);
-    Ok(())
+    match told(alloc, &reply, granted, stale) {
+        Ok(notices) => {
+            post_all(desk, &notices);
+            Ok(reply)
+        }
+        Err(_) => {
+            drop(reply);
+            Err(OutOfMemory)
+        }
+    }
 }
 
 // The notices of a step that is answered so, from those of a command that isn't refused and those of a stale claim.

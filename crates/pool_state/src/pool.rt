@@ -5,6 +5,8 @@ ghost use Rattle.notice_desk.specs.Desk.{without};
 ghost use Rattle.pool_script.specs.Form.{is_within_form};
 ghost use Rattle.pool_replies.specs.Refusals.{is_fault_of_text};
 ghost use Rattle.pool_replies.specs.Replies.{is_printable};
+ghost use Rattle.pool_replies.specs.declared.refusal.Refusal.TheVariants as why;
+ghost use Rattle.pool_replies.specs.declared.reply.Reply.TheVariants as replies;
 ghost use Rattle.pool_state.specs.Apart.{AreGivenApart};
 ghost use Rattle.pool_state.specs.Changes.{changes_nothing, keeps_ads};
 ghost use Rattle.pool_state.specs.Heard as rules;
@@ -14,7 +16,7 @@ ghost use Rattle.pool_state.specs.Posting.{RowAfter, posts_of_all};
 ghost use Rattle.pool_state.specs.State.{State, opening};
 ghost use Rattle.pool_state.specs.Step as steps;
 
-use crate::ads::{advertise, rows, show, withdraw};
+use crate::ads::{advertise, list, show, withdraw};
 use crate::books::Books;
 use crate::claiming::{claim, release};
 use crate::eval::{eval, eval_in};
@@ -149,13 +151,7 @@ impl Pool {
         let granted = granted(self.alloc, &self.books, command)?;
         let stale = stale(self.alloc, &self.books, command)?;
         let reply = self.answer(command, tops, entry, touch)?;
-        match tell(self.alloc, &reply, granted, stale, desk) {
-            Ok(()) => Ok(reply),
-            Err(_) => {
-                drop(reply);
-                Err(OutOfMemory)
-            }
-        }
+        tell(self.alloc, reply, granted, stale, desk)
     }
 
     #[tactic(auto, unfolding(crate::specs::Pool::state_of))]
@@ -267,7 +263,7 @@ impl Pool {
         let store = &self.books.ads.store;
         match command {
             Command::Show(name) => show(alloc, store, name.bytes(), touch),
-            Command::List => Ok(Reply::Ads(rows(alloc, &self.books)?)),
+            Command::List => list(alloc, &self.books),
             Command::Eval(expr) => eval(alloc, self.moment, expr.bytes(), tops, entry),
             Command::EvalIn { name, expr } => eval_in(
                 alloc,
@@ -335,12 +331,14 @@ fn unlisten<D: Notices>(desk: &mut D, name: &Text) -> Result<Reply, OutOfMemory>
     }
 }
 
-/// The fault as one of a text; want of memory is none.
-pub(crate) fn told(fault: ParseFault) -> Result<ParseFault, OutOfMemory>
-    ensures { IfOk result (λ f. (f ≡ fault) × (is_fault_of_text f ≡ true)) }
+/// The reply to a text that has a fault; want of memory is none.
+#[tactic(auto, unfolding(pool_replies::specs::Replies::is_printable, pool_replies::specs::Refusals::is_printable_refusal))]
+pub(crate) fn faulty(fault: ParseFault) -> Result<Reply, OutOfMemory>
+    ensures reply { IfOk result (λ reply. (reply ≡ replies.Refused (why.AdText fault)) × (is_fault_of_text fault ≡ true)) }
+    ensures printable { IfOk result (λ reply. IsTrue (is_printable reply)) }
 {
     match fault {
         ParseFault::OutOfMemory => Err(OutOfMemory),
-        fault => Ok(fault),
+        fault => Ok(Reply::Refused(Refusal::AdText(fault))),
     }
 }

@@ -15,12 +15,12 @@ ghost use Rattle.pool_state.specs.Stocks.{AreHits};
 ghost use Rattle.pool_state.specs.Step as steps;
 
 use crate::indexed::IndexedStore;
-use crate::pool::told;
+use crate::pool::faulty;
 use ad_parser::parse_ad;
 use ad_store::Store;
 use ad_tree::{Ports, Request};
 use bilateral_match::{Hit, Hits};
-use pool_replies::{HitRow, HitRows, Refusal, Reply};
+use pool_replies::{HitRow, HitRows, Reply};
 use pool_steps::Steps;
 use pool_text::OutOfMemory;
 use std::alloc::Global;
@@ -48,7 +48,7 @@ pub(crate) fn query<F: Ledger, E: Ledger, T: Ledger>(
 {
     let ad = match parse_ad(alloc, block) {
         Ok(ad) => ad,
-        Err(fault) => return Ok(Reply::Refused(Refusal::AdText(told(fault)?))),
+        Err(fault) => return faulty(fault),
     };
     let request = Request {
         ad,

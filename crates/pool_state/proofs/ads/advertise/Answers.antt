@@ -1,24 +1,24 @@
-use Rattle.std.proofs.Common.{◌≡◌, true, length, Some, sym, ◌∙◌, ap, subst}
-use Rattle.ad_parser.specs.declared.fault.ParseFault.{ParseFault}
+use Rattle.std.proofs.Common.{◌≡◌, length, Some, sym, ◌∙◌, ap}
 use Rattle.ad_parser.proofs.Outcomes.{ad_outcome, ad_outcome-has}
 use Rattle.ad_store.specs.Answers.{is_added}
 use Rattle.ad_store.specs.declared.answers.PutFault.TheVariants as fault
-use Rattle.pool_replies.specs.Refusals.{is_fault_of_text}
-use Rattle.pool_replies.specs.declared.refusal.Refusal.TheVariants.{AdText}
+use Rattle.pool_replies.specs.declared.reply.Reply.{Reply}
 use Rattle.pool_state.specs.Books.{queue_of}
 use Rattle.pool_state.specs.Indexed.{ads_of}
 use Rattle.pool_state.specs.Pool.{state_with}
 use Rattle.pool_state.specs.State.{State}
-use Rattle.pool_state.specs.Step.{refused}
+use Rattle.pool_state.proofs.HitLemmas.{if_ok}
 use Rattle.pool_state.proofs.StepLemmas.{advertise-added, advertise-faulty, advertise-full, advertise-replaced}
 use Rattle.pool_state.proofs.ads.advertise.Goals as goal
 
 pub returns-in-Err-clause-step : goal.returns-in-Err-clause-step
-returns-in-Err-clause-step g c = λ priorities.
+returns-in-Err-clause-step g c =
+    if_ok c.faulty.result _ _ (λ reply told. λ priorities.
     let s : State = state_with c.args.moment priorities c.args.books.now in
     let block = c.args.block.now in
-    let told = c.in_ok-told-in-Err.ensures in
-    advertise-faulty s c.args.name.now c.args.lifetime (length block) (ad_outcome block) c.in-Err.fault (c.in-Err.ensures.outcome (ad_outcome block) (ad_outcome-has block)) (subst (λ (fault : ParseFault). is_fault_of_text fault ≡ true) told.0 told.1) ∙ ap (λ (fault : ParseFault). refused s (AdText fault)) (sym told.0)
+    advertise-faulty s c.args.name.now c.args.lifetime (length block) (ad_outcome block) c.in-Err.fault (c.in-Err.ensures.outcome (ad_outcome block) (ad_outcome-has block)) told.1
+    ∙ ap (λ (r : Reply). let p : State × Reply = (s, r) in p) (sym told.0))
+    c.faulty.ensures.reply
 
 pub returns-in-Ok-Added-clause-step : goal.returns-in-Ok-Added-clause-step
 returns-in-Ok-Added-clause-step g c = λ priorities.

@@ -1,28 +1,28 @@
-use Rattle.std.proofs.Common.{◌≡◌, ℕ, true, List, IfSome, Option, length, is_none, refl, sym, ◌∙◌, ap, subst}
+use Rattle.std.proofs.Common.{◌≡◌, ℕ, List, IfSome, Option, length, is_none, refl, sym, ◌∙◌, ap, subst}
 use Rattle.ad_tree.specs.Ad.{ad_frames}
 use Rattle.ad_tree.specs.Frames.{Frame}
 use Rattle.ad_tree.specs.Small.{IsSmall}
 use Rattle.ad_tree.specs.declared.request.Request.{Request}
-use Rattle.ad_parser.specs.declared.fault.ParseFault.{ParseFault}
 use Rattle.ad_parser.proofs.Outcomes.{ad_outcome, ad_outcome-has}
-use Rattle.pool_replies.specs.Refusals.{is_fault_of_text}
-use Rattle.pool_replies.specs.declared.refusal.Refusal.TheVariants.{AdText}
+use Rattle.pool_replies.specs.declared.reply.Reply.{Reply}
 use Rattle.pool_state.specs.Books.{queue_of}
 use Rattle.pool_state.specs.Indexed.{ads_of}
 use Rattle.pool_state.specs.Pool.{state_with}
 use Rattle.pool_state.specs.Ports.{HasOwnPorts}
 use Rattle.pool_state.specs.Queue.{job_refusal}
 use Rattle.pool_state.specs.State.{State}
-use Rattle.pool_state.specs.Step.{refused}
+use Rattle.pool_state.proofs.HitLemmas.{if_ok}
 use Rattle.pool_state.proofs.SubmitLemmas.{submit-bad, submit-faulty, submit-refused, submit-taken}
 use Rattle.pool_state.proofs.jobs.submit.Goals as goal
 
 pub returns-in-Err-clause-step : goal.returns-in-Err-clause-step
-returns-in-Err-clause-step c = λ moment priorities.
+returns-in-Err-clause-step c =
+    if_ok c.faulty.result _ _ (λ reply told. λ moment priorities.
     let s : State = state_with moment priorities c.args.books.now in
     let block = c.args.block.now in
-    let told = c.in_ok-told-in-Err.ensures in
-    submit-faulty s c.args.job.now c.args.user.now (length block) (ad_outcome block) c.in-Err.fault (c.in-Err.ensures.outcome (ad_outcome block) (ad_outcome-has block)) (subst (λ (fault : ParseFault). is_fault_of_text fault ≡ true) told.0 told.1) ∙ ap (λ (fault : ParseFault). refused s (AdText fault)) (sym told.0)
+    submit-faulty s c.args.job.now c.args.user.now (length block) (ad_outcome block) c.in-Err.fault (c.in-Err.ensures.outcome (ad_outcome block) (ad_outcome-has block)) told.1
+    ∙ ap (λ (r : Reply). let p : State × Reply = (s, r) in p) (sym told.0))
+    c.faulty.ensures.reply
 
 pub returns-in-Some-clause-step : goal.returns-in-Some-clause-step
 returns-in-Some-clause-step c = λ moment priorities.
@@ -59,4 +59,4 @@ returns-clause-step c = λ moment priorities.
     let room = ap (λ (name : List ℕ). job_refusal name (length block) (queue_of c.args.books.now)) (c.bytes-2.ensures ∙ sym c.bytes.ensures) ∙ sym c.in_default.ensures.reason in
     let good = sym c.in_ok-request.ensures.good ∙ ap is_none c.in-Some-2.is in
     let request = subst (λ (r : Option Request). HasRequest (ad_frames c.in-Ok.ad) r) c.in-Some-2.is c.in_ok-request.ensures.own in
-    submit-taken s c.args.job.now c.args.user.now c.bytes-2.result.now c.bytes-3.result.now (length block) (ad_outcome block) c.in-Ok.ad (c.in-Ok.ensures.outcome (ad_outcome block) (ad_outcome-has block)) c.bytes-2.ensures c.bytes-3.ensures c.in_ok-named.named (ad_frames c.in-Some-2.request.ad) (ads_of c.submit.new.self.ads) (queue_of c.submit.new.self) c.in_ok-named.ensures room good request.0 (ap ads_of c.submit.ensures.ads) c.in_ok-submit.ensures.jobs
+    submit-taken s c.args.job.now c.args.user.now c.bytes-2.result.now c.bytes-3.result.now (length block) (ad_outcome block) c.in-Ok.ad (c.in-Ok.ensures.outcome (ad_outcome block) (ad_outcome-has block)) c.bytes-2.ensures c.bytes-3.ensures c.in_ok-copy.field-0 (ad_frames c.in-Some-2.request.ad) (ads_of c.submit.new.self.ads) (queue_of c.submit.new.self) c.in_ok-copy.ensures room good request.0 (ap ads_of c.submit.ensures.ads) c.in_ok-submit.ensures.jobs

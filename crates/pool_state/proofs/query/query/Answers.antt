@@ -1,19 +1,16 @@
-use Rattle.std.proofs.Common.{◌≡◌, true, sym, ◌∙◌, ap, subst, arith}
-use Rattle.ad_parser.specs.declared.fault.ParseFault.{ParseFault}
+use Rattle.std.proofs.Common.{sym, ◌∙◌, arith}
 use Rattle.ad_parser.proofs.Outcomes.{ad_outcome, ad_outcome-has}
-use Rattle.pool_replies.specs.Refusals.{is_fault_of_text}
-use Rattle.pool_replies.specs.declared.refusal.Refusal.TheVariants.{AdText}
 use Rattle.pool_state.specs.Indexed.{ads_of}
-use Rattle.pool_replies.specs.declared.reply.Reply.TheVariants.{Refused}
+use Rattle.pool_state.proofs.HitLemmas.{if_ok}
 use Rattle.pool_state.proofs.StepLemmas.{narrowest-parsed, query-faulty, query-parsed, undecided-parsed}
 use Rattle.pool_state.proofs.query.query.Goals as goal
 
 pub returns-in-Err-clause-reply : goal.returns-in-Err-clause-reply
 returns-in-Err-clause-reply g c =
-    let ads = ads_of c.args.ads.now in
+    if_ok c.faulty.result _ _ (λ reply told.
     let block = c.args.block.now in
-    let told = c.in_ok-told-in-Err.ensures in
-    query-faulty c.args.moment ads (ad_outcome block) c.in-Err.fault (c.in-Err.ensures.outcome (ad_outcome block) (ad_outcome-has block)) (subst (λ (fault : ParseFault). is_fault_of_text fault ≡ true) told.0 told.1) ∙ ap (λ (fault : ParseFault). Refused (AdText fault)) (sym told.0)
+    query-faulty c.args.moment (ads_of c.args.ads.now) (ad_outcome block) c.in-Err.fault (c.in-Err.ensures.outcome (ad_outcome block) (ad_outcome-has block)) told.1 ∙ sym told.0)
+    c.faulty.ensures.reply
 
 pub returns-clause-reply : goal.returns-clause-reply
 returns-clause-reply g c =

@@ -1,14 +1,29 @@
-use Rattle.std.proofs.Common.{List, subst}
+use Rattle.std.proofs.Common.{◌≡◌, true, List, sym, ◌∙◌, ap, subst}
 use Rattle.std.specs.List.{AllZip}
+use Rattle.std.proofs.lemmas.Result.{on_ok_weaker}
+use Rattle.pool_replies.specs.Replies.{is_printable}
+use Rattle.pool_replies.specs.declared.reply.Reply.{Reply}
 use Rattle.pool_state.specs.Pool.{state_of}
 use Rattle.pool_state.specs.Posting.{RowAfter, posts_of_all}
+use Rattle.pool_state.specs.State.{State}
 use Rattle.pool_state.specs.declared.posting.Notice.{Notice}
 use Rattle.pool_state.proofs.HeardLemmas.{notices-by}
+use Rattle.pool_state.proofs.HitLemmas.{if_ok}
 use Rattle.pool_state.proofs.pool.Pool.answer_and_tell.Goals as goal
 
-pub returns-in-Ok-clause-posted : goal.returns-in-Ok-clause-posted
+pub returns-clause-step : goal.returns-clause-step
 unfolding state_of
-returns-in-Ok-clause-posted g c =
-    subst (λ (l : List Notice). AllZip (RowAfter (posts_of_all l)) (g.D.Notices.shows c.args.desk.now) (g.D.Notices.shows c.tell.new.desk))
-    (notices-by (state_of c.args.self.now) (state_of c.answer-2.new.self) c.args.command.now c.in_ok-reply.reply c.in_ok-granted.granted c.in_ok-stale.stale c.in_ok-reply.ensures.step c.in_ok-granted.ensures c.in_ok-stale.ensures)
-    c.in-Ok.ensures.posted
+returns-clause-step g c =
+    if_ok c.tell.result _ _ (λ told same. c.in_ok-reply.ensures.step ∙ ap (λ (r : Reply). let p : State × Reply = (state_of c.answer-2.new.self, r) in p) (sym same)) c.tell.ensures.same
+
+pub returns-clause-printable : goal.returns-clause-printable
+returns-clause-printable g c =
+    if_ok c.tell.result _ _ (λ told same. subst (λ (r : Reply). is_printable r ≡ true) (sym same) c.in_ok-reply.ensures.printable) c.tell.ensures.same
+
+pub returns-clause-posted : goal.returns-clause-posted
+unfolding state_of
+returns-clause-posted g c =
+    on_ok_weaker c.tell.result
+    (subst (λ (l : List Notice). AllZip (RowAfter (posts_of_all l)) (g.D.Notices.shows c.args.desk.now) (g.D.Notices.shows c.tell.new.desk))
+    (notices-by (state_of c.args.self.now) (state_of c.answer-2.new.self) c.args.command.now c.in_ok-reply.reply c.in_ok-granted.granted c.in_ok-stale.stale c.in_ok-reply.ensures.step c.in_ok-granted.ensures c.in_ok-stale.ensures))
+    c.tell.ensures.posted

@@ -3,7 +3,7 @@ use Rattle.pool_state.specs.Books.{queue_of}
 use Rattle.pool_state.specs.Indexed.{ads_of}
 use Rattle.pool_replies.specs.declared.rows.AdRow.{AdRow}
 use Rattle.pool_state.proofs.AdLemmas.{rows_more}
-use Rattle.pool_state.proofs.ads.rows.Goals as goal
+use Rattle.pool_state.proofs.ads.list.Goals as goal
 
 pub loop-i-preserved : goal.loop-i-preserved
 loop-i-preserved c =

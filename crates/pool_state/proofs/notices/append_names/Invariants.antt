@@ -1,6 +1,6 @@
 use Rattle.std.proofs.Common.{◌≡◌, ◌++◌, take}
 use Rattle.pool_replies.specs.Cycles.{with_blanks}
-use Rattle.pool_state.proofs.notices.line.Given as goal
+use Rattle.pool_state.proofs.notices.append_names.Given as goal
 
 abbrev pub invariant-loop-name : goal.invariant-loop-name
-invariant-loop-name l = l.line ≡ l.word ++ l.job ++ with_blanks (take l.name-index l.names)
+invariant-loop-name l = l.line ≡ l.initial.line ++ with_blanks (take l.name-index l.names)

@@ -46,6 +46,9 @@ module _ (ws : List Word) (fuel : ℕ) (enough : fuel ≡ length ws + 1) where
   pub expression-all : (x : Inline) (rest : List Word) → expression fuel ws ≡ Some (x, rest) → length rest ≡ 0 → parsed_expr ws ≡ Some x
   expression-all x rest read none = whole_expression ∙ ap whole read ∙ whole-all x rest none
 
+  pub expression-none : expression fuel ws ≡ None → parsed_expr ws ≡ None
+  expression-none none = whole_expression ∙ ap whole none
+
   pub expression-more : (x : Inline) (rest : List Word) → expression fuel ws ≡ Some (x, rest) → 0 < length rest → parsed_expr ws ≡ None
   expression-more x rest read some = whole_expression ∙ ap whole read ∙ whole-more x rest some
 

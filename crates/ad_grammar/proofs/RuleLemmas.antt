@@ -1,8 +1,8 @@
 -- Steps of the rules, each for the branch of the code that takes it.
-use Rattle.std.proofs.Common.{refl, arith, ◌≡◌, ℕ, suc, ◌+◌, ◌-◌, ◌<◌, List, [], ◌∷◌, length, None, Some, Result, Ok, Err, ap, sym, ◌∙◌}
+use Rattle.std.proofs.Common.{refl, arith, true, ◌≡◌, ℕ, suc, ◌+◌, ◌-◌, ◌<◌, List, [], ◌∷◌, length, None, Some, Result, Ok, Err, ap, sym, ◌∙◌}
 use Rattle.std.specs.Prelude.{IsErr, IsErrAnd}
-use Rattle.ad_tree.specs.Inline.{Inline, Inlines, end, next, no_defs, def}
-use Rattle.ad_tree.specs.Tree.{subscript, choice, call, list}
+use Rattle.ad_tree.specs.Inline.{Inline, Inlines, Defs, end, next, no_defs, def}
+use Rattle.ad_tree.specs.Tree.{select, subscript, choice, call, list}
 use Rattle.ad_grammar.specs.declared.mark.Mark.{Mark}
 use Rattle.ad_grammar.specs.declared.mark.Mark.TheVariants.{OpenParen, CloseParen, OpenBracket, CloseBracket, OpenBrace, CloseBrace, Comma, Dot, Assign, Question, Colon}
 use Rattle.ad_grammar.specs.declared.program.Infix.{Infix}
@@ -10,9 +10,9 @@ use Rattle.ad_grammar.specs.declared.program.Instruction.TheVariants as instruct
 use Rattle.ad_grammar.specs.declared.stop.Stop.{Stop}
 use Rattle.ad_grammar.specs.declared.stop.Stop.TheVariants as stops
 use Rattle.ad_grammar.specs.Machine.{top, below, step, chosen, with_element, with_elements, with_definition}
-use Rattle.ad_grammar.specs.Rules.{Rule, Reading, and_then, name_at, close_paren, close_bracket, close_brace, several_behind, several, arguments, elements, assigned, definitions_behind, definitions_at, ad_behind, plain_at, primary, suffixes, infix_at, operation_or, operations, level_at, colon, choice_behind, conditionals}
-use Rattle.ad_grammar.specs.Shapes.{over_two, over_three, joined}
-use Rattle.ad_grammar.specs.Steps.{Puts, extended, completed}
+use Rattle.ad_grammar.specs.Rules.{Rule, Reading, and_then, name_at, close_paren, close_bracket, close_brace, several_behind, several, arguments, elements, assigned, definitions_behind, definitions_at, ad_behind, plain_at, primary, postfix, suffixes, infix_at, operation_or, operations, level_at, colon, choice_behind, conditionals}
+use Rattle.ad_grammar.specs.Shapes.{over_one, over_two, over_three, joined}
+use Rattle.ad_grammar.specs.Steps.{Begins, Puts, defined_at, selected, extended, completed}
 use Rattle.ad_grammar.specs.Words.{Word, plain, quoted, constant, mark}
 use Rattle.ad_grammar.proofs.MachineLemmas.{choices, chosen-top, chosen-below, chosen-next, choices-next, extended-new, extended-next, completed-new, completed-next}
 
@@ -25,6 +25,9 @@ Lacks m ws = (rest : List Word) → ws ≡ mark m ∷ rest → ⊥
 module _ (wanted : Reading Inline) (rest : List Word) (before after : List Inline) where
   pub puts-ok : (done : Unit {0}) → wanted ≡ Some (top after, rest) → below after ≡ before → Puts wanted (Ok done) rest before after
   puts-ok done h b = record { ok = λ a e. h; on = λ a e. b; none = λ e. absurd (cc) }
+
+  pub stops-now : wanted ≡ None → Puts wanted (Err stops.Grammar) rest before after
+  stops-now h = record { ok = λ a e. absurd (cc); on = λ a e. absurd (cc); none = λ e. h }
 
   module _ (answer : Result (Unit {0}) Stop) where
     pub reputs : (w : Reading Inline) (b : List Inline) → wanted ≡ w → b ≡ before → Puts w answer rest b after → Puts wanted answer rest before after
@@ -46,6 +49,14 @@ module _ (wanted : Reading Inline) (rest : List Word) (before after : List Inlin
         by : (a : Result (Unit {0}) Stop) → IsErr a → IsErrAnd a (λ e. e ≡ stop) → Puts wanted a rest before after
         by (Ok a) wrong s = absurd (cc)
         by (Err other) right s = record { ok = λ a e. absurd (cc); on = λ a e. absurd (cc); none = λ e. let is : other ≡ stops.Grammar = cc in h (sym s ∙ is) }
+
+    pub stops-full : IsErr answer → IsErrAnd answer (λ e. e ≡ stops.OutOfMemory) → Puts wanted answer rest before after
+    stops-full err same = stops-by stops.OutOfMemory err same (λ is. absurd (cc))
+
+-- a call was begun
+pub begins-call : (wanted : Rule → Reading Inline) (rest : List Word) (before after : List Inline) → ((e : Rule) → wanted e ≡ extended (top after) (arguments e rest)) → below after ≡ before
+    → Begins wanted (Ok true) rest before after
+begins-call wanted rest before after h b = record { whole = λ e. absurd (cc); call = λ e. h; on = λ a e. b; none = λ e. absurd (cc) }
 
 then_some : {A B : Type 0} (r : Reading A) (f : A → List Word → Reading B) (a : A) (rest : List Word) → r ≡ Some (a, rest) → and_then r f ≡ f a rest
 then_some r f a rest h = ap (λ x. and_then x f) h
@@ -160,10 +171,20 @@ module _ (x : Inline) (r : Reading Inlines) (closes : Inlines → List Word → 
           let both : found ≡ wanted = cc in
           ap (λ us. extended x (closes read.0 us)) (ap (λ p. p.1) both) ∙ ap (extended x) (broken read.0)
 
+  extended_none : extended x r ≡ None → extended x (and_then r closes) ≡ None
+  extended_none h = by r h
+    where
+      by : (s : Reading Inlines) → extended x s ≡ None → extended x (and_then s closes) ≡ None
+      by None e = refl
+      by (Some read) e = absurd (cc)
+
 module _ (e : Rule) (x : Inline) (ws now : List Word) where
   module _ (other : Lacks CloseParen ws) (kept : now ≡ ws) where
     several_arguments : extended x (arguments e ws) ≡ extended x (and_then (several e (length now) now) close_paren)
     several_arguments = ap (extended x) (arguments_some e ws other ∙ ap (λ us. and_then (several e (length us) us) close_paren) (sym kept))
+
+    pub arguments-unread : extended x (several e (length now) now) ≡ None → extended x (arguments e ws) ≡ None
+    arguments-unread none = several_arguments ∙ extended_none x (several e (length now) now) close_paren none
 
     module _ (y : Inline) (rest : List Word) (read : extended x (several e (length now) now) ≡ Some (y, rest)) where
       pub arguments-broken : Lacks CloseParen rest → extended x (arguments e ws) ≡ None
@@ -175,6 +196,9 @@ module _ (e : Rule) (x : Inline) (ws now : List Word) where
   module _ (other : Lacks CloseBrace ws) (kept : now ≡ ws) where
     several_elements : extended x (elements e ws) ≡ extended x (and_then (several e (length now) now) close_brace)
     several_elements = ap (extended x) (elements_some e ws other ∙ ap (λ us. and_then (several e (length us) us) close_brace) (sym kept))
+
+    pub elements-unread : extended x (several e (length now) now) ≡ None → extended x (elements e ws) ≡ None
+    elements-unread none = several_elements ∙ extended_none x (several e (length now) now) close_brace none
 
     module _ (y : Inline) (rest : List Word) (read : extended x (several e (length now) now) ≡ Some (y, rest)) where
       pub elements-broken : Lacks CloseBrace rest → extended x (elements e ws) ≡ None
@@ -200,10 +224,41 @@ module _ (e : Rule) (m : Mark) (ws : List Word) where
   ad-begun st pushed is put =
       ap (λ k. primary e (mark k ∷ ws)) is ∙ completed-new (ad_behind e ws) ∙ ap (λ s. completed (top s) (ad_behind e ws)) (sym put)
 
+  module _ (is : m ≡ OpenParen) where
+    paren_turn : primary e (mark m ∷ ws) ≡ and_then (e ws) close_paren
+    paren_turn = ap (λ k. primary e (mark k ∷ ws)) is
+
+    pub paren-none : e ws ≡ None → primary e (mark m ∷ ws) ≡ None
+    paren-none none = paren_turn ∙ ap (λ r. and_then r close_paren) none
+
+    module _ (x : Inline) (rest : List Word) (read : e ws ≡ Some (x, rest)) where
+      pub paren-closed : (last : List Word) → rest ≡ mark CloseParen ∷ last → primary e (mark m ∷ ws) ≡ Some (x, last)
+      paren-closed last closed = paren_turn ∙ ap (λ r. and_then r close_paren) read ∙ ap (close_paren x) closed
+
+      pub paren-broken : Lacks CloseParen rest → primary e (mark m ∷ ws) ≡ None
+      paren-broken lacks = paren_turn ∙ ap (λ r. and_then r close_paren) read ∙ paren_lacks x rest lacks
+
+pub primary-none : (e : Rule) (m : Mark) (ws : List Word) → (m ≡ OpenParen → ⊥) → (m ≡ OpenBracket → ⊥) → (m ≡ OpenBrace → ⊥) → (m ≡ Dot → ⊥) → primary e (mark m ∷ ws) ≡ None
+primary-none e m ws no_paren no_bracket no_brace no_dot =
+    elim m as (λ n. (n ≡ OpenParen → ⊥) → (n ≡ OpenBracket → ⊥) → (n ≡ OpenBrace → ⊥) → (n ≡ Dot → ⊥) → primary e (mark n ∷ ws) ≡ None) [
+      | OpenParen ↦ λ a b c d. absurd (a refl)
+      | OpenBracket ↦ λ a b c d. absurd (b refl)
+      | OpenBrace ↦ λ a b c d. absurd (c refl)
+      | Dot ↦ λ a b c d. absurd (d refl)
+      | _ ↦ λ a b c d. refl
+    ] no_paren no_bracket no_brace no_dot
+
+pub postfix-none : (e : Rule) (ws : List Word) → primary e ws ≡ None → postfix e ws ≡ None
+postfix-none e ws none = ap (λ r. and_then r (λ x rest. suffixes e (length rest) x rest)) none
+
 -- ---- conditionals ----
 
 conditionals_turn : (e : Rule) (n : ℕ) (ws : List Word) → 0 < n → conditionals e n ws ≡ and_then (level_at e 10 ws) (choice_behind e (conditionals e (n - 1)))
 conditionals_turn e n ws some = ap (λ k. conditionals e k ws) (less n some)
+
+pub conditionals-operandless : (e : Rule) (w : Reading Inline) (p n : ℕ) (before : List Inline) (ws : List Word) → w ≡ choices p before (conditionals e n ws) → 0 < n → level_at e 10 ws ≡ None → w ≡ None
+conditionals-operandless e w p n before ws inv some none =
+    inv ∙ ap (choices p before) (conditionals_turn e n ws some ∙ ap (λ r. and_then r (choice_behind e (conditionals e (n - 1)))) none)
 
 module _ (e : Rule) (w : Reading Inline) (p n : ℕ) (before : List Inline) (ws : List Word) (inv : w ≡ choices p before (conditionals e n ws)) (some : 0 < n)
     (rest now : List Word) (first : List Inline) (on : below first ≡ before) (read : level_at e 10 ws ≡ Some (top first, rest)) where
@@ -218,6 +273,11 @@ module _ (e : Rule) (w : Reading Inline) (p n : ℕ) (before : List Inline) (ws 
   taken stood =
       conditionals_turn e n ws some ∙ then_some (level_at e 10 ws) (choice_behind e (conditionals e (n - 1))) (top first) rest read
       ∙ ap (choice_behind e (conditionals e (n - 1)) (top first)) stood
+
+  pub conditionals-choiceless : rest ≡ mark Question ∷ now → e now ≡ None → w ≡ None
+  conditionals-choiceless stood none =
+      inv ∙ ap (choices p before) (taken stood
+      ∙ ap (λ r. and_then (and_then r colon) (λ b after. and_then (conditionals e (n - 1) after) (λ d more. Some (over_three choice (top first) b d, more)))) none)
 
   pub conditionals-unclosed : (a : Inline) (behind : List Word) → rest ≡ mark Question ∷ now → e now ≡ Some (a, behind) → Lacks Colon behind → w ≡ None
   conditionals-unclosed a behind stood inside lacks =
@@ -249,6 +309,9 @@ module _ (tight : Rule) (w : Reading Inline) (k n : ℕ) (before : List Inline) 
   turn : operations tight k n (top before) ws ≡ and_then (tight rest) (λ y. operations tight k (n - 1) (joined op (top before) y))
   turn = ap (λ m. operations tight k m (top before) ws) (less n some) ∙ ap (operation_or tight (operations tight k (n - 1)) (top before) ws) found
 
+  pub operations-operandless : tight rest ≡ None → w ≡ None
+  operations-operandless none = inv ∙ turn ∙ ap (λ r. and_then r (λ y. operations tight k (n - 1) (joined op (top before) y))) none
+
   pub operations-more : (second after : List Inline) (now : List Word) → below second ≡ before → tight rest ≡ Some (top second, now) → after ≡ step (instructions.Infix op) second
       → w ≡ operations tight k (n - 1) (top after) now
   operations-more second after now on read is =
@@ -256,11 +319,21 @@ module _ (tight : Rule) (w : Reading Inline) (k n : ℕ) (before : List Inline) 
       ∙ ap (λ st. operations tight k (n - 1) (joined op (top st) (top second)) now) (sym on)
       ∙ ap (λ st. operations tight k (n - 1) (top st) now) (sym is)
 
+pub operations-end : (tight : Rule) (w : Reading Inline) (k n : ℕ) (before : List Inline) (ws now : List Word) → w ≡ operations tight k n (top before) ws → 0 < n → infix_at k ws ≡ None → now ≡ ws
+    → w ≡ Some (top before, now)
+operations-end tight w k n before ws now inv some none kept =
+    inv ∙ ap (λ m. operations tight k m (top before) ws) (less n some) ∙ ap (operation_or tight (operations tight k (n - 1)) (top before) ws) none
+    ∙ ap (λ r. Some (top before, r)) (sym kept)
+
 -- what stands below two trees that an instruction joins
 pub two-below : (start before second after : List Inline) → below before ≡ start → below second ≡ before → below after ≡ below (below second) → below after ≡ start
 two-below start before second after rest on is = is ∙ ap below on ∙ rest
 
 -- ---- lists ----
+
+pub several-valueless : (e : Rule) (w : Reading Inline) (n : ℕ) (before : List Inline) (ws : List Word) → w ≡ extended (top before) (several e n ws) → 0 < n → e ws ≡ None → w ≡ None
+several-valueless e w n before ws inv some none =
+    inv ∙ ap (extended (top before)) (ap (λ m. several e m ws) (less n some) ∙ ap (λ r. and_then r (several_behind (several e (n - 1)))) none)
 
 module _ (e : Rule) (w : Reading Inline) (n : ℕ) (before : List Inline) (ws : List Word) (inv : w ≡ extended (top before) (several e n ws)) (some : 0 < n)
     (second after : List Inline) (rest now : List Word) (on : below second ≡ before) (read : e ws ≡ Some (top second, rest)) (pushed : after ≡ step instructions.Element second) where
@@ -282,19 +355,35 @@ module _ (e : Rule) (w : Reading Inline) (n : ℕ) (before : List Inline) (ws : 
 
 -- ---- definitions ----
 
-module _ (e : Rule) (w : Reading Inline) (n : ℕ) (before : List Inline) (ws : List Word) (inv : w ≡ completed (top before) (definitions_at e n ws)) (some : 0 < n)
-    (text : List ℕ) (rest : List Word) (read : name_at ws ≡ Some (text, rest)) where
-  named_turn : definitions_at e n ws ≡ assigned (λ more. and_then (e more) (definitions_behind (definitions_at e (n - 1)) text)) rest
-  named_turn =
+assigned_first : {A B : Type 0} (f : A → List Word → Reading B) (a : A) (ws : List Word) → assigned (f a) ws ≡ and_then (assigned (λ more. Some (a, more)) ws) f
+assigned_first f a [] = refl
+assigned_first f a (plain t ∷ ws) = refl
+assigned_first f a (quoted t ∷ ws) = refl
+assigned_first f a (constant l ∷ ws) = refl
+assigned_first f a (mark m ∷ ws) = elim m as (λ n. assigned (f a) (mark n ∷ ws) ≡ and_then (assigned (λ more. Some (a, more)) (mark n ∷ ws)) f) [ Assign ↦ refl | _ ↦ refl ]
+
+defined_first : (f : List ℕ → List Word → Reading Defs) (ws : List Word) → and_then (name_at ws) (λ t rest. assigned (f t) rest) ≡ and_then (defined_at ws) f
+defined_first f ws = by (name_at ws)
+  where
+    by : (r : Reading (List ℕ)) → and_then r (λ t rest. assigned (f t) rest) ≡ and_then (and_then r (λ t rest. assigned (λ more. Some (t, more)) rest)) f
+    by None = refl
+    by (Some read) = assigned_first f read.0 read.1
+
+module _ (e : Rule) (w : Reading Inline) (n : ℕ) (before : List Inline) (ws : List Word) (inv : w ≡ completed (top before) (definitions_at e n ws)) (some : 0 < n) where
+  defined_turn : definitions_at e n ws ≡ and_then (defined_at ws) (λ t us. and_then (e us) (definitions_behind (definitions_at e (n - 1)) t))
+  defined_turn =
       ap (λ m. definitions_at e m ws) (less n some)
-      ∙ ap (λ r. and_then r (λ t us. assigned (λ more. and_then (e more) (definitions_behind (definitions_at e (n - 1)) t)) us)) read
+      ∙ defined_first (λ t us. and_then (e us) (definitions_behind (definitions_at e (n - 1)) t)) ws
 
-  pub definitions-broken : Lacks Assign rest → w ≡ None
-  definitions-broken lacks = inv ∙ ap (completed (top before)) (named_turn ∙ assign_lacks (λ more. and_then (e more) (definitions_behind (definitions_at e (n - 1)) text)) rest lacks)
+  pub definitions-unnamed : defined_at ws ≡ None → w ≡ None
+  definitions-unnamed none = inv ∙ ap (completed (top before)) (defined_turn ∙ ap (λ r. and_then r (λ t us. and_then (e us) (definitions_behind (definitions_at e (n - 1)) t))) none)
 
-  module _ (more : List Word) (stood : rest ≡ mark Assign ∷ more) where
+  module _ (text : List ℕ) (more : List Word) (read : defined_at ws ≡ Some (text, more)) where
     assigned_turn : definitions_at e n ws ≡ and_then (e more) (definitions_behind (definitions_at e (n - 1)) text)
-    assigned_turn = named_turn ∙ ap (assigned (λ us. and_then (e us) (definitions_behind (definitions_at e (n - 1)) text))) stood
+    assigned_turn = defined_turn ∙ ap (λ r. and_then r (λ t us. and_then (e us) (definitions_behind (definitions_at e (n - 1)) t))) read
+
+    pub definitions-valueless : e more ≡ None → w ≡ None
+    definitions-valueless none = inv ∙ ap (completed (top before)) (assigned_turn ∙ ap (λ r. and_then r (definitions_behind (definitions_at e (n - 1)) text)) none)
 
     module _ (second : List Inline) (behind : List Word) (value : e more ≡ Some (top second, behind)) where
       value_turn : definitions_at e n ws ≡ definitions_behind (definitions_at e (n - 1)) text (top second) behind
@@ -322,6 +411,23 @@ module _ (e : Rule) (w : Reading Inline) (n : ℕ) (before : List Inline) (ws : 
   suffixes_turn : suffixes e n (top before) ws ≡ suffixes e (suc (n - 1)) (top before) ws
   suffixes_turn = ap (λ m. suffixes e m (top before) ws) (less n some)
 
+  select_first : (rest : List Word) → suffixes e (suc (n - 1)) (top before) (mark Dot ∷ rest) ≡ and_then (selected (top before) rest) (suffixes e (n - 1))
+  select_first rest = by (name_at rest)
+    where
+      by : (r : Reading (List ℕ)) → and_then r (λ t. suffixes e (n - 1) (over_one (select t) (top before))) ≡ and_then (and_then r (λ t us. Some (over_one (select t) (top before), us))) (suffixes e (n - 1))
+      by None = refl
+      by (Some read) = refl
+
+  module _ (rest : List Word) (stood : ws ≡ mark Dot ∷ rest) where
+    select_turn : w ≡ and_then (selected (top before) rest) (suffixes e (n - 1))
+    select_turn = inv ∙ suffixes_turn ∙ ap (suffixes e (suc (n - 1)) (top before)) stood ∙ select_first rest
+
+    pub suffixes-select : (after : List Inline) (now : List Word) → selected (top before) rest ≡ Some (top after, now) → w ≡ suffixes e (n - 1) (top after) now
+    suffixes-select after now read = select_turn ∙ ap (λ r. and_then r (suffixes e (n - 1))) read
+
+    pub suffixes-unselected : selected (top before) rest ≡ None → w ≡ None
+    suffixes-unselected none = select_turn ∙ ap (λ r. and_then r (suffixes e (n - 1))) none
+
   pub suffixes-end : (between now : List Word) → Lacks Dot ws → between ≡ ws → Lacks OpenBracket between → now ≡ between → w ≡ Some (top before, now)
   suffixes-end between now no_dot kept no_bracket kept_too =
       inv ∙ suffixes_turn ∙ suffixes_suc e (n - 1) (top before) ws no_dot (λ rest is. no_bracket rest (kept ∙ is)) ∙ ap (λ r. Some (top before, r)) (sym kept ∙ sym kept_too)
@@ -329,6 +435,9 @@ module _ (e : Rule) (w : Reading Inline) (n : ℕ) (before : List Inline) (ws : 
   module _ (between rest : List Word) (kept : between ≡ ws) (stood : between ≡ mark OpenBracket ∷ rest) where
     bracket_turn : suffixes e n (top before) ws ≡ and_then (and_then (e rest) close_bracket) (λ y. suffixes e (n - 1) (over_two subscript (top before) y))
     bracket_turn = suffixes_turn ∙ ap (suffixes e (suc (n - 1)) (top before)) (sym kept ∙ stood)
+
+    pub suffixes-placeless : e rest ≡ None → w ≡ None
+    suffixes-placeless none = inv ∙ bracket_turn ∙ ap (λ r. and_then (and_then r close_bracket) (λ y. suffixes e (n - 1) (over_two subscript (top before) y))) none
 
     pub suffixes-broken : (behind : List Word) (y : Inline) → e rest ≡ Some (y, behind) → Lacks CloseBracket behind → w ≡ None
     suffixes-broken behind y read lacks =

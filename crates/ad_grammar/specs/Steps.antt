@@ -3,7 +3,8 @@ use Rattle.std.specs.Prelude.{◌≡◌, ℕ, Bool, true, false, List, [], ◌�
 use Rattle.pool_text.specs.declared.language.Lit.{Lit}
 use Rattle.pool_text.specs.declared.language.UnOp.{UnOp}
 use Rattle.ad_tree.specs.Inline.{Inline, Inlines, Defs, no_defs, def}
-use Rattle.ad_tree.specs.Tree.{unary, name}
+use Rattle.ad_tree.specs.Tree.{unary, name, select}
+use Rattle.ad_tree.specs.declared.tree.Scope.{Scope}
 use Rattle.ad_tree.specs.declared.tree.Scope.TheVariants.{Bare}
 use Rattle.ad_grammar.specs.declared.mark.Mark.{Mark}
 use Rattle.ad_grammar.specs.declared.mark.Mark.TheVariants.{Dot}
@@ -11,7 +12,7 @@ use Rattle.ad_grammar.specs.declared.reader.Reader.{Reader}
 use Rattle.ad_grammar.specs.declared.stop.Stop.{Stop}
 use Rattle.ad_grammar.specs.declared.stop.Stop.TheVariants as stops
 use Rattle.ad_grammar.specs.Machine.{top, below, with_elements, with_definitions}
-use Rattle.ad_grammar.specs.Rules.{Reading, and_then, prefix_word, named_in, definitions_behind}
+use Rattle.ad_grammar.specs.Rules.{Reading, Rule, and_then, name_at, prefix_word, arguments, assigned, named_in, definitions_behind}
 use Rattle.ad_grammar.specs.Shapes.{leaf, over_one}
 use Rattle.ad_grammar.specs.HeldMarks.{known_words, ends_at}
 use Rattle.ad_grammar.specs.Words.{Word, constant, mark, scope_of}
@@ -47,6 +48,20 @@ pub record Puts (wanted : Reading Inline) (answer : Result (Unit {0}) Stop) (res
   pub on : (done : Unit {0}) → answer ≡ Ok done → below after ≡ before
   pub none : answer ≡ Err stops.Grammar → wanted ≡ None
 
+-- a list, a call or an ad literal with what is read
+abbrev pub extended : Inline → Reading Inlines → Reading Inline
+extended x r = and_then r (λ ys rest. Some (with_elements x ys, rest))
+
+abbrev pub completed : Inline → Reading Defs → Reading Inline
+completed x r = and_then r (λ ds rest. Some (with_definitions x ds, rest))
+
+-- a primary was begun: all of it, or a call of which the arguments are to be read
+pub record Begins (wanted : Rule → Reading Inline) (answer : Result Bool Stop) (rest : List Word) (before after : List Inline) : Type 0 where
+  pub whole : answer ≡ Ok false → (e : Rule) → wanted e ≡ Some (top after, rest)
+  pub call : answer ≡ Ok true → (e : Rule) → wanted e ≡ extended (top after) (arguments e rest)
+  pub on : (begun : Bool) → answer ≡ Ok begun → below after ≡ before
+  pub none : answer ≡ Err stops.Grammar → (e : Rule) → wanted e ≡ None
+
 -- an attempt answers what it reads, and keeps its place where it reads nothing
 pub record Finds {A B : Type 0} (seen : A → B) (wanted : Reading B) (answer : Option A) (old rest : List Word) : Type 0 where
   pub some : (a : A) → answer ≡ Some a → wanted ≡ Some (seen a, rest)
@@ -61,17 +76,20 @@ applied (op ∷ ops) x = over_one (unary op) (applied ops x)
 abbrev pub wrapped : List UnOp → Reading Inline → Reading Inline
 wrapped ops r = and_then r (λ x rest. Some (applied ops x, rest))
 
--- a list, a call or an ad literal with what is read
-abbrev pub extended : Inline → Reading Inlines → Reading Inline
-extended x r = and_then r (λ ys rest. Some (with_elements x ys, rest))
-
-abbrev pub completed : Inline → Reading Defs → Reading Inline
-completed x r = and_then r (λ ds rest. Some (with_definitions x ds, rest))
-
 -- a plain name or a name in a scope, where no call begins
 abbrev pub reference : List ℕ → List Word → Reading Inline
 reference text (mark Dot ∷ ws) = named_in (scope_of text) text ws
 reference text ws = Some (leaf (name Bare text), ws)
+
+-- a name in a scope and a selection behind the dot, and the name of a definition
+abbrev pub attribute_at : Scope → List Word → Reading Inline
+attribute_at scope ws = and_then (name_at ws) (λ text rest. Some (leaf (name scope text), rest))
+
+abbrev pub selected : Inline → List Word → Reading Inline
+selected x ws = and_then (name_at ws) (λ text rest. Some (over_one (select text) x, rest))
+
+abbrev pub defined_at : List Word → Reading (List ℕ)
+defined_at ws = and_then (name_at ws) (λ text rest. assigned (λ more. Some (text, more)) rest)
 
 -- whether definitions go on behind one, or end with their bracket
 abbrev pub ContinuesOk : List Word → Bool → List Word → Type 0

@@ -7,16 +7,16 @@ ghost use Rattle.ad_grammar.specs.Levels.{climb};
 ghost use Rattle.ad_grammar.specs.Machine.{stack, top, below};
 ghost use Rattle.ad_grammar.specs.Rules as rules;
 ghost use Rattle.ad_grammar.specs.Rules.{Rule};
-ghost use Rattle.ad_grammar.specs.Steps.{left, Puts, reference, wrapped, applied, extended, completed};
-ghost use Rattle.ad_grammar.specs.Words.{mark as mark_word, scope_of};
+ghost use Rattle.ad_grammar.specs.Steps.{left, Puts, wrapped, applied, extended, completed};
+ghost use Rattle.ad_grammar.specs.Words.{mark as mark_word};
 
 use crate::mark::Mark;
+use crate::phrase::{attribute, defined, finished, lone, selection, worded};
 use crate::program::{Instruction, Program};
 use crate::reader::Reader;
 use crate::stop::Stop;
-use crate::word::Word;
 use ad_tree::Scope;
-use pool_text::{OutOfMemory, Text, UnOp};
+use pool_text::{OutOfMemory, UnOp};
 use std::alloc::Global;
 
 /// The precedence of `||`, which binds least tightly of the operators between two operands.
@@ -35,8 +35,8 @@ pub fn expression(
     if fuel == 0 {
         return Err(Stop::Grammar);
     }
-    if let Some(literal) = reader.lone_literal(alloc)? {
-        return Ok(program.push(Instruction::Literal(literal))?);
+    if lone(alloc, reader, program)? {
+        return Ok(());
     }
     conditionals(alloc, reader, program, fuel - 1)
 }
@@ -176,8 +176,7 @@ fn suffixes(
     while turns > 0 {
         turns -= 1;
         if reader.takes(Mark::Dot) {
-            let name = reader.name(alloc)?;
-            program.push(Instruction::Select(name))?;
+            selection(alloc, reader, program)?;
         } else if reader.takes(Mark::OpenBracket) {
             expression(alloc, reader, program, fuel)?;
             reader.expect(Mark::CloseBracket)?;
@@ -200,13 +199,13 @@ fn primary(
     ensures { Puts (rules.primary (rules.expression fuel) (left reader.old))
         result (left reader.new) (stack program.old) (stack program.new) }
 {
-    match reader.take(alloc)? {
-        Some(Word::Constant(literal)) => Ok(program.push(Instruction::Literal(literal))?),
-        Some(Word::Plain(text)) => plain(alloc, reader, program, fuel, text),
-        Some(Word::Quoted(text)) => Ok(program.push(Instruction::Name(Scope::Bare, text))?),
-        Some(Word::Mark(mark)) => marked(alloc, reader, program, fuel, mark),
-        None => Err(Stop::Grammar),
+    if let Some(mark) = reader.take_mark() {
+        return marked(alloc, reader, program, fuel, mark);
     }
+    if worded(alloc, reader, program)? {
+        return arguments(alloc, reader, program, fuel);
+    }
+    Ok(())
 }
 
 /// A primary that begins with a mark, behind it.
@@ -222,10 +221,7 @@ fn marked(
         result (left reader.new) (stack program.old) (stack program.new) }
 {
     match mark {
-        Mark::Dot => {
-            let name = reader.name(alloc)?;
-            Ok(program.push(Instruction::Name(Scope::My, name))?)
-        }
+        Mark::Dot => attribute(alloc, reader, program, Scope::My),
         Mark::OpenBrace => {
             program.push(Instruction::List)?;
             elements(alloc, reader, program, fuel)
@@ -241,25 +237,6 @@ fn marked(
         }
         _ => Err(Stop::Grammar),
     }
-}
-
-/// A plain name, a call, or a name in a scope.
-#[cycle(grammar)]
-fn plain(
-    alloc: Global,
-    reader: &mut Reader<'_>,
-    program: &mut Program,
-    fuel: usize,
-    text: &[u8],
-) -> Result<(), Stop>
-    ensures { Puts (rules.plain_at (rules.expression fuel) text.now (left reader.old))
-        result (left reader.new) (stack program.old) (stack program.new) }
-{
-    if reader.takes(Mark::OpenParen) {
-        program.push(Instruction::Call(Text::from_bytes(alloc, text)?))?;
-        return arguments(alloc, reader, program, fuel);
-    }
-    named(alloc, reader, program, text)
 }
 
 /// The arguments of a call behind its opening mark.
@@ -353,11 +330,9 @@ fn some_definitions(
     let mut turns = reader.count();
     while turns > 0 {
         turns -= 1;
-        let name = reader.name(alloc)?;
-        reader.expect(Mark::Assign)?;
+        let name = defined(alloc, reader)?;
         expression(alloc, reader, program, fuel)?;
-        program.define(name)?;
-        if !reader.goes_on()? {
+        if !finished(reader, program, name)? {
             return Ok(());
         }
     }
@@ -391,36 +366,4 @@ fn apply(program: &mut Program, operators: Vec<UnOp>) -> Result<(), OutOfMemory>
         program.push(Instruction::Unary(operator))?;
     }
     Ok(())
-}
-
-/// A plain name, where no call begins, or a name in a scope.
-fn named(
-    alloc: Global,
-    reader: &mut Reader<'_>,
-    program: &mut Program,
-    text: &[u8],
-) -> Result<(), Stop>
-    ensures { Puts (reference text.now (left reader.old)) result (left reader.new) (stack program.old) (stack program.new) }
-{
-    if let Some(scope) = scope_of(text) {
-        if reader.takes(Mark::Dot) {
-            let name = reader.name(alloc)?;
-            return Ok(program.push(Instruction::Name(scope, name))?);
-        }
-    }
-    let name = Text::from_bytes(alloc, text)?;
-    Ok(program.push(Instruction::Name(Scope::Bare, name))?)
-}
-
-/// The scope that a plain name is in front of a dot, in any case.
-fn scope_of(name: &[u8]) -> Option<Scope>
-    ensures { result ≡ scope_of name.now }
-{
-    if name.eq_ignore_ascii_case(b"my") || name.eq_ignore_ascii_case(b"self") {
-        Some(Scope::My)
-    } else if name.eq_ignore_ascii_case(b"target") || name.eq_ignore_ascii_case(b"other") {
-        Some(Scope::Target)
-    } else {
-        None
-    }
 }

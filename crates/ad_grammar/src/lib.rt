@@ -6,6 +6,7 @@ mod laws;
 mod mark;
 mod nesting;
 mod operators;
+mod phrase;
 mod program;
 mod read;
 mod reader;

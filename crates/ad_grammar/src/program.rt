@@ -6,7 +6,7 @@ use pool_text::{BinOp, Lit, OutOfMemory, Text, UnOp};
 use std::alloc::Global;
 
 /// An operator between two operands. `&&` and `||` make chains: `a && b && c` is one node.
-#[derive(Clone, Copy, PartialEq, Eq)]
+#[derive(Clone, Copy)]
 pub enum Infix {
     And,
     Or,

@@ -130,6 +130,17 @@ impl<'a> Reader<'a> {
         }
     }
 
+    /// Takes a mark, where one stands next.
+    pub(crate) fn take_mark(&mut self) -> Option<Mark>
+        ensures some { (m : Mark) → result ≡ Some m → left self.old ≡ mark_word m ∷ left self.new }
+        ensures none { result ≡ None → front_mark (left self.new) ≡ None }
+        ensures kept { result ≡ None → left self.new ≡ left self.old }
+    {
+        let mark = self.mark()?;
+        self.skip();
+        Some(mark)
+    }
+
     fn sees(&self, mark: Mark) -> bool
         ensures { Decides result (front_mark (left self.now) ≡ Some mark) }
     {

@@ -1,24 +1,25 @@
-use Rattle.std.proofs.Common.{refl, arith, ◌-◌, suc, true, false, ◌∷◌, length, subst, Some, Ok, Err, ap, sym, ◌∙◌}
-use Rattle.ad_grammar.specs.declared.program.Instruction.TheVariants as instructions
+use Rattle.std.proofs.Common.{refl, arith, ◌≡◌, ◌+◌, ◌-◌, suc, true, false, ◌∷◌, length, Some, Ok, Err, ap, sym, ◌∙◌}
 use Rattle.ad_grammar.specs.Levels.{climb}
-use Rattle.ad_grammar.specs.Machine.{stack, top, below, step}
+use Rattle.ad_grammar.specs.Machine.{stack, top, below}
 use Rattle.ad_grammar.specs.Rules as rules
-use Rattle.ad_grammar.specs.Steps.{left, extended, completed, ContinuesOk}
+use Rattle.ad_grammar.specs.Steps.{left, wrapped, extended, completed, ContinuesOk}
 use Rattle.ad_grammar.specs.Words.{mark as mark_word}
-use Rattle.ad_grammar.proofs.RuleLemmas.{less, puts-ok, puts-expected, reputs, stops-here, stops-by, arguments-broken, arguments-closed, elements-broken, elements-closed, call-begun, list-begun, ad-begun, conditionals-end, conditionals-unclosed, conditionals-more, conditionals-below, conditionals-below_more, operations-more, two-below, several-end, several-more, definitions-broken, definitions-stopped, definitions-end, definitions-more, suffixes-end, suffixes-broken, suffixes-subscript}
+use Rattle.ad_grammar.proofs.MachineLemmas.{choices, choices-nil}
+use Rattle.ad_grammar.proofs.RuleLemmas.{less, puts-ok, stops-now, puts-expected, reputs, stops-here, stops-by, stops-full, arguments-unread, arguments-broken, arguments-closed, elements-unread, elements-broken, elements-closed, list-begun, ad-begun, paren-none, paren-closed, paren-broken, primary-none, postfix-none, conditionals-operandless, conditionals-choiceless, conditionals-end, conditionals-unclosed, conditionals-more, conditionals-below, conditionals-below_more, operations-end, operations-operandless, operations-more, two-below, several-valueless, several-end, several-more, definitions-unnamed, definitions-valueless, definitions-stopped, definitions-end, definitions-more, suffixes-end, suffixes-select, suffixes-unselected, suffixes-placeless, suffixes-broken, suffixes-subscript}
 use Rattle.ad_grammar.proofs.LevelLemmas.{level-climbed, level-none, climb-end, climb-broken, climb-more}
 use Rattle.ad_grammar.proofs.grammar.+grammar.Goals as goal
 
 pub expression-returns : goal.expression-returns
 expression-returns t c =
     let ws = left c.args.reader.now in
-    let us = left c.lone_literal.new.self in
+    let us = left c.lone.new.reader in
     let st = stack c.args.program.now in
+    let none = ap Ok c.if-branch.false in
     reputs (rules.expression c.args.fuel ws) (left c.conditionals.new.reader) st (stack c.conditionals.new.program) c.conditionals.result
-    (rules.conditionals (rules.expression (c.args.fuel - 1)) (suc (length us)) us) st
+    (rules.conditionals (rules.expression (c.args.fuel - 1)) (suc (length us)) us) (stack c.lone.new.program)
     (ap (λ n. rules.expression n ws) (less c.args.fuel (omega (arith, c.if-fuel-eq0.false)))
-    ∙ ap (rules.expression (suc (c.args.fuel - 1))) (sym (c.in_ok-literal.ensures.none (ap Ok c.in_default.is))))
-    refl c.conditionals.ensures
+    ∙ ap (rules.expression (suc (c.args.fuel - 1))) (sym (c.in_ok-lone.ensures.kept none)))
+    (c.in_ok-lone.ensures.same none) c.conditionals.ensures
 
 pub level-returns-in_err-prefixes : goal.level-returns-in_err-prefixes
 level-returns-in_err-prefixes t c =
@@ -189,7 +190,7 @@ marked-returns-in_ok-push-in-OpenBrace t c =
     let e = rules.expression c.args.fuel in
     let ws = left c.args.reader.now in
     let st = stack c.args.program.now in
-    let pushed = stack c.push-in-OpenBrace.new.self in
+    let pushed = stack c.push.new.self in
     let put = c.in_ok-push-in-OpenBrace.ensures in
     reputs (rules.primary e (mark_word c.args.mark ∷ ws)) (left c.elements.new.reader) st (stack c.elements.new.program) c.elements.result
     (extended (top pushed) (rules.elements e ws)) (below pushed)
@@ -210,18 +211,38 @@ marked-returns-in_ok-push-in-OpenBracket-2 t c =
     (ad-begun e c.args.mark ws st pushed c.in-OpenBracket.is put ∙ read.ok c.in_ok-definitions-in-OpenBracket.field-0 refl ∙ ap (λ s. Some (top s, rest)) (sym closed))
     (ap below closed ∙ read.on c.in_ok-definitions-in-OpenBracket.field-0 refl ∙ ap below put)
 
-pub plain-returns-then-takes : goal.plain-returns-then-takes
-plain-returns-then-takes t c =
+pub primary-returns-in-Some : goal.primary-returns-in-Some
+primary-returns-in-Some t c =
     let e = rules.expression c.args.fuel in
-    let ws = left c.args.reader.now in
-    let now = left c.takes.new.self in
     let st = stack c.args.program.now in
-    let pushed = stack c.push.new.self in
-    let put = c.in_ok-push.ensures in
-    reputs (rules.plain_at e c.args.text.now ws) (left c.arguments.new.reader) st (stack c.arguments.new.program) c.arguments.result
-    (extended (top pushed) (rules.arguments e now)) (below pushed)
-    (call-begun e c.args.text.now ws now st pushed (c.takes.ensures.taken c.if-takes.true) (put ∙ ap (λ t. step (instructions.Call t) st) c.in_ok-from_bytes.ensures))
-    (ap below put) c.arguments.ensures
+    reputs (rules.primary e (left c.args.reader.now)) (left c.marked.new.reader) st (stack c.marked.new.program) c.marked.result
+    (rules.primary e (mark_word c.in-Some.mark ∷ left c.take_mark.new.self)) st
+    (ap (rules.primary e) (c.in-Some.ensures.some c.in-Some.mark refl)) refl c.marked.ensures
+
+pub primary-returns-then-branch : goal.primary-returns-then-branch
+primary-returns-then-branch t c =
+    let e = rules.expression c.args.fuel in
+    let begun = c.in_ok-worded.ensures in
+    let pushed = stack c.worded.new.program in
+    reputs (rules.primary e (left c.args.reader.now)) (left c.arguments.new.reader) (stack c.args.program.now) (stack c.arguments.new.program) c.arguments.result
+    (extended (top pushed) (rules.arguments e (left c.worded.new.reader))) (below pushed)
+    (ap (rules.primary e) (sym (c.in_default.ensures.kept refl)) ∙ begun.call (ap Ok c.if-branch.true) e)
+    (begun.on c.in_ok-worded.field-0 refl) c.arguments.ensures
+
+pub primary-returns : goal.primary-returns
+primary-returns t c =
+    let e = rules.expression c.args.fuel in
+    let begun = c.in_ok-worded.ensures in
+    puts-ok (rules.primary e (left c.args.reader.now)) (left c.worded.new.reader) (stack c.args.program.now) (stack c.worded.new.program) tt
+    (ap (rules.primary e) (sym (c.in_default.ensures.kept refl)) ∙ begun.whole (ap Ok c.if-branch.false) e)
+    (begun.on c.in_ok-worded.field-0 refl)
+
+pub primary-returns-in_err-worded : goal.primary-returns-in_err-worded
+primary-returns-in_err-worded t c =
+    let e = rules.expression c.args.fuel in
+    stops-by (rules.primary e (left c.args.reader.now)) (left c.worded.new.reader) (stack c.args.program.now) (stack c.worded.new.program)
+    c.from_residual.result c.in_err-worded.field-0.0 c.from_residual.ensures.0 c.from_residual.ensures.1
+    (λ stop. ap (rules.primary e) (sym (c.in_default.ensures.kept refl)) ∙ c.in_err-worded.ensures.none (ap Err stop) e)
 
 pub several-returns-then-not-takes : goal.several-returns-then-not-takes
 several-returns-then-not-takes t c =
@@ -256,20 +277,32 @@ several-loop-turns-preserved t c =
       rest = two-below (below start) before second after c.loop-turns.invariant.rest on (ap below c.in_ok-push.ensures);
     }
 
-pub some_definitions-returns-in_err-expect : goal.some_definitions-returns-in_err-expect
-some_definitions-returns-in_err-expect t c =
+pub some_definitions-returns-in_err-name : goal.some_definitions-returns-in_err-name
+some_definitions-returns-in_err-name t c =
     let e = rules.expression c.args.fuel in
     let ws = left c.args.reader.now in
     let start = stack c.args.program.now in
     let w = completed (top start) (rules.definitions_at e (length ws) ws) in
     let before = stack c.loop-turns.program in
     let n = c.loop-turns.turns in
-    stops-here w (left c.expect.new.self) (below start) before c.from_residual-in_err-expect.result c.from_residual-in_err-expect.ensures.0
-    (definitions-broken e w n before (left c.loop-turns.reader) c.loop-turns.invariant.read c.loop-turns-test.true
-    c.in_ok-name.name (left c.name.new.self) (c.in_ok-name.ensures.ok c.in_ok-name.name refl) (c.in_err-expect.ensures.none _ refl))
+    stops-by w (left c.defined.new.reader) (below start) before c.from_residual.result c.in_err-name.field-0.0 c.from_residual.ensures.0 c.from_residual.ensures.1
+    (λ stop. definitions-unnamed e w n before (left c.loop-turns.reader) c.loop-turns.invariant.read c.loop-turns-test.true (c.in_err-name.ensures.none (ap Err stop)))
 
-pub some_definitions-returns-in_err-goes_on : goal.some_definitions-returns-in_err-goes_on
-some_definitions-returns-in_err-goes_on t c =
+pub some_definitions-returns-in_err-expression : goal.some_definitions-returns-in_err-expression
+some_definitions-returns-in_err-expression t c =
+    let e = rules.expression c.args.fuel in
+    let ws = left c.args.reader.now in
+    let start = stack c.args.program.now in
+    let w = completed (top start) (rules.definitions_at e (length ws) ws) in
+    let before = stack c.loop-turns.program in
+    let n = c.loop-turns.turns in
+    stops-by w (left c.expression.new.reader) (below start) (stack c.expression.new.program) c.from_residual-in_err-expression.result c.in_err-expression.field-0.0
+    c.from_residual-in_err-expression.ensures.0 c.from_residual-in_err-expression.ensures.1
+    (λ stop. definitions-valueless e w n before (left c.loop-turns.reader) c.loop-turns.invariant.read c.loop-turns-test.true
+    c.in_ok-name.name (left c.defined.new.reader) (c.in_ok-name.ensures.ok c.in_ok-name.name refl) (c.in_err-expression.ensures.none (ap Err stop)))
+
+pub some_definitions-returns-in_err-finished : goal.some_definitions-returns-in_err-finished
+some_definitions-returns-in_err-finished t c =
     let e = rules.expression c.args.fuel in
     let ws = left c.args.reader.now in
     let start = stack c.args.program.now in
@@ -278,14 +311,12 @@ some_definitions-returns-in_err-goes_on t c =
     let n = c.loop-turns.turns in
     let second = stack c.expression.new.program in
     let value = c.in_ok-expression.ensures in
-    let after = stack c.define.new.self in
-    let on = value.on c.in_ok-expression.field-0 refl in
-    stops-by w (left c.goes_on.new.self) (below start) after c.from_residual-in_err-goes_on.result c.in_err-goes_on.field-0.0
-    c.from_residual-in_err-goes_on.ensures.0 c.from_residual-in_err-goes_on.ensures.1
+    let after = stack c.finished.new.program in
+    stops-by w (left c.finished.new.reader) (below start) after c.from_residual-in_err-finished.result c.in_err-finished.field-0.0
+    c.from_residual-in_err-finished.ensures.0 c.from_residual-in_err-finished.ensures.1
     (λ stop. definitions-stopped e w n before (left c.loop-turns.reader) c.loop-turns.invariant.read c.loop-turns-test.true
-    c.in_ok-name.name (left c.name.new.self) (c.in_ok-name.ensures.ok c.in_ok-name.name refl)
-    (left c.expect.new.self) (c.in_ok-expect.ensures.ok _ refl) second (left c.expression.new.reader) (value.ok c.in_ok-expression.field-0 refl)
-    (c.in_err-goes_on.ensures.none (ap Err stop) (rules.definitions_at e (n - 1)) c.in_ok-name.name (top second)))
+    c.in_ok-name.name (left c.defined.new.reader) (c.in_ok-name.ensures.ok c.in_ok-name.name refl) second (left c.expression.new.reader) (value.ok c.in_ok-expression.field-0 refl)
+    (c.in_err-finished.ensures.marks.none (ap Err stop) (rules.definitions_at e (n - 1)) c.in_ok-name.name (top second)))
 
 pub some_definitions-returns-then-not-branch : goal.some_definitions-returns-then-not-branch
 some_definitions-returns-then-not-branch t c =
@@ -297,16 +328,16 @@ some_definitions-returns-then-not-branch t c =
     let n = c.loop-turns.turns in
     let second = stack c.expression.new.program in
     let value = c.in_ok-expression.ensures in
-    let after = stack c.define.new.self in
+    let after = stack c.finished.new.program in
     let on = value.on c.in_ok-expression.field-0 refl in
-    let closes : ContinuesOk (left c.expression.new.reader) false (left c.goes_on.new.self) =
-    subst (λ g. ContinuesOk (left c.expression.new.reader) g (left c.goes_on.new.self)) c.if-not-branch.true (c.in_ok-goes_on.ensures.ok c.in_ok-goes_on.field-0 refl) in
-    puts-ok w (left c.goes_on.new.self) (below start) after tt
+    let put = c.in_ok-finished.ensures.defined c.in_ok-finished.field-0 refl in
+    let closes : ContinuesOk (left c.expression.new.reader) false (left c.finished.new.reader) =
+    c.in_ok-finished.ensures.marks.ok false (ap Ok c.if-not-branch.true) in
+    puts-ok w (left c.finished.new.reader) (below start) after tt
     (definitions-end e w n before (left c.loop-turns.reader) c.loop-turns.invariant.read c.loop-turns-test.true
-    c.in_ok-name.name (left c.name.new.self) (c.in_ok-name.ensures.ok c.in_ok-name.name refl)
-    (left c.expect.new.self) (c.in_ok-expect.ensures.ok _ refl) second (left c.expression.new.reader) (value.ok c.in_ok-expression.field-0 refl)
-    after (left c.goes_on.new.self) on c.in_ok-define.ensures (closes (rules.definitions_at e (n - 1)) c.in_ok-name.name (top second)))
-    (two-below (below start) before second after c.loop-turns.invariant.rest on (ap below c.in_ok-define.ensures))
+    c.in_ok-name.name (left c.defined.new.reader) (c.in_ok-name.ensures.ok c.in_ok-name.name refl) second (left c.expression.new.reader) (value.ok c.in_ok-expression.field-0 refl)
+    after (left c.finished.new.reader) on put (closes (rules.definitions_at e (n - 1)) c.in_ok-name.name (top second)))
+    (two-below (below start) before second after c.loop-turns.invariant.rest on (ap below put))
 
 pub some_definitions-loop-turns-preserved : goal.some_definitions-loop-turns-preserved
 some_definitions-loop-turns-preserved t c =
@@ -318,17 +349,56 @@ some_definitions-loop-turns-preserved t c =
     let n = c.loop-turns.turns in
     let second = stack c.expression.new.program in
     let value = c.in_ok-expression.ensures in
-    let after = stack c.define.new.self in
+    let after = stack c.finished.new.program in
     let on = value.on c.in_ok-expression.field-0 refl in
-    let goes : ContinuesOk (left c.expression.new.reader) true (left c.goes_on.new.self) =
-    subst (λ g. ContinuesOk (left c.expression.new.reader) g (left c.goes_on.new.self)) c.if-not-branch.false (c.in_ok-goes_on.ensures.ok c.in_ok-goes_on.field-0 refl) in
+    let put = c.in_ok-finished.ensures.defined c.in_ok-finished.field-0 refl in
+    let goes : ContinuesOk (left c.expression.new.reader) true (left c.finished.new.reader) =
+    c.in_ok-finished.ensures.marks.ok true (ap Ok c.if-not-branch.false) in
     record {
       read = definitions-more e w n before (left c.loop-turns.reader) c.loop-turns.invariant.read c.loop-turns-test.true
-          c.in_ok-name.name (left c.name.new.self) (c.in_ok-name.ensures.ok c.in_ok-name.name refl)
-          (left c.expect.new.self) (c.in_ok-expect.ensures.ok _ refl) second (left c.expression.new.reader) (value.ok c.in_ok-expression.field-0 refl)
-          after (left c.goes_on.new.self) on c.in_ok-define.ensures (goes (rules.definitions_at e (n - 1)) c.in_ok-name.name (top second));
-      rest = two-below (below start) before second after c.loop-turns.invariant.rest on (ap below c.in_ok-define.ensures);
+          c.in_ok-name.name (left c.defined.new.reader) (c.in_ok-name.ensures.ok c.in_ok-name.name refl) second (left c.expression.new.reader) (value.ok c.in_ok-expression.field-0 refl)
+          after (left c.finished.new.reader) on put (goes (rules.definitions_at e (n - 1)) c.in_ok-name.name (top second));
+      rest = two-below (below start) before second after c.loop-turns.invariant.rest on (ap below put);
     }
+
+pub suffixes-returns-in_err-selection : goal.suffixes-returns-in_err-selection
+suffixes-returns-in_err-selection t c =
+    let e = rules.expression c.args.fuel in
+    let ws = left c.args.reader.now in
+    let start = stack c.args.program.now in
+    let w = rules.suffixes e (length ws) (top start) ws in
+    let before = stack c.loop-turns.program in
+    stops-by w (left c.selection.new.reader) (below start) (stack c.selection.new.program) c.from_residual.result c.in_err-selection.field-0.0 c.from_residual.ensures.0 c.from_residual.ensures.1
+    (λ stop. suffixes-unselected e w c.loop-turns.turns before (left c.loop-turns.reader) c.loop-turns.invariant.read c.loop-turns-test.true
+    (left c.takes.new.self) (c.takes.ensures.taken c.if-takes.true) (c.in_err-selection.ensures.none (ap Err stop)))
+
+pub suffixes-loop-turns-preserved-in-Continue-1 : goal.suffixes-loop-turns-preserved-in-Continue-1
+suffixes-loop-turns-preserved-in-Continue-1 t c =
+    let e = rules.expression c.args.fuel in
+    let ws = left c.args.reader.now in
+    let start = stack c.args.program.now in
+    let w = rules.suffixes e (length ws) (top start) ws in
+    let before = stack c.loop-turns.program in
+    let after = stack c.selection.new.program in
+    let chosen = c.in_ok-selection.ensures in
+    record {
+      read = suffixes-select e w c.loop-turns.turns before (left c.loop-turns.reader) c.loop-turns.invariant.read c.loop-turns-test.true
+          (left c.takes.new.self) (c.takes.ensures.taken c.if-takes.true) after (left c.selection.new.reader) (chosen.ok c.in_ok-selection.field-0 refl);
+      rest = chosen.on c.in_ok-selection.field-0 refl ∙ c.loop-turns.invariant.rest;
+    }
+
+pub suffixes-returns-in_err-expression : goal.suffixes-returns-in_err-expression
+suffixes-returns-in_err-expression t c =
+    let e = rules.expression c.args.fuel in
+    let ws = left c.args.reader.now in
+    let start = stack c.args.program.now in
+    let w = rules.suffixes e (length ws) (top start) ws in
+    let before = stack c.loop-turns.program in
+    stops-by w (left c.expression.new.reader) (below start) (stack c.expression.new.program) c.from_residual-in_err-expression.result c.in_err-expression.field-0.0
+    c.from_residual-in_err-expression.ensures.0 c.from_residual-in_err-expression.ensures.1
+    (λ stop. suffixes-placeless e w c.loop-turns.turns before (left c.loop-turns.reader) c.loop-turns.invariant.read c.loop-turns-test.true
+    (left c.takes.new.self) (left c.takes-else-takes.new.self) (c.takes.ensures.kept c.if-takes.false) (c.takes-else-takes.ensures.taken c.if-takes-2.true)
+    (c.in_err-expression.ensures.none (ap Err stop)))
 
 pub suffixes-returns-in_err-expect : goal.suffixes-returns-in_err-expect
 suffixes-returns-in_err-expect t c =
@@ -367,12 +437,297 @@ suffixes-loop-turns-preserved t c =
     let before = stack c.loop-turns.program in
     let between = left c.takes.new.self in
     let place = stack c.expression.new.program in
-    let after = stack c.push-then-takes-2.new.self in
+    let after = stack c.push.new.self in
     let on = c.in_ok-expression.ensures.on c.in_ok-expression.field-0 refl in
     record {
       read = suffixes-subscript e w c.loop-turns.turns before (left c.loop-turns.reader) c.loop-turns.invariant.read c.loop-turns-test.true
           between (left c.takes-else-takes.new.self)
           (c.takes.ensures.kept c.if-takes.false) (c.takes-else-takes.ensures.taken c.if-takes-2.true) (left c.expression.new.reader) (left c.expect.new.self) place after on (c.in_ok-expression.ensures.ok c.in_ok-expression.field-0 refl)
-          (c.in_ok-expect.ensures.ok _ refl) c.in_ok-push-2.ensures;
-      rest = two-below (below start) before place after c.loop-turns.invariant.rest on (ap below c.in_ok-push-2.ensures);
+          (c.in_ok-expect.ensures.ok _ refl) c.in_ok-push.ensures;
+      rest = two-below (below start) before place after c.loop-turns.invariant.rest on (ap below c.in_ok-push.ensures);
     }
+
+pub arguments-returns-in_err-several : goal.arguments-returns-in_err-several
+arguments-returns-in_err-several t c =
+    let e = rules.expression c.args.fuel in
+    let ws = left c.args.reader.now in
+    let start = stack c.args.program.now in
+    stops-by (extended (top start) (rules.arguments e ws)) (left c.several.new.reader) (below start) (stack c.several.new.program) c.from_residual.result c.in_err-several.field-0.0 c.from_residual.ensures.0 c.from_residual.ensures.1
+    (λ stop. arguments-unread e (top start) ws (left c.takes.new.self) (c.takes.ensures.other c.if-takes.false) (c.takes.ensures.kept c.if-takes.false) (c.in_err-several.ensures.none (ap Err stop)))
+
+pub elements-returns-in_err-several : goal.elements-returns-in_err-several
+elements-returns-in_err-several t c =
+    let e = rules.expression c.args.fuel in
+    let ws = left c.args.reader.now in
+    let start = stack c.args.program.now in
+    stops-by (extended (top start) (rules.elements e ws)) (left c.several.new.reader) (below start) (stack c.several.new.program) c.from_residual.result c.in_err-several.field-0.0 c.from_residual.ensures.0 c.from_residual.ensures.1
+    (λ stop. elements-unread e (top start) ws (left c.takes.new.self) (c.takes.ensures.other c.if-takes.false) (c.takes.ensures.kept c.if-takes.false) (c.in_err-several.ensures.none (ap Err stop)))
+
+pub conditionals-returns-in_err-level : goal.conditionals-returns-in_err-level
+conditionals-returns-in_err-level t c =
+    let e = rules.expression c.args.fuel in
+    let ws = left c.args.reader.now in
+    let w = rules.conditionals e (suc (length ws)) ws in
+    let before = stack c.loop-turns.program in
+    stops-by w (left c.level.new.reader) (stack c.args.program.now) (stack c.level.new.program) c.from_residual.result c.in_err-level.field-0.0 c.from_residual.ensures.0 c.from_residual.ensures.1
+    (λ stop. conditionals-operandless e w c.loop-turns.pending c.loop-turns.turns before (left c.loop-turns.reader) c.loop-turns.invariant.read c.loop-turns-test.true (c.in_err-level.ensures.none (ap Err stop)))
+
+pub conditionals-returns-in_err-choose : goal.conditionals-returns-in_err-choose
+conditionals-returns-in_err-choose t c =
+    let e = rules.expression c.args.fuel in
+    let ws = left c.args.reader.now in
+    let w = rules.conditionals e (suc (length ws)) ws in
+    stops-full w (left c.takes.new.self) (stack c.args.program.now) (stack c.choose.new.self) c.from_residual-in_err-choose.result c.from_residual-in_err-choose.ensures.0 c.from_residual-in_err-choose.ensures.1
+
+pub conditionals-returns-in_err-expression : goal.conditionals-returns-in_err-expression
+conditionals-returns-in_err-expression t c =
+    let e = rules.expression c.args.fuel in
+    let ws = left c.args.reader.now in
+    let w = rules.conditionals e (suc (length ws)) ws in
+    let before = stack c.loop-turns.program in
+    let first = stack c.level.new.program in
+    let level = c.in_ok-level.ensures in
+    stops-by w (left c.expression.new.reader) (stack c.args.program.now) (stack c.expression.new.program) c.from_residual-in_err-expression.result c.in_err-expression.field-0.0 c.from_residual-in_err-expression.ensures.0 c.from_residual-in_err-expression.ensures.1
+    (λ stop. conditionals-choiceless e w c.loop-turns.pending c.loop-turns.turns before (left c.loop-turns.reader) c.loop-turns.invariant.read c.loop-turns-test.true
+    (left c.level.new.reader) (left c.takes.new.self) first (level.on c.in_ok-level.field-0 refl) (level.ok c.in_ok-level.field-0 refl)
+    (c.takes.ensures.taken c.if-not-takes.false) (c.in_err-expression.ensures.none (ap Err stop)))
+
+pub expression-returns-in_err-lone : goal.expression-returns-in_err-lone
+expression-returns-in_err-lone t c =
+    stops-full (rules.expression c.args.fuel (left c.args.reader.now)) (left c.lone.new.reader) (stack c.args.program.now) (stack c.lone.new.program) c.from_residual.result c.from_residual.ensures.0 c.from_residual.ensures.1
+
+pub marked-returns-in_err-push-in-OpenBrace : goal.marked-returns-in_err-push-in-OpenBrace
+marked-returns-in_err-push-in-OpenBrace t c =
+    let e = rules.expression c.args.fuel in
+    stops-full (rules.primary e (mark_word c.args.mark ∷ left c.args.reader.now)) (left c.args.reader.now) (stack c.args.program.now) (stack c.push.new.self) c.from_residual.result c.from_residual.ensures.0 c.from_residual.ensures.1
+
+pub marked-returns-in_err-push-in-OpenBracket : goal.marked-returns-in_err-push-in-OpenBracket
+marked-returns-in_err-push-in-OpenBracket t c =
+    let e = rules.expression c.args.fuel in
+    stops-full (rules.primary e (mark_word c.args.mark ∷ left c.args.reader.now)) (left c.args.reader.now) (stack c.args.program.now) (stack c.push-in-OpenBracket.new.self) c.from_residual-in_err-push-in-OpenBracket.result c.from_residual-in_err-push-in-OpenBracket.ensures.0 c.from_residual-in_err-push-in-OpenBracket.ensures.1
+
+pub marked-returns-in_err-push-in-OpenBracket-2 : goal.marked-returns-in_err-push-in-OpenBracket-2
+marked-returns-in_err-push-in-OpenBracket-2 t c =
+    let e = rules.expression c.args.fuel in
+    stops-full (rules.primary e (mark_word c.args.mark ∷ left c.args.reader.now)) (left c.definitions.new.reader) (stack c.args.program.now) (stack c.push-in-OpenBracket-2.new.self) c.from_residual-in_err-push-in-OpenBracket-2.result c.from_residual-in_err-push-in-OpenBracket-2.ensures.0 c.from_residual-in_err-push-in-OpenBracket-2.ensures.1
+
+pub marked-returns-in_err-definitions-in-OpenBracket : goal.marked-returns-in_err-definitions-in-OpenBracket
+marked-returns-in_err-definitions-in-OpenBracket t c =
+    let e = rules.expression c.args.fuel in
+    let start = stack c.args.program.now in
+    stops-by (rules.primary e (mark_word c.args.mark ∷ left c.args.reader.now)) (left c.definitions.new.reader) start (stack c.definitions.new.program) c.from_residual-in_err-definitions-in-OpenBracket.result c.in_err-definitions-in-OpenBracket.field-0.0 c.from_residual-in_err-definitions-in-OpenBracket.ensures.0 c.from_residual-in_err-definitions-in-OpenBracket.ensures.1
+    (λ stop. ad-begun e c.args.mark (left c.args.reader.now) start (stack c.push-in-OpenBracket.new.self) c.in-OpenBracket.is c.in_ok-push-in-OpenBracket.ensures
+    ∙ c.in_err-definitions-in-OpenBracket.ensures.none (ap Err stop))
+
+pub marked-returns-in_err-expression-in-OpenParen : goal.marked-returns-in_err-expression-in-OpenParen
+marked-returns-in_err-expression-in-OpenParen t c =
+    let e = rules.expression c.args.fuel in
+    stops-by (rules.primary e (mark_word c.args.mark ∷ left c.args.reader.now)) (left c.expression.new.reader) (stack c.args.program.now) (stack c.expression.new.program) c.from_residual-in_err-expression-in-OpenParen.result c.in_err-expression-in-OpenParen.field-0.0 c.from_residual-in_err-expression-in-OpenParen.ensures.0 c.from_residual-in_err-expression-in-OpenParen.ensures.1
+    (λ stop. paren-none e c.args.mark (left c.args.reader.now) c.in-OpenParen.is (c.in_err-expression-in-OpenParen.ensures.none (ap Err stop)))
+
+pub operations-returns-in_err-level : goal.operations-returns-in_err-level
+operations-returns-in_err-level t c =
+    let k = c.args.precedence in
+    let tight = rules.level_at (rules.expression c.args.fuel) (k - 1) in
+    let ws = left c.args.reader.now in
+    let start = stack c.args.program.now in
+    let w = rules.operations tight k (length ws) (top start) ws in
+    let before = stack c.loop-turns.program in
+    stops-by w (left c.level.new.reader) (below start) (stack c.level.new.program) c.from_residual.result c.in_err-level.field-0.0 c.from_residual.ensures.0 c.from_residual.ensures.1
+    (λ stop. operations-operandless tight w k c.loop-turns.turns before (left c.loop-turns.reader) c.loop-turns.invariant.read c.loop-turns-test.true
+    (left c.infix.new.self) c.in-Some.operator (c.in-Some.ensures.some c.in-Some.operator refl) (c.in_err-level.ensures.none (ap Err stop)))
+
+pub operations-returns-in_err-push : goal.operations-returns-in_err-push
+operations-returns-in_err-push t c =
+    let k = c.args.precedence in
+    let tight = rules.level_at (rules.expression c.args.fuel) (k - 1) in
+    let ws = left c.args.reader.now in
+    let start = stack c.args.program.now in
+    let w = rules.operations tight k (length ws) (top start) ws in
+    stops-full w (left c.level.new.reader) (below start) (stack c.push.new.self) c.from_residual-in_err-push.result c.from_residual-in_err-push.ensures.0 c.from_residual-in_err-push.ensures.1
+
+pub postfix-returns-in_err-primary : goal.postfix-returns-in_err-primary
+postfix-returns-in_err-primary t c =
+    let e = rules.expression c.args.fuel in
+    let ws = left c.args.reader.now in
+    stops-by (rules.postfix e ws) (left c.primary.new.reader) (stack c.args.program.now) (stack c.primary.new.program) c.from_residual.result c.in_err-primary.field-0.0 c.from_residual.ensures.0 c.from_residual.ensures.1
+    (λ stop. postfix-none e ws (c.in_err-primary.ensures.none (ap Err stop)))
+
+pub prefixes-returns-in_err-operators : goal.prefixes-returns-in_err-operators
+prefixes-returns-in_err-operators t c =
+    let e = rules.expression c.args.fuel in
+    let ws = left c.args.reader.now in
+    stops-full (rules.prefixes e ws) (left c.read_operators.new.reader) (stack c.args.program.now) (stack c.args.program.now) c.from_residual.result c.from_residual.ensures.0 c.from_residual.ensures.1
+
+pub prefixes-returns-in_err-postfix : goal.prefixes-returns-in_err-postfix
+prefixes-returns-in_err-postfix t c =
+    let e = rules.expression c.args.fuel in
+    let ws = left c.args.reader.now in
+    stops-by (rules.prefixes e ws) (left c.postfix.new.reader) (stack c.args.program.now) (stack c.postfix.new.program) c.from_residual-in_err-postfix.result c.in_err-postfix.field-0.0 c.from_residual-in_err-postfix.ensures.0 c.from_residual-in_err-postfix.ensures.1
+    (λ stop. c.in_ok-operators.ensures e ∙ ap (wrapped c.in_ok-operators.operators.items) (c.in_err-postfix.ensures.none (ap Err stop)))
+
+pub prefixes-returns-in_err-apply : goal.prefixes-returns-in_err-apply
+prefixes-returns-in_err-apply t c =
+    let e = rules.expression c.args.fuel in
+    let ws = left c.args.reader.now in
+    stops-full (rules.prefixes e ws) (left c.postfix.new.reader) (stack c.args.program.now) (stack c.apply.new.program) c.from_residual-in_err-apply.result c.from_residual-in_err-apply.ensures.0 c.from_residual-in_err-apply.ensures.1
+
+pub several-returns-in_err-expression : goal.several-returns-in_err-expression
+several-returns-in_err-expression t c =
+    let e = rules.expression c.args.fuel in
+    let ws = left c.args.reader.now in
+    let start = stack c.args.program.now in
+    let w = extended (top start) (rules.several e (length ws) ws) in
+    let before = stack c.loop-turns.program in
+    stops-by w (left c.expression.new.reader) (below start) (stack c.expression.new.program) c.from_residual.result c.in_err-expression.field-0.0 c.from_residual.ensures.0 c.from_residual.ensures.1
+    (λ stop. several-valueless e w c.loop-turns.turns before (left c.loop-turns.reader) c.loop-turns.invariant.read c.loop-turns-test.true (c.in_err-expression.ensures.none (ap Err stop)))
+
+pub several-returns-in_err-push : goal.several-returns-in_err-push
+several-returns-in_err-push t c =
+    let e = rules.expression c.args.fuel in
+    let ws = left c.args.reader.now in
+    let start = stack c.args.program.now in
+    let w = extended (top start) (rules.several e (length ws) ws) in
+    stops-full w (left c.expression.new.reader) (below start) (stack c.push.new.self) c.from_residual-in_err-push.result c.from_residual-in_err-push.ensures.0 c.from_residual-in_err-push.ensures.1
+
+pub suffixes-returns-in_err-push : goal.suffixes-returns-in_err-push
+suffixes-returns-in_err-push t c =
+    let e = rules.expression c.args.fuel in
+    let ws = left c.args.reader.now in
+    let start = stack c.args.program.now in
+    stops-full (rules.suffixes e (length ws) (top start) ws) (left c.expect.new.self) (below start) (stack c.push.new.self) c.from_residual-in_err-push.result c.from_residual-in_err-push.ensures.0 c.from_residual-in_err-push.ensures.1
+
+pub marked-returns-in_ok-expression-in-OpenParen : goal.marked-returns-in_ok-expression-in-OpenParen
+marked-returns-in_ok-expression-in-OpenParen t c =
+    let e = rules.expression c.args.fuel in
+    let ws = left c.args.reader.now in
+    let inside = stack c.expression.new.program in
+    let read = c.in_ok-expression-in-OpenParen.ensures in
+    let found = read.ok c.in_ok-expression-in-OpenParen.field-0 refl in
+    puts-expected (rules.primary e (mark_word c.args.mark ∷ left c.args.reader.now)) (left c.expect.new.self) (stack c.args.program.now) inside c.expect.result
+    (λ done is. paren-closed e c.args.mark ws c.in-OpenParen.is (top inside) (left c.expression.new.reader) found (left c.expect.new.self) (c.expect.ensures.ok done is))
+    (read.on c.in_ok-expression-in-OpenParen.field-0 refl)
+    (λ stop is. paren-broken e c.args.mark ws c.in-OpenParen.is (top inside) (left c.expression.new.reader) found (c.expect.ensures.none stop is))
+
+pub conditionals-overflow_add-turns : goal.conditionals-overflow_add-turns
+conditionals-overflow_add-turns t c = omega (arith, c.count-turns.ensures.few)
+
+pub conditionals-overflow_sub-turns : goal.conditionals-overflow_sub-turns
+conditionals-overflow_sub-turns t c = omega (arith, c.loop-turns-test.true)
+
+pub conditionals-overflow_add-pending : goal.conditionals-overflow_add-pending
+conditionals-overflow_add-pending t c = omega (arith, c.loop-turns.invariant.few, c.loop-turns-test.true)
+
+pub conditionals-loop-turns-smaller : goal.conditionals-loop-turns-smaller
+conditionals-loop-turns-smaller t c = omega (arith, c.loop-turns-test.true)
+
+pub operations-loop-turns-smaller : goal.operations-loop-turns-smaller
+operations-loop-turns-smaller t c = omega (arith, c.loop-turns-test.true)
+
+pub several-loop-turns-smaller : goal.several-loop-turns-smaller
+several-loop-turns-smaller t c = omega (arith, c.loop-turns-test.true)
+
+pub some_definitions-loop-turns-smaller : goal.some_definitions-loop-turns-smaller
+some_definitions-loop-turns-smaller t c = omega (arith, c.loop-turns-test.true)
+
+pub suffixes-loop-turns-smaller : goal.suffixes-loop-turns-smaller
+suffixes-loop-turns-smaller t c = omega (arith, c.loop-turns-test.true)
+
+pub conditionals-loop-turns-init : goal.conditionals-loop-turns-init
+conditionals-loop-turns-init t c =
+    let e = rules.expression c.args.fuel in
+    let ws = left c.args.reader.now in
+    let turns : suc (length ws) ≡ c.count-turns.result + 1 = omega (arith, c.count-turns.ensures.value) in
+    record {
+      read = ap (λ n. rules.conditionals e n ws) turns ∙ choices-nil (stack c.args.program.now) (rules.conditionals e (c.count-turns.result + 1) ws);
+      rest = λ x. refl;
+      few = omega (arith, c.count-turns.ensures.few);
+    }
+
+pub conditionals-returns : goal.conditionals-returns
+conditionals-returns t c =
+    let e = rules.expression c.args.fuel in
+    let ws = left c.args.reader.now in
+    let before = stack c.loop-turns.program in
+    let out : c.loop-turns.turns ≡ 0 = omega (arith, c.loop-turns-test.false) in
+    stops-now (rules.conditionals e (suc (length ws)) ws) (left c.loop-turns.reader) (stack c.args.program.now) before
+    (c.loop-turns.invariant.read ∙ ap (λ n. choices c.loop-turns.pending before (rules.conditionals e n (left c.loop-turns.reader))) out)
+
+pub several-returns : goal.several-returns
+several-returns t c =
+    let e = rules.expression c.args.fuel in
+    let ws = left c.args.reader.now in
+    let start = stack c.args.program.now in
+    let before = stack c.loop-turns.program in
+    let out : c.loop-turns.turns ≡ 0 = omega (arith, c.loop-turns-test.false) in
+    stops-now (extended (top start) (rules.several e (length ws) ws)) (left c.loop-turns.reader) (below start) before
+    (c.loop-turns.invariant.read ∙ ap (λ n. extended (top before) (rules.several e n (left c.loop-turns.reader))) out)
+
+pub some_definitions-returns : goal.some_definitions-returns
+some_definitions-returns t c =
+    let e = rules.expression c.args.fuel in
+    let ws = left c.args.reader.now in
+    let start = stack c.args.program.now in
+    let before = stack c.loop-turns.program in
+    let out : c.loop-turns.turns ≡ 0 = omega (arith, c.loop-turns-test.false) in
+    stops-now (completed (top start) (rules.definitions_at e (length ws) ws)) (left c.loop-turns.reader) (below start) before
+    (c.loop-turns.invariant.read ∙ ap (λ n. completed (top before) (rules.definitions_at e n (left c.loop-turns.reader))) out)
+
+pub suffixes-returns : goal.suffixes-returns
+suffixes-returns t c =
+    let e = rules.expression c.args.fuel in
+    let ws = left c.args.reader.now in
+    let start = stack c.args.program.now in
+    let before = stack c.loop-turns.program in
+    let out : c.loop-turns.turns ≡ 0 = omega (arith, c.loop-turns-test.false) in
+    puts-ok (rules.suffixes e (length ws) (top start) ws) (left c.loop-turns.reader) (below start) before tt
+    (c.loop-turns.invariant.read ∙ ap (λ n. rules.suffixes e n (top before) (left c.loop-turns.reader)) out) c.loop-turns.invariant.rest
+
+pub operations-returns-in_default : goal.operations-returns-in_default
+operations-returns-in_default t c =
+    let k = c.args.precedence in
+    let tight = rules.level_at (rules.expression c.args.fuel) (k - 1) in
+    let ws = left c.args.reader.now in
+    let start = stack c.args.program.now in
+    let w = rules.operations tight k (length ws) (top start) ws in
+    let before = stack c.loop-turns.program in
+    puts-ok w (left c.infix.new.self) (below start) before tt
+    (operations-end tight w k c.loop-turns.turns before (left c.loop-turns.reader) (left c.infix.new.self) c.loop-turns.invariant.read c.loop-turns-test.true
+    (c.in_default.ensures.none refl) (c.in_default.ensures.kept refl))
+    c.loop-turns.invariant.rest
+
+pub climb-loop-next-smaller : goal.climb-loop-next-smaller
+climb-loop-next-smaller t c =
+    let next = c.in-Some.ensures.some c.in-Some.next refl in
+    omega (arith, next.1, next.2)
+
+pub conditionals-level-requires : goal.conditionals-level-requires
+conditionals-level-requires t c = omega arith
+
+pub conditionals-expression-requires : goal.conditionals-expression-requires
+conditionals-expression-requires t c = omega arith
+
+pub several-expression-requires : goal.several-expression-requires
+several-expression-requires t c = omega arith
+
+pub some_definitions-expression-requires : goal.some_definitions-expression-requires
+some_definitions-expression-requires t c = omega arith
+
+pub suffixes-expression-requires : goal.suffixes-expression-requires
+suffixes-expression-requires t c = omega arith
+
+pub marked-elements-requires : goal.marked-elements-requires
+marked-elements-requires t c = omega arith
+
+pub marked-definitions-requires : goal.marked-definitions-requires
+marked-definitions-requires t c = omega arith
+
+pub marked-expression-requires : goal.marked-expression-requires
+marked-expression-requires t c = omega arith
+
+pub marked-returns-in_default : goal.marked-returns-in_default
+marked-returns-in_default t c =
+    let e = rules.expression c.args.fuel in
+    let ws = left c.args.reader.now in
+    stops-now (rules.primary e (mark_word c.args.mark ∷ ws)) ws (stack c.args.program.now) (stack c.args.program.now)
+    (primary-none e c.args.mark ws c.in_default.not-OpenParen c.in_default.not-OpenBracket c.in_default.not-OpenBrace c.in_default.not-Dot)

@@ -37,9 +37,6 @@ decreases-primary l = 60 * l.fuel + 8
 abbrev pub decreases-marked : goal.decreases-marked
 decreases-marked l = 60 * l.fuel + 7
 
-abbrev pub decreases-plain : goal.decreases-plain
-decreases-plain l = 60 * l.fuel + 7
-
 abbrev pub decreases-arguments : goal.decreases-arguments
 decreases-arguments l = 60 * l.fuel + 6
 

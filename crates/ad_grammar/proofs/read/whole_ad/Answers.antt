@@ -4,11 +4,11 @@ use Rattle.ad_grammar.specs.Machine.{stack, top}
 use Rattle.ad_grammar.specs.Rules.{parsed_ad}
 use Rattle.ad_grammar.specs.Steps.{left}
 use Rattle.ad_grammar.proofs.ReadLemmas.{is_read-ok, is_read-none, is_read-by, ad-all, ad-more, ad-none, below-alone}
-use Rattle.ad_grammar.proofs.read.read_ad.Goals as goal
+use Rattle.ad_grammar.proofs.read.whole_ad.Goals as goal
 
 pub returns-in_err-definitions : goal.returns-in_err-definitions
 returns-in_err-definitions c =
-    let old = left c.args.reader in
+    let old = left c.args.reader.now in
     let ws = left c.expect.new.self in
     is_read-by (parsed_ad old) c.from_residual-in_err-definitions.result c.in_err-definitions.field-0.0 c.from_residual-in_err-definitions.ensures.0 c.from_residual-in_err-definitions.ensures.1
     (λ stop. ad-none ws (c.count-fuel.result + 1) (ap (λ n. n + 1) c.count-fuel.ensures.value) old (c.in_ok-expect.ensures.ok _ refl)
@@ -16,7 +16,7 @@ returns-in_err-definitions c =
 
 pub returns-then-count-gt0 : goal.returns-then-count-gt0
 returns-then-count-gt0 c =
-    let old = left c.args.reader in
+    let old = left c.args.reader.now in
     let ws = left c.expect.new.self in
     let read = c.in_ok-definitions.ensures in
     is_read-none (parsed_ad old) stops.Grammar
@@ -26,7 +26,7 @@ returns-then-count-gt0 c =
 
 pub returns : goal.returns
 returns c =
-    let old = left c.args.reader in
+    let old = left c.args.reader.now in
     let ws = left c.expect.new.self in
     let read = c.in_ok-definitions.ensures in
     is_read-ok (parsed_ad old) c.definitions.new.program

@@ -1,0 +1,15 @@
+use Rattle.std.proofs.Common.{ap, ◌∙◌}
+use Rattle.ad_grammar.specs.declared.program.Instruction.TheVariants as instructions
+use Rattle.ad_grammar.specs.Machine.{stack, below, step}
+use Rattle.ad_grammar.specs.Rules.{plain_at}
+use Rattle.ad_grammar.specs.Steps.{left}
+use Rattle.ad_grammar.proofs.RuleLemmas.{begins-call, call-begun}
+use Rattle.ad_grammar.proofs.phrase.named.Goals as goal
+
+pub returns-then-takes : goal.returns-then-takes
+returns-then-takes c =
+    let st = stack c.args.program.now in
+    let put = c.in_ok-push.ensures ∙ ap (λ t. step (instructions.Call t) st) c.in_ok-from_bytes.ensures in
+    begins-call (λ e. plain_at e c.args.text.now (left c.args.reader.now)) (left c.takes.new.self) st (stack c.push.new.self)
+    (λ e. call-begun e c.args.text.now (left c.args.reader.now) (left c.takes.new.self) st (stack c.push.new.self) (c.takes.ensures.taken c.if-takes.true) put)
+    (ap below put)

@@ -1,0 +1,160 @@
+// Parts of the rules that hold no expression.
+ghost use Rattle.std.specs.Prelude.{◌≡◌, ℕ, Bool, true, false, List, Some, None, Ok, Err, suc};
+ghost use Rattle.ad_grammar.specs.declared.program.Instruction.TheVariants as instructions;
+ghost use Rattle.ad_grammar.specs.declared.stop.Stop.TheVariants as stops;
+ghost use Rattle.ad_grammar.specs.HeldMarks.{front_mark};
+ghost use Rattle.ad_grammar.specs.Machine.{stack, top, below, step};
+ghost use Rattle.ad_grammar.specs.Rules.{expression, plain_at, primary};
+ghost use Rattle.ad_grammar.specs.Steps.{left, Begins, Continues, Gives, Puts, attribute_at, defined_at, reference, selected};
+ghost use Rattle.ad_grammar.specs.Words.{scope_of};
+
+use crate::mark::Mark;
+use crate::program::{Instruction, Program};
+use crate::reader::Reader;
+use crate::stop::Stop;
+use crate::word::Word;
+use ad_tree::Scope;
+use pool_text::{OutOfMemory, Text};
+use std::alloc::Global;
+
+/// A literal alone, with a mark behind it that no expression goes on with. Answers whether one stands there.
+pub(crate) fn lone(
+    alloc: Global,
+    reader: &mut Reader<'_>,
+    program: &mut Program,
+) -> Result<bool, OutOfMemory>
+    ensures read { result ≡ Ok true → (fuel : ℕ) → expression (suc fuel) (left reader.old) ≡ Some (top (stack program.new), left reader.new) }
+    ensures below { result ≡ Ok true → below (stack program.new) ≡ stack program.old }
+    ensures kept { result ≡ Ok false → left reader.new ≡ left reader.old }
+    ensures same { result ≡ Ok false → stack program.new ≡ stack program.old }
+{
+    let Some(literal) = reader.lone_literal(alloc)? else {
+        return Ok(false);
+    };
+    program.push(Instruction::Literal(literal))?;
+    Ok(true)
+}
+
+/// A primary that begins with a word, and no mark. Answers whether it is a call, of which the arguments are still to be
+/// read.
+pub(crate) fn worded(
+    alloc: Global,
+    reader: &mut Reader<'_>,
+    program: &mut Program,
+) -> Result<bool, Stop>
+    requires { front_mark (left reader.now) ≡ None }
+    ensures { Begins (λ e. primary e (left reader.old)) result (left reader.new) (stack program.old) (stack program.new) }
+{
+    match reader.take(alloc)? {
+        Some(Word::Constant(literal)) => put(program, Instruction::Literal(literal)),
+        Some(Word::Plain(text)) => named(alloc, reader, program, text),
+        Some(Word::Quoted(text)) => put(program, Instruction::Name(Scope::Bare, text)),
+        _ => Err(Stop::Grammar),
+    }
+}
+
+/// A primary of one instruction, which is no call.
+fn put(program: &mut Program, instruction: Instruction) -> Result<bool, Stop>
+    ensures whole { (call : Bool) → result ≡ Ok call → call ≡ false }
+    ensures stack { (call : Bool) → result ≡ Ok call → stack program.new ≡ step instruction (stack program.old) }
+    ensures none { result ≡ Err stops.Grammar → ⊥ }
+{
+    program.push(instruction)?;
+    Ok(false)
+}
+
+/// A plain name, a call, or a name in a scope. Answers whether it is a call.
+fn named(
+    alloc: Global,
+    reader: &mut Reader<'_>,
+    program: &mut Program,
+    text: &[u8],
+) -> Result<bool, Stop>
+    ensures { Begins (λ e. plain_at e text.now (left reader.old)) result (left reader.new) (stack program.old) (stack program.new) }
+{
+    if reader.takes(Mark::OpenParen) {
+        program.push(Instruction::Call(Text::from_bytes(alloc, text)?))?;
+        return Ok(true);
+    }
+    reference(alloc, reader, program, text)?;
+    Ok(false)
+}
+
+/// A plain name, where no call begins, or a name in a scope.
+fn reference(
+    alloc: Global,
+    reader: &mut Reader<'_>,
+    program: &mut Program,
+    text: &[u8],
+) -> Result<(), Stop>
+    ensures { Puts (reference text.now (left reader.old)) result (left reader.new) (stack program.old) (stack program.new) }
+{
+    if let Some(scope) = scope_of(text) {
+        if reader.takes(Mark::Dot) {
+            return attribute(alloc, reader, program, scope);
+        }
+    }
+    let name = Text::from_bytes(alloc, text)?;
+    Ok(program.push(Instruction::Name(Scope::Bare, name))?)
+}
+
+/// A name in a scope, behind the dot.
+pub(crate) fn attribute(
+    alloc: Global,
+    reader: &mut Reader<'_>,
+    program: &mut Program,
+    scope: Scope,
+) -> Result<(), Stop>
+    ensures { Puts (attribute_at scope (left reader.old)) result (left reader.new) (stack program.old) (stack program.new) }
+{
+    let name = reader.name(alloc)?;
+    Ok(program.push(Instruction::Name(scope, name))?)
+}
+
+/// A selection from the last tree, behind the dot.
+pub(crate) fn selection(
+    alloc: Global,
+    reader: &mut Reader<'_>,
+    program: &mut Program,
+) -> Result<(), Stop>
+    ensures { Puts (selected (top (stack program.old)) (left reader.old)) result (left reader.new) (below (stack program.old)) (stack program.new) }
+{
+    let name = reader.name(alloc)?;
+    Ok(program.push(Instruction::Select(name))?)
+}
+
+/// The name that a definition defines, with the mark behind it.
+pub(crate) fn defined(alloc: Global, reader: &mut Reader<'_>) -> Result<Text, Stop>
+    ensures { Gives (λ (t : List ℕ). t) (defined_at (left reader.old)) result (left reader.new) }
+{
+    let name = reader.name(alloc)?;
+    reader.expect(Mark::Assign)?;
+    Ok(name)
+}
+
+/// Defines the name as the last tree. Answers whether another definition stands behind it, with the marks between or
+/// behind them taken.
+pub(crate) fn finished(
+    reader: &mut Reader<'_>,
+    program: &mut Program,
+    name: Text,
+) -> Result<bool, Stop>
+    ensures defined { (goes : Bool) → result ≡ Ok goes → stack program.new ≡ step (instructions.Define name) (stack program.old) }
+    ensures marks { Continues (left reader.old) (left reader.new) result }
+{
+    program.define(name)?;
+    reader.goes_on()
+}
+
+/// The scope that a plain name is in front of a dot, in any case.
+fn scope_of(name: &[u8]) -> Option<Scope>
+    ensures { result ≡ scope_of name.now }
+{
+    if name.eq_ignore_ascii_case(b"my") || name.eq_ignore_ascii_case(b"self") {
+        Some(Scope::My)
+    } else if name.eq_ignore_ascii_case(b"target") || name.eq_ignore_ascii_case(b"other") {
+        Some(Scope::Target)
+    } else {
+        None
+    }
+}

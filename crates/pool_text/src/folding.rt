@@ -1,5 +1,6 @@
 // Names and strings are compared after `A` to `Z` are made small.
 ghost use Rattle.std.specs.Prelude.{◌≡◌, ◌↔◌, IfOk, IsTrue};
+ghost use Rattle.std.specs.Char.{to_ascii_lowercase};
 ghost use Rattle.pool_text.specs.Folding.{folded, text_order};
 
 use crate::{OutOfMemory, Text};
@@ -14,11 +15,42 @@ pub fn fold(alloc: Global, bytes: &[u8]) -> Result<Text, OutOfMemory>
     Text::from_bytes(alloc, &small)
 }
 
-/// Whether the bytes are equal after folding.
+/// Whether the bytes are equal after folding. Most texts that differ do in their lengths, or in their first letters.
+#[inline(always)]
 pub fn same_folded(a: &[u8], b: &[u8]) -> bool
     ensures { IsTrue result ↔ (folded a.now ≡ folded b.now) }
 {
-    a.eq_ignore_ascii_case(b)
+    if a.len() != b.len() {
+        return false;
+    }
+    have_same_letters(a, b)
+}
+
+#[inline(always)]
+fn have_same_letters(a: &[u8], b: &[u8]) -> bool
+    ensures { IsTrue result ↔ (folded a.now ≡ folded b.now) }
+{
+    let mut left = a;
+    let mut right = b;
+    while let [x, left_rest @ ..] = left {
+        let [y, right_rest @ ..] = right else {
+            return false;
+        };
+        if !is_same_letter(*x, *y) {
+            return false;
+        }
+        left = left_rest;
+        right = right_rest;
+    }
+    right.is_empty()
+}
+
+// Most letters that are equal are spelled alike.
+#[inline(always)]
+fn is_same_letter(x: u8, y: u8) -> bool
+    ensures { IsTrue result ↔ (to_ascii_lowercase x ≡ to_ascii_lowercase y) }
+{
+    x == y || x.to_ascii_lowercase() == y.to_ascii_lowercase()
 }
 
 /// How the bytes compare after folding, byte by byte, the shorter first where it begins the longer.

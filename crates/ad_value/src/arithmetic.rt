@@ -2,7 +2,7 @@
 ghost use Rattle.std.specs.Prelude.{◌≡◌, ◌/◌, ◌^◌, MatchOption};
 ghost use Rattle.std.specs.Int.{cast_signed, cast_unsigned, int_shl, int_shr, w64};
 ghost use Rattle.ad_value.specs.Plain.{error, integer, plain};
-ghost use Rattle.ad_value.specs.Operators.{number_of, number_row, shifted};
+ghost use Rattle.ad_value.specs.Operators.{binary_value, number_of, number_row, shifted};
 
 use crate::Value;
 use pool_text::BinOp;
@@ -53,6 +53,21 @@ pub(crate) fn on_numbers(op: BinOp, x: i64, y: i64) -> Value
         BinOp::Rem => remainder(x, y),
         // `is` and `isnt` aren't strict, and have rows of their own.
         BinOp::Same | BinOp::NotSame => Value::Error,
+    }
+}
+
+/// The value of `x op y` for two Integers.
+pub(crate) fn on_integers(op: BinOp, x: i64, y: i64) -> Value
+    ensures { plain result ≡ binary_value op (integer x) (integer y) }
+{
+    match op {
+        BinOp::Same | BinOp::Equal => Value::Boolean(x == y),
+        BinOp::NotSame | BinOp::Unequal => Value::Boolean(x != y),
+        BinOp::Less => Value::Boolean(x < y),
+        BinOp::AtMost => Value::Boolean(x <= y),
+        BinOp::Greater => Value::Boolean(x > y),
+        BinOp::AtLeast => Value::Boolean(x >= y),
+        _ => on_numbers(op, x, y),
     }
 }
 

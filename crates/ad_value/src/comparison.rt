@@ -1,15 +1,27 @@
 // Operators on literals as they stand, with no value made of a text.
 ghost use Rattle.std.specs.Prelude.{◌≡◌};
 ghost use Rattle.ad_value.specs.Operators.{binary_value, is_same, number_of, strict, strict_row};
-ghost use Rattle.ad_value.specs.Plain.{plain, plain_of_lit};
+ghost use Rattle.ad_value.specs.Logic.{is_true};
+ghost use Rattle.ad_value.specs.Plain.{integer, plain, plain_of_lit, text};
 
 use crate::Value;
-use crate::arithmetic::on_numbers;
+use crate::arithmetic::{on_integers, on_numbers};
+use crate::folding::equal_texts;
 use crate::operators::on_texts;
-use pool_text::{BinOp, Lit};
+use pool_text::{BinOp, Lit, order_folded};
 
 /// The value of `a op b` for two literals. It takes no memory.
 pub fn binary_of_literals(op: BinOp, a: &Lit, b: &Lit) -> Value
+    ensures { plain result ≡ binary_value op (plain_of_lit a.now) (plain_of_lit b.now) }
+{
+    match (a, b) {
+        (Lit::Integer(x), Lit::Integer(y)) => on_integers(op, *x, *y),
+        _ => by_operator(op, a, b),
+    }
+}
+
+// The same for literals of any kinds.
+fn by_operator(op: BinOp, a: &Lit, b: &Lit) -> Value
     ensures { plain result ≡ binary_value op (plain_of_lit a.now) (plain_of_lit b.now) }
 {
     match op {
@@ -17,6 +29,56 @@ pub fn binary_of_literals(op: BinOp, a: &Lit, b: &Lit) -> Value
         BinOp::NotSame => Value::Boolean(!are_same(a, b)),
         _ => strict_result(op, a, b),
     }
+}
+
+/// Whether `a op b` is true for two literals. It takes no memory.
+pub fn is_true_of_literals(op: BinOp, a: &Lit, b: &Lit) -> bool
+    ensures { result ≡ is_true (binary_value op (plain_of_lit a.now) (plain_of_lit b.now)) }
+{
+    match (a, b) {
+        (Lit::Integer(x), Lit::Integer(y)) => is_true_of_integers(op, *x, *y),
+        (Lit::Str(x), Lit::Str(y)) => is_true_of_texts(op, x.bytes(), y.bytes()),
+        _ => is_true(&by_operator(op, a, b)),
+    }
+}
+
+// Whether `x op y` is true for two Integers.
+fn is_true_of_integers(op: BinOp, x: i64, y: i64) -> bool
+    ensures { result ≡ is_true (binary_value op (integer x) (integer y)) }
+{
+    match op {
+        BinOp::Equal | BinOp::Same => x == y,
+        BinOp::Unequal | BinOp::NotSame => x != y,
+        BinOp::Less => x < y,
+        BinOp::AtMost => x <= y,
+        BinOp::Greater => x > y,
+        BinOp::AtLeast => x >= y,
+        _ => false,
+    }
+}
+
+// Whether `a op b` is true for two texts.
+fn is_true_of_texts(op: BinOp, a: &[u8], b: &[u8]) -> bool
+    ensures { result ≡ is_true (binary_value op (text a.now) (text b.now)) }
+{
+    match op {
+        BinOp::Same => a == b,
+        BinOp::NotSame => a != b,
+        BinOp::Equal => equal_texts(a, b),
+        BinOp::Unequal => !equal_texts(a, b),
+        BinOp::Less => order_folded(a, b).is_lt(),
+        BinOp::AtMost => order_folded(a, b).is_le(),
+        BinOp::Greater => order_folded(a, b).is_gt(),
+        BinOp::AtLeast => order_folded(a, b).is_ge(),
+        _ => false,
+    }
+}
+
+// Whether the value is the Boolean true.
+fn is_true(value: &Value) -> bool
+    ensures { result ≡ is_true (plain value.now) }
+{
+    matches!(value, Value::Boolean(true))
 }
 
 // `a is b`.

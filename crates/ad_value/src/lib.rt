@@ -4,6 +4,7 @@
 mod arithmetic;
 mod comparison;
 mod copying;
+mod folding;
 mod identity;
 mod laws;
 mod literal;
@@ -12,8 +13,9 @@ mod operators;
 mod value;
 mod weighing;
 
-pub use comparison::binary_of_literals;
+pub use comparison::{binary_of_literals, is_true_of_literals};
 pub use copying::copy;
+pub use folding::equal_folded;
 pub use identity::same;
 pub use laws::{
     elements_are_those_listed, equal_texts_fold_alike, is_is_equality, or_mirrors_and,

@@ -3,7 +3,8 @@ ghost use Rattle.std.specs.Prelude.{◌≡◌};
 ghost use Rattle.ad_value.specs.Plain.{plain};
 ghost use Rattle.ad_value.specs.Operators.{binary_value, negated_value, strict, strict_row, text_row, unary_row, unary_value};
 
-use crate::arithmetic::{integer_result, number, on_numbers};
+use crate::arithmetic::{integer_result, number, on_integers, on_numbers};
+use crate::folding::equal_texts;
 use crate::{Value, same};
 use pool_text::{BinOp, UnOp, order_folded};
 
@@ -13,6 +14,16 @@ use pool_text::{BinOp, UnOp, order_folded};
 /// gives Undefined. Numbers are Integers and Booleans, the latter as 1 or 0; a result out of 64 bits, a divisor 0, and
 /// a shift below 0 or over 63 give Error. Texts are compared after `A` to `Z` are made small. All else is Error.
 pub fn binary(op: BinOp, a: &Value, b: &Value) -> Value
+    ensures { plain result ≡ binary_value op (plain a.now) (plain b.now) }
+{
+    match (a, b) {
+        (Value::Integer(x), Value::Integer(y)) => on_integers(op, *x, *y),
+        _ => by_operator(op, a, b),
+    }
+}
+
+// The same for operands of any kinds.
+fn by_operator(op: BinOp, a: &Value, b: &Value) -> Value
     ensures { plain result ≡ binary_value op (plain a.now) (plain b.now) }
 {
     match op {
@@ -41,14 +52,13 @@ fn strict_result(op: BinOp, a: &Value, b: &Value) -> Value
 pub(crate) fn on_texts(op: BinOp, a: &[u8], b: &[u8]) -> Value
     ensures { plain result ≡ text_row op a.now b.now }
 {
-    let order = order_folded(a, b);
     match op {
-        BinOp::Equal => Value::Boolean(order.is_eq()),
-        BinOp::Unequal => Value::Boolean(order.is_ne()),
-        BinOp::Less => Value::Boolean(order.is_lt()),
-        BinOp::AtMost => Value::Boolean(order.is_le()),
-        BinOp::Greater => Value::Boolean(order.is_gt()),
-        BinOp::AtLeast => Value::Boolean(order.is_ge()),
+        BinOp::Equal => Value::Boolean(equal_texts(a, b)),
+        BinOp::Unequal => Value::Boolean(!equal_texts(a, b)),
+        BinOp::Less => Value::Boolean(order_folded(a, b).is_lt()),
+        BinOp::AtMost => Value::Boolean(order_folded(a, b).is_le()),
+        BinOp::Greater => Value::Boolean(order_folded(a, b).is_gt()),
+        BinOp::AtLeast => Value::Boolean(order_folded(a, b).is_ge()),
         _ => Value::Error,
     }
 }

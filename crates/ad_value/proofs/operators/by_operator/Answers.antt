@@ -1,7 +1,7 @@
 use Rattle.std.proofs.Common.{◌∙◌}
 use Rattle.ad_value.specs.Plain.{plain}
 use Rattle.ad_value.proofs.OperatorLemmas.{binary_value-strict}
-use Rattle.ad_value.proofs.operators.binary.Goals as goal
+use Rattle.ad_value.proofs.operators.by_operator.Goals as goal
 
 pub returns-in_default : goal.returns-in_default
 returns-in_default c =

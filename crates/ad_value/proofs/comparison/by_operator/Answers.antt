@@ -1,7 +1,7 @@
 use Rattle.std.proofs.Common.{◌∙◌}
 use Rattle.ad_value.specs.Plain.{plain_of_lit}
 use Rattle.ad_value.proofs.OperatorLemmas.{binary_value-strict}
-use Rattle.ad_value.proofs.comparison.binary_of_literals.Goals as goal
+use Rattle.ad_value.proofs.comparison.by_operator.Goals as goal
 
 pub returns-in_default : goal.returns-in_default
 returns-in_default c =

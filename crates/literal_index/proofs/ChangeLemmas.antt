@@ -5,7 +5,8 @@ use Rattle.std.specs.BTreeMap.{BTreeMap, get, is_at}
 use Rattle.ad_tree.specs.Tree.{Tree}
 use Rattle.literal_index.specs.declared.place.Place.{Place}
 use Rattle.literal_index.specs.declared.entry.Entry.{Entry}
-use Rattle.literal_index.specs.Entries.{entry_of, is_place, place_of, place_order}
+use Rattle.literal_index.specs.Entries.{entry_of, is_place, place_of}
+use Rattle.literal_index.specs.Order.{place_order}
 use Rattle.literal_index.specs.Changes.{HasPut, HasPutOne, HasTaken, IsSame, is_place_below}
 use Rattle.literal_index.proofs.Orders.{at_place}
 

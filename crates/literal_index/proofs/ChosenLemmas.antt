@@ -28,7 +28,8 @@ use Rattle.literal_index.specs.declared.entry.Choice.{Choice}
 use Rattle.literal_index.specs.declared.span.Span.{Span}
 use Rattle.literal_index.specs.Digests.{digest}
 use Rattle.literal_index.specs.Rows.{Row, ad_under, passes, passing_slots, row_of}
-use Rattle.literal_index.specs.Entries.{chosen_slots, entry_at, entry_in, entry_of, holds_with, is_chosen, is_of, kind_of, literal_of, place_of, place_order, value_of}
+use Rattle.literal_index.specs.Entries.{chosen_slots, entry_at, entry_in, entry_of, holds_with, is_chosen, is_of, kind_of, literal_of, place_of, value_of}
+use Rattle.literal_index.specs.Order.{place_order}
 use Rattle.literal_index.specs.Selections.{spanned}
 use Rattle.literal_index.specs.Shown.{AreIndexed, IsRow}
 use Rattle.literal_index.specs.Spans.{Covers, first_place, last_place}

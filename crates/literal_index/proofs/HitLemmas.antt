@@ -25,7 +25,8 @@ use Rattle.literal_index.specs.declared.entry.Entry.{Entry}
 use Rattle.literal_index.specs.declared.entry.Choice.{Choice}
 use Rattle.literal_index.specs.declared.span.Span.{Span}
 use Rattle.literal_index.specs.Rows.{Row, ad_under, passes, passing_slots, row_of}
-use Rattle.literal_index.specs.Entries.{chosen_slots, holds_with, is_chosen, is_of, kind_of, place_order, value_of}
+use Rattle.literal_index.specs.Entries.{chosen_slots, holds_with, is_chosen, is_of, kind_of, value_of}
+use Rattle.literal_index.specs.Order.{place_order}
 use Rattle.literal_index.specs.Selections.{spanned}
 use Rattle.literal_index.specs.Shown.{AreIndexed}
 use Rattle.literal_index.specs.Spans.{Covers, failing_span, open_span, passing_span}

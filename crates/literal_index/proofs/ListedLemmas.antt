@@ -13,9 +13,10 @@ use Rattle.ad_tree.specs.Frames.{attributes_at}
 use Rattle.literal_index.specs.declared.place.Place.{Place}
 use Rattle.literal_index.specs.declared.entry.Entry.{Entry}
 use Rattle.literal_index.specs.Rows.{Row, ad_under}
-use Rattle.literal_index.specs.Entries.{entry_at, entry_in, entry_of, place_of, place_order}
+use Rattle.literal_index.specs.Entries.{entry_at, entry_in, entry_of, place_of}
+use Rattle.literal_index.specs.Order.{place_order, place_order_total}
 use Rattle.literal_index.proofs.NamedLemmas.{entries_onto}
-use Rattle.literal_index.proofs.Orders.{at_place, place_order_total}
+use Rattle.literal_index.proofs.Orders.{at_place}
 use Rattle.literal_index.proofs.RowLemmas.{agree, differ, none-under}
 
 abbrev pub at : Place → Place → Bool

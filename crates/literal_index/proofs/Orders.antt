@@ -1,6 +1,5 @@
 -- The order of places.
 use Rattle.std.proofs.Common.{refl, ◌≡◌, ap, ℕ, ℤ, Ordering, true, nat_cmp}
-use Rattle.std.specs.Cmp.{IsTotalOrder}
 use Rattle.std.specs.Ordering.{int_cmp, ordering_then, is_eq}
 use Rattle.std.proofs.lemmas.Map.Lookups.{CmpEqualImpliesEq, exact_unsigned, exact_signed}
 use Rattle.std.proofs.lemmas.Cmp.{tied_itself}
@@ -8,16 +7,7 @@ use Rattle.std.specs.BTreeMap.{is_at}
 use Rattle.std.specs.declared.cmp.Ordering.TheVariants.{Less, Equal, Greater}
 use Rattle.literal_index.specs.declared.place.Place.{Place}
 use Rattle.literal_index.specs.declared.place.Kind.{Kind}
-use Rattle.literal_index.specs.contracts.place.KindOrd.TheImpl as kind
-use Rattle.literal_index.specs.contracts.place.PlaceOrd.TheImpl.Laws as laws
-use Rattle.literal_index.specs.Entries.{place_order}
-
-pub place_order_total : IsTotalOrder place_order
-place_order_total = laws.total-law
-
--- the order of kinds
-abbrev pub kind_order : Kind → Kind → Ordering
-kind_order = (kind.cmp-value).it
+use Rattle.literal_index.specs.Order.{kind_order, place_order, place_order_total}
 
 pub exact_kinds : CmpEqualImpliesEq kind_order
 exact_kinds Kind.Open Kind.Open e = refl

@@ -14,7 +14,8 @@ use Rattle.ad_tree.specs.Frames.{Frame, attributes_at}
 use Rattle.literal_index.specs.declared.place.Place.{Place}
 use Rattle.literal_index.specs.declared.entry.Entry.{Entry}
 use Rattle.literal_index.specs.Rows.{Row, ad_under, row_of}
-use Rattle.literal_index.specs.Entries.{entry_at, entry_in, entry_of, is_place, place_of, place_order}
+use Rattle.literal_index.specs.Entries.{entry_at, entry_in, entry_of, is_place, place_of}
+use Rattle.literal_index.specs.Order.{place_order}
 use Rattle.literal_index.specs.Changes.{HasPut, HasTaken, IsSame, is_place_below}
 use Rattle.literal_index.specs.Shown.{AreIndexed, IsRow}
 use Rattle.literal_index.proofs.Orders.{at_place}

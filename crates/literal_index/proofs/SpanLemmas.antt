@@ -20,9 +20,10 @@ use Rattle.literal_index.specs.declared.place.Place.{Place}
 use Rattle.literal_index.specs.declared.place.Kind.{Kind}
 use Rattle.literal_index.specs.declared.span.Span.{Span}
 use Rattle.literal_index.specs.Digests.{digest, digest_from, number_of_text}
-use Rattle.literal_index.specs.Entries.{holds_with, kind_of, place_order, value_of}
+use Rattle.literal_index.specs.Entries.{holds_with, kind_of, value_of}
+use Rattle.literal_index.specs.Order.{kind_order, place_order}
 use Rattle.literal_index.specs.Spans.{Covers, IsLiteral, failing_span, first_place, last_place, passing_span, numbers_from, numbers_up_to, span_at, span_from, span_up_to}
-use Rattle.literal_index.proofs.Orders.{kind_order, kind_order_self}
+use Rattle.literal_index.proofs.Orders.{kind_order_self}
 
 -- ---- places in a span
 

@@ -4,7 +4,8 @@ use Rattle.std.specs.BTreeMap.{BTreeMap, get, is_at}
 use Rattle.ad_tree.specs.Tree.{Tree}
 use Rattle.literal_index.specs.declared.place.Place.{Place}
 use Rattle.literal_index.specs.declared.entry.Entry.{Entry}
-use Rattle.literal_index.specs.Entries.{entry_of, is_place, place_of, place_order}
+use Rattle.literal_index.specs.Entries.{entry_of, is_place, place_of}
+use Rattle.literal_index.specs.Order.{place_order}
 
 -- the place is that of one of the first n of these attributes of the ad under a slot
 abbrev pub is_place_below : ℕ → ℕ → List (List ℕ × Tree) → Place → Bool

@@ -2,7 +2,6 @@
 use Rattle.std.specs.Prelude.{ℕ, ℤ, pos, Bool, true, false, not, ◌&&◌, List, map, filter, Option, None, Some, option_map, slice_get, if◌then◌else◌}
 use Rattle.std.specs.BTreeMap.{is_at}
 use Rattle.std.specs.Option.{option_and_then, option_map_or}
-use Rattle.std.specs.declared.cmp.Ordering.{Ordering}
 use Rattle.pool_text.specs.declared.language.Lit.{Lit}
 use Rattle.pool_text.specs.Folding.{folded}
 use Rattle.ad_tree.specs.Tree.{Tree, node, literal}
@@ -16,13 +15,9 @@ use Rattle.literal_index.specs.declared.place.Kind.{Kind}
 use Rattle.literal_index.specs.declared.place.Place.{Place}
 use Rattle.literal_index.specs.declared.entry.Entry.{Entry}
 use Rattle.literal_index.specs.declared.entry.Choice.{Choice}
-use Rattle.literal_index.specs.contracts.place.PlaceOrd.TheImpl as order
 use Rattle.literal_index.specs.Digests.{digest, number_of_text}
+use Rattle.literal_index.specs.Order.{place_order}
 use Rattle.literal_index.specs.Rows.{Row, ad_under}
-
--- the order of places: field by field
-abbrev pub place_order : Place → Place → Ordering
-place_order = (order.cmp-value).it
 
 -- the literal that an expression is
 abbrev pub literal_of : Tree → Option Lit

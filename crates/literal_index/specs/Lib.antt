@@ -1,6 +1,7 @@
 pub mod Changes
 pub mod Digests
 pub mod Entries
+pub mod Order
 pub mod Rows
 pub mod Selections
 pub mod Shown

@@ -10,7 +10,7 @@ use Rattle.literal_index.specs.declared.place.Place.{Place}
 use Rattle.literal_index.specs.declared.entry.Entry.{Entry}
 use Rattle.literal_index.specs.declared.span.Span.{Span}
 use Rattle.literal_index.specs.Digests.{digest}
-use Rattle.literal_index.specs.Entries.{place_order}
+use Rattle.literal_index.specs.Order.{place_order}
 use Rattle.literal_index.specs.Spans.{first_place, last_place}
 
 -- the entries in a span of the attribute that a test asks for

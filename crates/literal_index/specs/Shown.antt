@@ -9,7 +9,8 @@ use Rattle.literal_index.specs.declared.index.Index.{Index}
 use Rattle.literal_index.specs.declared.place.Place.{Place}
 use Rattle.literal_index.specs.declared.entry.Entry.{Entry}
 use Rattle.literal_index.specs.Rows.{Row, ad_under}
-use Rattle.literal_index.specs.Entries.{entry_at, place_order}
+use Rattle.literal_index.specs.Entries.{entry_at}
+use Rattle.literal_index.specs.Order.{place_order}
 
 -- an ad in a slot that the code can number
 pub record IsRow (row : Row) : Type 0 where

@@ -4,17 +4,20 @@ ghost use Rattle.std.specs.BTreeMap.{get};
 ghost use Rattle.ad_tree.specs.Ad.{ad_frames};
 ghost use Rattle.ad_tree.specs.Frames.{attributes_at};
 ghost use Rattle.ad_tree.specs.Tree.{tree};
-ghost use Rattle.literal_index.specs.Entries.{entry_of, is_place, place_of, place_order};
+ghost use Rattle.literal_index.specs.Entries.{entry_of, is_place, place_of};
+ghost use Rattle.literal_index.specs.Order.{place_order};
 ghost use Rattle.literal_index.specs.Changes.{HasPut, HasPutOne, HasTaken, HasTakenOne, IsSame};
 
 use crate::entry::{Entry, place_of};
 use crate::place::Place;
 use ad_tree::{Ad, Expr};
 use pool_text::{OutOfMemory, Text};
+use std::alloc::Global;
 use std::collections::BTreeMap;
 
 /// Puts in the attributes of the root of the ad under a slot. At want of memory it takes out again what it put in.
 pub fn put_attributes(
+    alloc: Global,
     entries: &mut BTreeMap<Place, Entry>,
     slot: usize,
     ad: &Ad,
@@ -26,6 +29,7 @@ pub fn put_attributes(
 {
     for attr in 0..ad.count(0) {
         if let Err(refused) = put_attribute(
+            alloc,
             entries,
             slot,
             attr,
@@ -40,6 +44,7 @@ pub fn put_attributes(
 }
 
 fn put_attribute(
+    alloc: Global,
     entries: &mut BTreeMap<Place, Entry>,
     slot: usize,
     attr: u32,
@@ -49,7 +54,7 @@ fn put_attribute(
     ensures ok { OnOk result (HasPutOne slot attr (name.now, tree expr.now) entries.old entries.new) }
     ensures err { OnErr result (IsSame entries.old entries.new) }
 {
-    let entry = Entry::of(name, expr)?;
+    let entry = Entry::of(alloc, name, expr)?;
     entries.insert(place_of(slot, attr, name, expr), entry)?;
     Ok(())
 }

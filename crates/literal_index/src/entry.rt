@@ -2,17 +2,17 @@
 ghost use Rattle.std.specs.Prelude.{◌≡◌, IfOk};
 ghost use Rattle.std.specs.Option.{option_copied};
 ghost use Rattle.ad_tree.specs.Tree.{tree};
-ghost use Rattle.ad_value.specs.Logic.{is_true};
-ghost use Rattle.ad_value.specs.Plain.{plain, plain_of_lit};
+ghost use Rattle.ad_value.specs.Plain.{plain_of_lit};
 ghost use Rattle.conjunct_plan.specs.Decided.{asked, value_with};
 ghost use Rattle.literal_index.specs.Entries.{entry_of, holds_with, is_chosen, is_of, kind_of, literal_of, place_of, value_of};
 
 use crate::digest::{digest, number_of_text};
 use crate::place::{Kind, Place};
 use ad_tree::Expr;
-use ad_value::{Value, binary_of_literals};
+use ad_value::{equal_folded, is_true_of_literals};
 use conjunct_plan::Test;
-use pool_text::{Lit, OutOfMemory, Text, same_folded};
+use pool_text::{Lit, OutOfMemory, Text};
+use std::alloc::Global;
 
 /// The name of an attribute, and its literal where its expression is one.
 #[derive(Drop)]
@@ -23,15 +23,15 @@ pub struct Entry {
 
 impl Entry {
     /// What is kept of an attribute.
-    pub fn of(name: &Text, expr: &Expr) -> Result<Entry, OutOfMemory>
+    pub fn of(alloc: Global, name: &Text, expr: &Expr) -> Result<Entry, OutOfMemory>
         ensures { IfOk result (λ entry. entry ≡ entry_of (name.now, tree expr.now)) }
     {
         let literal = match literal_of(expr) {
-            Some(lit) => Some(copy_of(lit)?),
+            Some(lit) => Some(copy_of(alloc, lit)?),
             None => None,
         };
         Ok(Entry {
-            name: name.copy()?,
+            name: Text::from_bytes(alloc, name.bytes())?,
             literal,
         })
     }
@@ -40,7 +40,7 @@ impl Entry {
     pub fn is_chosen(&self, test: &Test, choice: Choice) -> bool
         ensures { result ≡ is_chosen test.now choice self.now }
     {
-        self.is_of(test, choice) && same_folded(asked(test).bytes(), self.name.bytes())
+        self.is_of(test, choice) && equal_folded(asked(test).bytes(), self.name.bytes())
     }
 
     fn is_of(&self, test: &Test, choice: Choice) -> bool
@@ -98,21 +98,14 @@ pub fn holds(test: &Test, found: &Lit) -> bool
             lit,
             attr_left: true,
             ..
-        } => is_true(&binary_of_literals(*op, found, lit)),
+        } => is_true_of_literals(*op, found, lit),
         Test::Compare {
             op,
             lit,
             attr_left: false,
             ..
-        } => is_true(&binary_of_literals(*op, lit, found)),
+        } => is_true_of_literals(*op, lit, found),
     }
-}
-
-// Whether the value is the Boolean true.
-fn is_true(value: &Value) -> bool
-    ensures { result ≡ is_true (plain value.now) }
-{
-    matches!(value, Value::Boolean(true))
 }
 
 // The literal that an expression is, if it is one.
@@ -151,7 +144,7 @@ pub fn value_of(found: Option<&Lit>) -> i64
 }
 
 // A second literal of the same value.
-fn copy_of(lit: &Lit) -> Result<Lit, OutOfMemory>
+fn copy_of(alloc: Global, lit: &Lit) -> Result<Lit, OutOfMemory>
     ensures { IfOk result (λ copy. copy ≡ lit.now) }
 {
     Ok(match lit {
@@ -159,6 +152,6 @@ fn copy_of(lit: &Lit) -> Result<Lit, OutOfMemory>
         Lit::Error => Lit::Error,
         Lit::Boolean(b) => Lit::Boolean(*b),
         Lit::Integer(n) => Lit::Integer(*n),
-        Lit::Str(text) => Lit::Str(text.copy()?),
+        Lit::Str(text) => Lit::Str(Text::from_bytes(alloc, text.bytes())?),
     })
 }

@@ -52,7 +52,7 @@ impl Index {
             → ad_under slot rows ≡ None → IsIndex self.new rows) }
     {
         self.slots.insert(slot)?;
-        if let Err(refused) = put_attributes(&mut self.entries, slot, ad) {
+        if let Err(refused) = put_attributes(self.alloc, &mut self.entries, slot, ad) {
             self.slots.remove(&slot);
             return Err(refused);
         }

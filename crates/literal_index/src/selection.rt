@@ -5,7 +5,8 @@ ghost use Rattle.std.specs.BTreeSet.{IsOrdered as IsSetOrdered};
 ghost use Rattle.std.specs.Ordering.{nat_cmp};
 ghost use Rattle.std.specs.List.{list_any};
 ghost use Rattle.std.specs.List.Sorted.{IsNonDecreasing, IsPermutation};
-ghost use Rattle.literal_index.specs.Entries.{chosen_slots, is_chosen, place_order};
+ghost use Rattle.literal_index.specs.Entries.{chosen_slots, is_chosen};
+ghost use Rattle.literal_index.specs.Order.{place_order};
 ghost use Rattle.literal_index.specs.Selections.{spanned};
 
 use crate::digest::digest;

@@ -1,5 +1,5 @@
 use Rattle.std.proofs.Common.{◌∙◌, ap, is_gt}
-use Rattle.literal_index.specs.Entries.{place_order}
+use Rattle.literal_index.specs.Order.{place_order}
 use Rattle.literal_index.specs.Spans.{first_place}
 use Rattle.literal_index.proofs.SpanLemmas.{forward}
 use Rattle.literal_index.proofs.selection.count_chosen.Goals as goal

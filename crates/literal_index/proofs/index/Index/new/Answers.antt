@@ -2,7 +2,7 @@ use Rattle.std.proofs.Common.{ap, arith, nat_cmp}
 use Rattle.std.specs.List.{IsDistinct, list_any}
 use Rattle.std.specs.Map.{lookup}
 use Rattle.std.specs.BTreeMap.{is_at}
-use Rattle.literal_index.specs.Entries.{place_order}
+use Rattle.literal_index.specs.Order.{place_order}
 use Rattle.literal_index.proofs.index.Index.new.Goals as goal
 
 pub returns : goal.returns

@@ -29,16 +29,27 @@ pub(crate) fn integer_result(calculated: Option<i64>) -> Value
     }
 }
 
-/// The result of an operator for two numbers.
+/// The result of a strict operator for two numbers.
 pub(crate) fn on_numbers(op: BinOp, x: i64, y: i64) -> Value
     ensures { plain result ≡ number_row op x y }
+{
+    match op {
+        // `is` and `isnt` aren't strict, and have rows of their own.
+        BinOp::Same | BinOp::NotSame => Value::Error,
+        _ => on_integers(op, x, y),
+    }
+}
+
+/// The value of `x op y` for two Integers.
+pub(crate) fn on_integers(op: BinOp, x: i64, y: i64) -> Value
+    ensures { plain result ≡ binary_value op (integer x) (integer y) }
 {
     match op {
         BinOp::BitOr => Value::Integer(x | y),
         BinOp::BitXor => Value::Integer(x ^ y),
         BinOp::BitAnd => Value::Integer(x & y),
-        BinOp::Equal => Value::Boolean(x == y),
-        BinOp::Unequal => Value::Boolean(x != y),
+        BinOp::Equal | BinOp::Same => Value::Boolean(x == y),
+        BinOp::Unequal | BinOp::NotSame => Value::Boolean(x != y),
         BinOp::Less => Value::Boolean(x < y),
         BinOp::AtMost => Value::Boolean(x <= y),
         BinOp::Greater => Value::Boolean(x > y),
@@ -51,23 +62,6 @@ pub(crate) fn on_numbers(op: BinOp, x: i64, y: i64) -> Value
         BinOp::Mul => integer_result(x.checked_mul(y)),
         BinOp::Div => integer_result(x.checked_div(y)),
         BinOp::Rem => remainder(x, y),
-        // `is` and `isnt` aren't strict, and have rows of their own.
-        BinOp::Same | BinOp::NotSame => Value::Error,
-    }
-}
-
-/// The value of `x op y` for two Integers.
-pub(crate) fn on_integers(op: BinOp, x: i64, y: i64) -> Value
-    ensures { plain result ≡ binary_value op (integer x) (integer y) }
-{
-    match op {
-        BinOp::Same | BinOp::Equal => Value::Boolean(x == y),
-        BinOp::NotSame | BinOp::Unequal => Value::Boolean(x != y),
-        BinOp::Less => Value::Boolean(x < y),
-        BinOp::AtMost => Value::Boolean(x <= y),
-        BinOp::Greater => Value::Boolean(x > y),
-        BinOp::AtLeast => Value::Boolean(x >= y),
-        _ => on_numbers(op, x, y),
     }
 }
 

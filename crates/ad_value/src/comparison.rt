@@ -7,7 +7,7 @@ ghost use Rattle.ad_value.specs.Plain.{integer, plain, plain_of_lit, text};
 use crate::Value;
 use crate::arithmetic::{on_integers, on_numbers};
 use crate::folding::equal_texts;
-use crate::operators::on_texts;
+use crate::operators::{on_compared_texts, on_texts};
 use pool_text::{BinOp, Lit, order_folded};
 
 /// The value of `a op b` for two literals. It takes no memory.
@@ -16,6 +16,7 @@ pub fn binary_of_literals(op: BinOp, a: &Lit, b: &Lit) -> Value
 {
     match (a, b) {
         (Lit::Integer(x), Lit::Integer(y)) => on_integers(op, *x, *y),
+        (Lit::Str(x), Lit::Str(y)) => on_texts(op, x.bytes(), y.bytes()),
         _ => by_operator(op, a, b),
     }
 }
@@ -101,7 +102,7 @@ fn strict_result(op: BinOp, a: &Lit, b: &Lit) -> Value
     match (a, b) {
         (Lit::Error, _) | (_, Lit::Error) => Value::Error,
         (Lit::Undefined, _) | (_, Lit::Undefined) => Value::Undefined,
-        (Lit::Str(x), Lit::Str(y)) => on_texts(op, x.bytes(), y.bytes()),
+        (Lit::Str(x), Lit::Str(y)) => on_compared_texts(op, x.bytes(), y.bytes()),
         _ => match (number(a), number(b)) {
             (Some(x), Some(y)) => on_numbers(op, x, y),
             _ => Value::Error,

@@ -1,6 +1,6 @@
 // The operators that demand all their operands.
 ghost use Rattle.std.specs.Prelude.{◌≡◌};
-ghost use Rattle.ad_value.specs.Plain.{plain};
+ghost use Rattle.ad_value.specs.Plain.{plain, text};
 ghost use Rattle.ad_value.specs.Operators.{binary_value, negated_value, strict, strict_row, text_row, unary_row, unary_value};
 
 use crate::arithmetic::{integer_result, number, on_integers, on_numbers};
@@ -18,6 +18,7 @@ pub fn binary(op: BinOp, a: &Value, b: &Value) -> Value
 {
     match (a, b) {
         (Value::Integer(x), Value::Integer(y)) => on_integers(op, *x, *y),
+        (Value::Str(x), Value::Str(y)) => on_texts(op, x.bytes(), y.bytes()),
         _ => by_operator(op, a, b),
     }
 }
@@ -40,7 +41,7 @@ fn strict_result(op: BinOp, a: &Value, b: &Value) -> Value
     match (a, b) {
         (Value::Error, _) | (_, Value::Error) => Value::Error,
         (Value::Undefined, _) | (_, Value::Undefined) => Value::Undefined,
-        (Value::Str(x), Value::Str(y)) => on_texts(op, x.bytes(), y.bytes()),
+        (Value::Str(x), Value::Str(y)) => on_compared_texts(op, x.bytes(), y.bytes()),
         _ => match (number(a), number(b)) {
             (Some(x), Some(y)) => on_numbers(op, x, y),
             _ => Value::Error,
@@ -48,13 +49,25 @@ fn strict_result(op: BinOp, a: &Value, b: &Value) -> Value
     }
 }
 
-/// The result of an operator for two texts.
-pub(crate) fn on_texts(op: BinOp, a: &[u8], b: &[u8]) -> Value
+/// The result of a strict operator for two texts.
+pub(crate) fn on_compared_texts(op: BinOp, a: &[u8], b: &[u8]) -> Value
     ensures { plain result ≡ text_row op a.now b.now }
+{
+    match op {
+        BinOp::Same | BinOp::NotSame => Value::Error,
+        _ => on_texts(op, a, b),
+    }
+}
+
+/// The value of `a op b` for two texts.
+pub(crate) fn on_texts(op: BinOp, a: &[u8], b: &[u8]) -> Value
+    ensures { plain result ≡ binary_value op (text a.now) (text b.now) }
 {
     match op {
         BinOp::Equal => Value::Boolean(equal_texts(a, b)),
         BinOp::Unequal => Value::Boolean(!equal_texts(a, b)),
+        BinOp::Same => Value::Boolean(a == b),
+        BinOp::NotSame => Value::Boolean(a != b),
         BinOp::Less => Value::Boolean(order_folded(a, b).is_lt()),
         BinOp::AtMost => Value::Boolean(order_folded(a, b).is_le()),
         BinOp::Greater => Value::Boolean(order_folded(a, b).is_gt()),

@@ -3,30 +3,20 @@ ghost use Rattle.std.specs.Prelude.{◌≡◌, bytes_eq, not};
 ghost use Rattle.std.specs.Ordering.{is_eq, is_ne};
 ghost use Rattle.pool_text.specs.Folding.{folded, text_order};
 
-/// Whether the bytes are equal after folding.
-pub fn equal_folded(a: &[u8], b: &[u8]) -> bool
-    ensures { result ≡ bytes_eq (folded a.now) (folded b.now) }
-{
-    let mut left = a;
-    let mut right = b;
-    while let [x, left_rest @ ..] = left {
-        let [y, right_rest @ ..] = right else {
-            return false;
-        };
-        if *x != *y && x.to_ascii_lowercase() != y.to_ascii_lowercase() {
-            return false;
-        }
-        left = left_rest;
-        right = right_rest;
-    }
-    right.is_empty()
-}
+use pool_text::same_folded;
 
-/// The same, as the order of texts has it.
+/// Whether two texts are equal in their order.
 #[tactic(auto, using(crate::proofs::OperatorLemmas::equal_in_order, crate::proofs::OperatorLemmas::apart_in_order))]
 pub(crate) fn equal_texts(a: &[u8], b: &[u8]) -> bool
     ensures equal { result ≡ is_eq (text_order a.now b.now) }
     ensures apart { not result ≡ is_ne (text_order a.now b.now) }
 {
     equal_folded(a, b)
+}
+
+#[inline(always)]
+fn equal_folded(a: &[u8], b: &[u8]) -> bool
+    ensures { result ≡ bytes_eq (folded a.now) (folded b.now) }
+{
+    same_folded(a, b)
 }

@@ -15,7 +15,6 @@ mod weighing;
 
 pub use comparison::{binary_of_literals, is_true_of_literals};
 pub use copying::copy;
-pub use folding::equal_folded;
 pub use identity::same;
 pub use laws::{
     elements_are_those_listed, equal_texts_fold_alike, is_is_equality, or_mirrors_and,

@@ -9,9 +9,9 @@ ghost use Rattle.literal_index.specs.Entries.{entry_of, holds_with, is_chosen, i
 use crate::digest::{digest, number_of_text};
 use crate::place::{Kind, Place};
 use ad_tree::Expr;
-use ad_value::{equal_folded, is_true_of_literals};
+use ad_value::is_true_of_literals;
 use conjunct_plan::Test;
-use pool_text::{Lit, OutOfMemory, Text};
+use pool_text::{Lit, OutOfMemory, Text, same_folded};
 use std::alloc::Global;
 
 /// The name of an attribute, and its literal where its expression is one.
@@ -40,7 +40,7 @@ impl Entry {
     pub fn is_chosen(&self, test: &Test, choice: Choice) -> bool
         ensures { result ≡ is_chosen test.now choice self.now }
     {
-        self.is_of(test, choice) && equal_folded(asked(test).bytes(), self.name.bytes())
+        self.is_of(test, choice) && same_folded(asked(test).bytes(), self.name.bytes())
     }
 
     fn is_of(&self, test: &Test, choice: Choice) -> bool

@@ -1,5 +1,5 @@
 -- A name is looked for frame by frame, from the inside out.
-use Rattle.std.proofs.Common.{refl, arith, ◌≡◌, ◌<◌, ◌∙◌, ap, ℕ, zero, suc, List, [], ◌∷◌, Option, None, Some}
+use Rattle.std.proofs.Common.{refl, arith, ◌≡◌, ◌<◌, ap, ℕ, zero, suc, List, ◌∷◌, Option, None, Some}
 use Rattle.std.specs.Option.{option_or}
 use Rattle.ad_tree.specs.Tree.{Tree}
 use Rattle.ad_tree.specs.Frames.{Frame, parent_of}

@@ -1,2 +1,3 @@
 mod EnclosedLemmas
 mod TestLemmas
+mod VerdictLemmas

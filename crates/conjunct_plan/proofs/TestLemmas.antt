@@ -1,5 +1,5 @@
 -- Conjuncts one after another, and labels port by port.
-use Rattle.std.proofs.Common.{refl, ◌≡◌, ◌∙◌, ap, sym, ℕ, zero, suc, ◌+◌, add-one, Bool, ◌||◌, List, [], ◌∷◌, ◌++◌, append_assoc, drop, Some, slice_get, Option}
+use Rattle.std.proofs.Common.{◌≡◌, ◌∙◌, ap, sym, ℕ, zero, suc, ◌+◌, Bool, ◌||◌, List, [], ◌∷◌, ◌++◌, append_assoc, drop, Some, slice_get, Option}
 use Rattle.std.proofs.lemmas.List.Elements.{filter_map-append}
 use Rattle.std.proofs.lemmas.List.Folds.{list_any-append}
 use Rattle.std.specs.List.{filter_map, list_any}

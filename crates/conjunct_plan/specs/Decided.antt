@@ -1,6 +1,6 @@
 -- Which tests are decided against by the other side's literals.
 use Rattle.std.specs.Prelude.{ℕ, Bool, true, false, not, List, [], Option, None, Some, ◌||◌}
-use Rattle.std.specs.List.{list_any}
+use Rattle.std.specs.List.{filter_map, list_all, list_any}
 use Rattle.std.specs.Option.{option_map, option_map_or}
 use Rattle.ad_tree.specs.Tree.{Tree, node, literal}
 use Rattle.ad_tree.specs.Frames.{Frame}
@@ -9,7 +9,8 @@ use Rattle.ad_value.specs.Plain.{Plain, undefined, plain_of_lit}
 use Rattle.ad_value.specs.Operators.{binary_value}
 use Rattle.ad_value.specs.Logic.{is_true}
 use Rattle.conjunct_plan.specs.declared.test.Test.{Test}
-use Rattle.conjunct_plan.specs.Tests.{tests_of}
+use Rattle.conjunct_plan.specs.declared.verdict.Verdict.{Verdict}
+use Rattle.conjunct_plan.specs.Tests.{conjuncts, requirement_expr, test_of, tests_of}
 
 -- what an attribute counts as: Undefined where it is absent, its literal, and nothing where its expression is anything else
 abbrev pub counted : Option Tree → Option Plain
@@ -39,6 +40,33 @@ is_decided test fs f = option_map_or (λ value. not (is_true value)) (test_value
 -- some test of one side's frame is decided against by the other side's
 abbrev pub rules_out : List Frame → ℕ → List (List ℕ) → List Frame → ℕ → Bool
 rules_out fs f labels other g = list_any (λ test. is_decided test other g) (tests_of fs f labels)
+
+-- a test is met: it has a value, and that is true
+abbrev pub is_met : Test → List Frame → ℕ → Bool
+is_met test fs f = option_map_or is_true (test_value test fs f) false
+
+-- a conjunct is a test, and that is met
+abbrev pub is_met_test : List Frame → ℕ → List (List ℕ) → List Frame → ℕ → Tree → Bool
+is_met_test fs f labels other g t = option_map_or (λ test. is_met test other g) (test_of fs f labels t) false
+
+-- one side's frame is met by the other's: it has a requirement, and each of its conjuncts is a test that is met
+abbrev pub is_side_met : List Frame → ℕ → List (List ℕ) → List Frame → ℕ → Bool
+is_side_met fs f labels other g = option_map_or (λ t. list_all (is_met_test fs f labels other g) (conjuncts t)) (requirement_expr fs f) false
+
+-- what tests say, by whether one is decided against, and whether all are met
+abbrev pub verdict_by : Bool → Bool → Verdict
+verdict_by true met = Verdict.Against
+verdict_by false true = Verdict.For
+verdict_by false false = Verdict.Open
+
+-- what the tests of one side's frame say by the other side's
+abbrev pub verdict_of : List Frame → ℕ → List (List ℕ) → List Frame → ℕ → Verdict
+verdict_of fs f labels other g = verdict_by (rules_out fs f labels other g) (is_side_met fs f labels other g)
+
+-- the same of conjuncts alone
+abbrev pub verdict_on : List Frame → ℕ → List (List ℕ) → List Frame → ℕ → List Tree → Verdict
+verdict_on fs f labels other g ts =
+    verdict_by (list_any (λ test. is_decided test other g) (filter_map (test_of fs f labels) ts)) (list_all (is_met_test fs f labels other g) ts)
 
 -- the dock of a request at frame f, whose ports have these labels, and a resource is decided: so it is not true
 abbrev pub is_dock_decided : List Frame → ℕ → List (List ℕ) → List Frame → Bool

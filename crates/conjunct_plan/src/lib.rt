@@ -8,7 +8,9 @@ mod probe;
 mod ruling;
 mod side;
 mod test;
+mod verdict;
 
 pub use planning::plan;
-pub use ruling::{decided, rules_out};
+pub use ruling::{decided, rules_out, verdict_of};
 pub use test::{Test, Tests};
+pub use verdict::Verdict;

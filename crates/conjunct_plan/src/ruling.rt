@@ -1,20 +1,20 @@
 // What is decided by literals alone.
-ghost use Rattle.std.specs.Prelude.{◌≡◌, ◌<◌, length, pos};
-ghost use Rattle.std.specs.List.{filter_map, list_any};
+ghost use Rattle.std.specs.Prelude.{◌≡◌, ◌<◌, length, not, pos};
 ghost use Rattle.std.specs.Option.{option_map};
 ghost use Rattle.ad_tree.specs.Ad.{ad_frames};
 ghost use Rattle.ad_tree.specs.Enclosing.{enclosed_expr};
 ghost use Rattle.ad_tree.specs.Tree.{pack, tree, trees};
 ghost use Rattle.ad_value.specs.Logic.{is_true};
 ghost use Rattle.ad_value.specs.Plain.{plain, plain_of_lit};
-ghost use Rattle.conjunct_plan.specs.Decided.{is_decided, rules_out, value_with};
+ghost use Rattle.conjunct_plan.specs.Decided.{is_decided, is_met, rules_out, value_with, verdict_by, verdict_of, verdict_on};
 ghost use Rattle.conjunct_plan.specs.Seen.{test_seen};
-ghost use Rattle.conjunct_plan.specs.Tests.{conjuncts, conjuncts_of_all, labels_of, test_of};
+ghost use Rattle.conjunct_plan.specs.Tests.{conjuncts, conjuncts_of_all, labels_of};
 
 use crate::Test;
 use crate::enclosed::enclosed;
 use crate::planning::requirement;
 use crate::probe::{Probe, probe_of};
+use crate::verdict::Verdict;
 use ad_tree::{Ad, Expr, Exprs, Ports};
 use ad_value::{Value, binary_of_literals};
 use pool_text::{Lit, Text};
@@ -25,7 +25,7 @@ pub fn decided(test: &Test, ad: &Ad, frame: u32) -> bool
     requires { frame < length (ad_frames ad.now) }
     ensures { result ≡ is_decided test.now (ad_frames ad.now) frame }
 {
-    is_ruled_out(Probe::of(test), ad, frame)
+    matches!(verdict_by(Probe::of(test), ad, frame), Verdict::Against)
 }
 
 /// Whether some test of the requirement of `frame` is decided against by the frame `at` of the other side. The ports are
@@ -35,60 +35,76 @@ pub fn rules_out(ad: &Ad, frame: u32, ports: &Ports, other: &Ad, at: u32) -> boo
     requires at { at < length (ad_frames other.now) }
     ensures { result ≡ rules_out (ad_frames ad.now) frame (labels_of ports.now) (ad_frames other.now) at }
 {
+    matches!(verdict_of(ad, frame, ports, other, at), Verdict::Against)
+}
+
+/// What the tests of the requirement of `frame` say of it by the frame `at` of the other side: `Against` exactly where one
+/// is decided against, and else `For` exactly where there is a requirement and each of its conjuncts is a test that is met.
+/// The ports are those of the request in whose ad the frame stands, and none for a resource. No memory is taken.
+pub fn verdict_of(ad: &Ad, frame: u32, ports: &Ports, other: &Ad, at: u32) -> Verdict
+    requires frame { frame < length (ad_frames ad.now) }
+    requires at { at < length (ad_frames other.now) }
+    ensures { result ≡ verdict_of (ad_frames ad.now) frame (labels_of ports.now) (ad_frames other.now) at }
+{
     match requirement(ad, frame) {
-        Some(expr) => some_rules_out(ad, frame, ports, expr, other, at),
-        None => false,
+        Some(expr) => verdict_on(ad, frame, ports, expr, other, at),
+        None => Verdict::Open,
     }
 }
 
-// Whether some test among the conjuncts of an expression is decided against.
+// What the tests among the conjuncts of an expression say of it.
 #[cycle(ruling)]
-fn some_rules_out(ad: &Ad, frame: u32, ports: &Ports, expr: &Expr, other: &Ad, at: u32) -> bool
+fn verdict_on(ad: &Ad, frame: u32, ports: &Ports, expr: &Expr, other: &Ad, at: u32) -> Verdict
     requires frame { frame < length (ad_frames ad.now) }
     requires at { at < length (ad_frames other.now) }
-    ensures { result ≡ list_any (λ test. is_decided test (ad_frames other.now) at)
-        (filter_map (test_of (ad_frames ad.now) frame (labels_of ports.now)) (conjuncts (tree expr.now))) }
+    ensures { result ≡ verdict_on (ad_frames ad.now) frame (labels_of ports.now) (ad_frames other.now) at (conjuncts (tree expr.now)) }
 {
     if let Expr::And(items) = expr {
-        return one_of_all_rules_out(ad, frame, ports, items, other, at);
+        return verdict_on_all(ad, frame, ports, items, other, at);
     }
     match probe_of(ad, frame, ports, expr) {
-        Some(probe) => is_ruled_out(probe, other, at),
-        None => false,
+        Some(probe) => verdict_by(probe, other, at),
+        None => Verdict::Open,
     }
 }
 
 #[cycle(ruling)]
-fn one_of_all_rules_out(
-    ad: &Ad,
-    frame: u32,
-    ports: &Ports,
-    items: &Exprs,
-    other: &Ad,
-    at: u32,
-) -> bool
+fn verdict_on_all(ad: &Ad, frame: u32, ports: &Ports, items: &Exprs, other: &Ad, at: u32) -> Verdict
     requires frame { frame < length (ad_frames ad.now) }
     requires at { at < length (ad_frames other.now) }
-    ensures { result ≡ list_any (λ test. is_decided test (ad_frames other.now) at)
-        (filter_map (test_of (ad_frames ad.now) frame (labels_of ports.now)) (conjuncts_of_all (pack (trees items.now)))) }
+    ensures { result ≡ verdict_on (ad_frames ad.now) frame (labels_of ports.now) (ad_frames other.now) at (conjuncts_of_all (pack (trees items.now))) }
 {
+    let mut met = true;
     for i in 0..items.len() {
-        if some_rules_out(ad, frame, ports, items.at(i), other, at) {
-            return true;
+        match verdict_on(ad, frame, ports, items.at(i), other, at) {
+            Verdict::Against => return Verdict::Against,
+            Verdict::For => {}
+            Verdict::Open => met = false,
         }
     }
-    false
+    if met { Verdict::For } else { Verdict::Open }
 }
 
-// Whether a test is decided against.
-fn is_ruled_out(probe: Probe<'_>, ad: &Ad, frame: u32) -> bool
+// What a test says.
+fn verdict_by(probe: Probe<'_>, ad: &Ad, frame: u32) -> Verdict
     requires { frame < length (ad_frames ad.now) }
-    ensures { result ≡ is_decided (test_seen probe.entry) (ad_frames ad.now) frame }
+    ensures { result ≡ verdict_by (is_decided (test_seen probe.entry) (ad_frames ad.now) frame) (is_met (test_seen probe.entry) (ad_frames ad.now) frame) }
 {
     match enclosed(ad, frame, probe.asked().bytes()) {
-        None => !holds(probe, &Lit::Undefined),
-        Some(Expr::Literal(lit)) => !holds(probe, lit),
-        Some(_) => false,
+        None => decided_by(holds(probe, &Lit::Undefined)),
+        Some(Expr::Literal(lit)) => decided_by(holds(probe, lit)),
+        Some(_) => Verdict::Open,
+    }
+}
+
+// What a test says that has a value.
+fn decided_by(holds: bool) -> Verdict
+    ensures { result ≡ verdict_by (not holds) holds }
+{
+    if holds {
+        Verdict::For
+    } else {
+        Verdict::Against
     }
 }
 

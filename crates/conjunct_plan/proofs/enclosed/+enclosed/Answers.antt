@@ -1,7 +1,6 @@
-use Rattle.std.proofs.Common.{◌≡◌, ◌∙◌, ap, sym, Option, None}
+use Rattle.std.proofs.Common.{◌∙◌, ap, sym}
 use Rattle.std.specs.Option.{option_or}
 use Rattle.ad_tree.specs.Ad.{ad_frames}
-use Rattle.ad_tree.specs.Enclosing.{expr_named}
 use Rattle.ad_tree.specs.Frames.{parent_of}
 use Rattle.conjunct_plan.proofs.EnclosedLemmas.{enclosed-step, enclosed_any}
 use Rattle.conjunct_plan.proofs.enclosed.+enclosed.Goals as goal

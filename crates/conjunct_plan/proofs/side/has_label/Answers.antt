@@ -1,4 +1,4 @@
-use Rattle.std.proofs.Common.{◌≡◌, ◌∙◌, ap, sym, Bool, true, false, ◌||◌, drop, suc, add-one, Some}
+use Rattle.std.proofs.Common.{◌∙◌, ap, sym, Bool, ◌||◌, drop, suc, add-one, Some}
 use Rattle.std.proofs.lemmas.Option.{slice_get-get_or}
 use Rattle.ad_tree.specs.Names.{has_name}
 use Rattle.conjunct_plan.specs.Tests.{labels_of}

@@ -40,7 +40,7 @@ none-decided F D P never (t ∷ ts) e h = by (λ k. none-decided F D P never ts 
     by behind None is k = behind k
     by behind (Some test) is k = among behind test is (D test) refl k
 
-true-is : (v : Plain) → is_true v ≡ true → v ≡ boolean true
+pub true-is : (v : Plain) → is_true v ≡ true → v ≡ boolean true
 true-is undefined e = absurd (cc)
 true-is error e = absurd (cc)
 true-is (boolean b) e = ap boolean e
@@ -68,7 +68,7 @@ module _ (w : PlainWorld) (p : AdPlace) (ls : List (List ℕ)) (other : List Fra
   true-value None e = absurd (cc)
   true-value (Some v) e = ap Some (true-is v e)
 
-  attribute-value : (n k : ℕ) (t : Tree) → expr_at (frames_of_ad w p.ad) p.frame k ≡ Some t → value_at (suc n) w (attribute_of p k) ≡ value_with n w p t
+  pub attribute-value : (n k : ℕ) (t : Tree) → expr_at (frames_of_ad w p.ad) p.frame k ≡ Some t → value_at (suc n) w (attribute_of p k) ≡ value_with n w p t
   unfolding value_at
   attribute-value n k t is = ap (option_and_then (value_by (value_at n w) w p)) is
 

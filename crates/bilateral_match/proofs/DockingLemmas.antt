@@ -17,8 +17,9 @@ use Rattle.eval_scope.specs.World.{PlainWorld, port_frame, request_side, with_do
 use Rattle.ad_eval.specs.Dock.{is_docked}
 use Rattle.conjunct_plan.specs.Decided.{is_dock_decided}
 use Rattle.conjunct_plan.specs.Tests.{labels_of}
-use Rattle.bilateral_match.specs.Docks.{is_last_decided, last_ad}
+use Rattle.bilateral_match.specs.Docks.{is_last_decided, last_ad, last_open}
 use Rattle.bilateral_match.specs.Pool.{ad_in, slots_world}
+use Rattle.bilateral_match.specs.Sides.{open_sides}
 use Rattle.bilateral_match.proofs.DecidedLemmas.{not-docked}
 
 -- a number stands at its first place
@@ -93,13 +94,21 @@ module _ (moment : ℕ) (stock : Stock) (request : Request) (slots : List ℕ) (
       dock-next moment stock request slots last 0 w v fs (omega (arith, some, is)) before ad docked
       ∙ ap (slots_world moment stock request) (take_all (last + 1) slots (omega (arith, some, is)))
 
-  -- the dock is decided as the contract of the tests says it
-  pub pair-decided : (at : AdPlace) → at ≡ request_side v → is_dock_decided (ad_frames request.ad) at.frame (labels_of request.ports) fs ≡ is_last_decided (slots_world moment stock request slots)
-  pair-decided at side =
+  -- what depends on the sides of the dock is the same in that world
+  pair-seen : {A : Type 0} (seen : List Frame → ℕ → List (List ℕ) → List Frame → A) (at : AdPlace) → at ≡ request_side v
+      → seen (ad_frames request.ad) at.frame (labels_of request.ports) fs ≡ seen (ad_frames request.ad) (request_side (slots_world moment stock request slots)).frame (labels_of request.ports) (last_ad (slots_world moment stock request slots))
+  pair-seen seen at side =
       let world = pair-world in
-      ap (λ (p : AdPlace). is_dock_decided (ad_frames request.ad) p.frame (labels_of request.ports) fs) side
-      ∙ ap (λ (u : PlainWorld). is_dock_decided (ad_frames request.ad) (request_side u).frame (labels_of request.ports) fs) world
-      ∙ ap (is_dock_decided (ad_frames request.ad) (request_side (slots_world moment stock request slots)).frame (labels_of request.ports)) (sym (sym (ap last_ad world) ∙ ap last_ad docked ∙ last-docked w fs))
+      ap (λ (p : AdPlace). seen (ad_frames request.ad) p.frame (labels_of request.ports) fs) side
+      ∙ ap (λ (u : PlainWorld). seen (ad_frames request.ad) (request_side u).frame (labels_of request.ports) fs) world
+      ∙ ap (seen (ad_frames request.ad) (request_side (slots_world moment stock request slots)).frame (labels_of request.ports)) (sym (sym (ap last_ad world) ∙ ap last_ad docked ∙ last-docked w fs))
+
+  -- the dock is decided as the contract of the tests says it, and the same sides are open
+  pub pair-decided : (at : AdPlace) → at ≡ request_side v → is_dock_decided (ad_frames request.ad) at.frame (labels_of request.ports) fs ≡ is_last_decided (slots_world moment stock request slots)
+  pair-decided = pair-seen is_dock_decided
+
+  pub pair-open : (at : AdPlace) → at ≡ request_side v → open_sides (ad_frames request.ad) at.frame (labels_of request.ports) fs ≡ last_open v
+  pair-open at side = pair-seen open_sides at side ∙ ap last_open (sym pair-world)
 
 -- a decided dock of resources that are given by their slots isn't true
 pub none-docked : (moment : ℕ) (stock : Stock) (request : Request) (slots : List ℕ) → 0 < length slots → is_last_decided (slots_world moment stock request slots) ≡ true → is_docked (slots_world moment stock request slots) ≡ false

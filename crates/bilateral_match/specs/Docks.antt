@@ -5,6 +5,8 @@ use Rattle.eval_scope.specs.World.{PlainWorld, frames_of_ad, request_side, resou
 use Rattle.ad_eval.specs.Dock.{is_docked, rank_by}
 use Rattle.conjunct_plan.specs.Decided.{is_dock_decided}
 use Rattle.conjunct_plan.specs.Tests.{labels_of}
+use Rattle.bilateral_match.specs.declared.sides.OpenSides.{OpenSides}
+use Rattle.bilateral_match.specs.Sides.{open_sides}
 
 -- ---- a single request and one ad
 
@@ -41,3 +43,7 @@ ranked_in w = if is_docked w then Some (rank_by w (request_side w)) else None
 -- the last dock is decided
 abbrev pub is_last_decided : PlainWorld → Bool
 is_last_decided w = is_dock_decided w.request (request_side w).frame (labels_of w.ports) (last_ad w)
+
+-- the sides of the last dock that tests leave open
+abbrev pub last_open : PlainWorld → Option OpenSides
+last_open w = open_sides w.request (request_side w).frame (labels_of w.ports) (last_ad w)

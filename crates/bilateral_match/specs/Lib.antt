@@ -8,4 +8,5 @@ pub mod Pool
 pub mod Rows
 pub mod Scan
 pub mod Shortlists
+pub mod Sides
 pub mod Small

@@ -12,7 +12,7 @@ ghost use Rattle.bilateral_match.specs.Docks.{is_last_decided};
 ghost use Rattle.bilateral_match.specs.Pool as pool;
 ghost use Rattle.bilateral_match.specs.Small.{AreSmallAds};
 
-use ad_eval::dock;
+use crate::sides::open_sides;
 use ad_store::Store;
 use ad_tree::{Ad, Ports, Request};
 use conjunct_plan::rules_out;
@@ -53,10 +53,10 @@ pub fn pair<F: Ledger, E: Ledger, T: Ledger>(
     let before = slots_world(store, request, &slots[..last], moment, touch);
     let ad = store.look(slots[last], touch);
     let world = before.with(ad);
-    if is_decided(alloc, request, world.request_place().frame, ad) {
+    let Some(sides) = open_sides(alloc, request, world.request_place().frame, ad) else {
         return Ok(false);
-    }
-    dock(alloc, &world, tops, entry)
+    };
+    sides.dock(alloc, &world, tops, entry)
 }
 
 /// The world in which the resources in these slots are docked to a request. It counts one in `touch` for each.

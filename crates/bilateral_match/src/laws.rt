@@ -3,11 +3,11 @@ ghost use Rattle.std.specs.Prelude.{◌≡◌, ◌<◌, ◌≤◌, ℕ, suc, Boo
 ghost use Rattle.ad_value.specs.Plain.{Plain, boolean};
 ghost use Rattle.ad_tree.specs.Tree.{tree};
 ghost use Rattle.ad_tree.specs.Ad.{ad_frames};
-ghost use Rattle.ad_eval.specs.Dock.{is_docked};
+ghost use Rattle.ad_eval.specs.Dock.{is_docked, meets_requirement};
 ghost use Rattle.ad_eval.specs.Value.{value_with};
 ghost use Rattle.ad_store.specs.Stock.{Advert, Stock};
 ghost use Rattle.conjunct_plan.specs.declared.test.Test.{Test};
-ghost use Rattle.conjunct_plan.specs.Decided.{test_value};
+ghost use Rattle.conjunct_plan.specs.Decided.{is_side_met, test_value};
 ghost use Rattle.conjunct_plan.specs.Tests.{conjuncts, labels_of, test_of};
 ghost use Rattle.eval_scope.specs.Shown.{world_of};
 ghost use Rattle.eval_scope.specs.World.{request_side, resource_side};
@@ -16,7 +16,7 @@ ghost use Rattle.bilateral_match.specs.declared.member.Member.{Member};
 ghost use Rattle.bilateral_match.specs.Alike.{AreAlike};
 ghost use Rattle.bilateral_match.specs.Answers.{AreAnswers, answers};
 ghost use Rattle.bilateral_match.specs.Counts.{entered_for, open_count};
-ghost use Rattle.bilateral_match.specs.Docks.{is_last_decided, last_ad};
+ghost use Rattle.bilateral_match.specs.Docks.{is_last_decided, last_ad, last_open};
 ghost use Rattle.bilateral_match.specs.Members.{IsBest, best, best_slot, members};
 ghost use Rattle.bilateral_match.specs.Pool.{Pool};
 
@@ -54,6 +54,19 @@ pub fn a_conjunction_is_true_only_where_its_conjuncts_are(
 pub fn a_decided_dock_is_never_true(world: &World<'_>)
     ensures { let w = world_of world.now in
         0 < length w.docked → is_last_decided w ≡ true → is_docked w ≡ false }
+{}
+
+/// A requirement each of whose conjuncts is a test that is met by the other side is true, and so is a dock of two such sides:
+/// so it needs no evaluation.
+pub fn a_dock_whose_tests_are_all_met_is_true(world: &World<'_>)
+    ensures request { let w = world_of world.now in
+        0 < length w.docked → is_side_met w.request (request_side w).frame (labels_of w.ports) (last_ad w) 0 ≡ true
+        → meets_requirement w (request_side w) ≡ true }
+    ensures resource { let w = world_of world.now in
+        0 < length w.docked → is_side_met (last_ad w) 0 [] w.request (request_side w).frame ≡ true
+        → meets_requirement w (resource_side w) ≡ true }
+    ensures dock { let w = world_of world.now in
+        0 < length w.docked → last_open w ≡ Some (record { request = false; resource = false }) → is_docked w ≡ true }
 {}
 
 /// The answers to a query are all matches in order, and no other list is: two such lists are one.

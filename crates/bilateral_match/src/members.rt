@@ -10,15 +10,16 @@ ghost use Rattle.ad_eval.specs.Dock.{rank_by};
 ghost use Rattle.ad_eval.specs.Small.{AreSmall};
 ghost use Rattle.eval_scope.specs.Shown.{world_of};
 ghost use Rattle.eval_scope.specs.World.{attribute_count, resource_side};
-ghost use Rattle.bilateral_match.specs.Docks.{is_undecided, pair_world};
+ghost use Rattle.bilateral_match.specs.Docks.{is_undecided, last_open, pair_world};
 ghost use Rattle.bilateral_match.specs.Members as members;
 ghost use Rattle.bilateral_match.specs.Pool as pool;
 ghost use Rattle.bilateral_match.specs.Scan as scan;
 ghost use Rattle.bilateral_match.specs.Small.{AreSmallAds, AreSmallHolders};
 
-use crate::docking::{is_decided, slots_world};
+use crate::docking::slots_world;
 use crate::member::{Member, Ranks};
-use ad_eval::{dock, rank};
+use crate::sides::{OpenSides, open_sides};
+use ad_eval::rank;
 use ad_store::{Held, Holdings, Store};
 use ad_tree::{Ad, Request};
 use eval_scope::World;
@@ -134,26 +135,29 @@ fn ranks<F: Ledger, E: Ledger>(
         then 4 * attribute_count (pair_world moment (ad_frames request.now.ad) (ad_frames ad.now)) else 0) }
     ensures ratio { IsSmall (ad_frames request.now.ad) → IsSmall (ad_frames ad.now) → entry.new + 9216 * tops.old ≤ entry.old + 9216 * tops.new }
 {
-    if is_decided(alloc, request, 0, ad) {
+    let Some(sides) = open_sides(alloc, request, 0, ad) else {
         return Ok(None);
-    }
+    };
     let world = World::new(moment, &request.ad, &request.ports).with(ad);
-    ranks_in(alloc, &world, tops, entry)
+    ranks_in(alloc, &world, sides, tops, entry)
 }
 
-// What the sides of the last dock rank each other, where it is true.
+// What the sides of the last dock rank each other, where it is true, of which tests leave these sides open.
 fn ranks_in<F: Ledger, E: Ledger>(
     alloc: Global,
     world: &World<'_>,
+    sides: OpenSides,
     tops: &mut Steps<F>,
     entry: &mut Steps<E>,
 ) -> Result<Option<Ranks>, OutOfMemory>
+    requires docked { 0 < length (world_of world.now).docked }
+    requires left { last_open (world_of world.now) ≡ Some sides }
     ensures ranks { IfOk result (λ ranks. ranks ≡ scan.ranks_in (world_of world.now)) }
     ensures evaluations { tops.new ≤ tops.old + 4 }
     ensures entries { entry.new ≤ entry.old + 4 * attribute_count (world_of world.now) }
     ensures ratio { AreSmall (world_of world.now) → entry.new + 9216 * tops.old ≤ entry.old + 9216 * tops.new }
 {
-    if !dock(alloc, world, tops, entry)? {
+    if !sides.dock(alloc, world, tops, entry)? {
         return Ok(None);
     }
     Ok(Some(Ranks {

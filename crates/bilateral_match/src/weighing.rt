@@ -1,5 +1,5 @@
 // What a query makes of single ads.
-ghost use Rattle.std.specs.Prelude.{◌≡◌, ◌≤◌, ◌<◌, ◌+◌, ◌*◌, [], length, slice_get, sum_by, All, IfOk, OnOk, ◌++◌};
+ghost use Rattle.std.specs.Prelude.{◌≡◌, ◌≤◌, ◌<◌, ◌+◌, ◌*◌, [], Some, length, slice_get, sum_by, All, IfOk, OnOk, ◌++◌};
 ghost use Rattle.std.specs.List.{cons_option, filter_map};
 ghost use Rattle.ad_tree.specs.Ad.{ad_frames};
 ghost use Rattle.ad_tree.specs.Small.{IsSmall};
@@ -12,9 +12,9 @@ ghost use Rattle.bilateral_match.specs.Docks as docks;
 ghost use Rattle.bilateral_match.specs.Scan.{attributes_at, evaluations_at, match_at};
 ghost use Rattle.bilateral_match.specs.Small.{AreSmallAds};
 
-use crate::docking::is_decided;
 use crate::hit::Match;
-use ad_eval::{dock, rank};
+use crate::sides::{OpenSides, open_sides};
+use ad_eval::rank;
 use ad_store::Store;
 use ad_tree::{Ad, Request};
 use eval_scope::World;
@@ -40,26 +40,30 @@ fn ranked<F: Ledger, E: Ledger>(
     ensures entries { entry.new ≤ entry.old + attributes_most moment (ad_frames request.now.ad) (ad_frames ad.now) }
     ensures ratio { IsSmall (ad_frames request.now.ad) → IsSmall (ad_frames ad.now) → entry.new + 9216 * tops.old ≤ entry.old + 9216 * tops.new }
 {
-    if is_decided(alloc, request, 0, ad) {
+    let Some(sides) = open_sides(alloc, request, 0, ad) else {
         return Ok(None);
-    }
+    };
     let world = World::new(moment, &request.ad, &request.ports).with(ad);
-    ranked_in(alloc, &world, tops, entry)
+    ranked_in(alloc, &world, sides, tops, entry)
 }
 
-// The rank that the request gives the ad that was docked last, where their dock is true.
+// The rank that the request gives the ad that was docked last, where their dock is true, of which tests leave these sides
+// open.
 fn ranked_in<F: Ledger, E: Ledger>(
     alloc: Global,
     world: &World<'_>,
+    sides: OpenSides,
     tops: &mut Steps<F>,
     entry: &mut Steps<E>,
 ) -> Result<Option<i64>, OutOfMemory>
+    requires docked { 0 < length (world_of world.now).docked }
+    requires left { docks.last_open (world_of world.now) ≡ Some sides }
     ensures rank { IfOk result (λ rank. rank ≡ docks.ranked_in (world_of world.now)) }
     ensures evaluations { tops.new ≤ tops.old + 3 }
     ensures entries { entry.new ≤ entry.old + 3 * attribute_count (world_of world.now) }
     ensures ratio { AreSmall (world_of world.now) → entry.new + 9216 * tops.old ≤ entry.old + 9216 * tops.new }
 {
-    if !dock(alloc, world, tops, entry)? {
+    if !sides.dock(alloc, world, tops, entry)? {
         return Ok(None);
     }
     Ok(Some(rank(alloc, world, world.request_place(), tops, entry)?))

@@ -4,11 +4,13 @@ use Rattle.pool_text.specs.declared.language.AdPlace.{AdPlace}
 use Rattle.ad_tree.specs.Ad.{ad_frames}
 use Rattle.ad_store.specs.Store.{stock_of}
 use Rattle.ad_eval.specs.Dock.{is_docked}
+use Rattle.conjunct_plan.specs.Tests.{labels_of}
 use Rattle.eval_scope.specs.Shown.{world_of}
 use Rattle.eval_scope.specs.World.{PlainWorld, attribute_count, request_side}
 use Rattle.bilateral_match.specs.Docks.{is_last_decided}
 use Rattle.bilateral_match.specs.Pool.{slots_world}
-use Rattle.bilateral_match.proofs.DockingLemmas.{ad-looked, few-slots, frame-there, most-undecided, none-docked, pair-decided, pair-world, room-for-last}
+use Rattle.bilateral_match.proofs.DockingLemmas.{ad-looked, few-slots, frame-there, most-undecided, none-docked, pair-decided, pair-open, pair-world, room-for-last}
+use Rattle.bilateral_match.proofs.MetLemmas.{none-undecided, some-undecided}
 use Rattle.bilateral_match.proofs.SmallLemmas.{slots-small}
 use Rattle.bilateral_match.proofs.docking.pair.Goals as goal
 
@@ -26,8 +28,8 @@ with-world-requires g c =
     let few = few-slots (ad_frames c.args.request.now.ad) c.args.request.now.ports (length slots) c.args.request.now.are_ports c.requires.fit in
     room-for-last c.args.moment (stock_of c.args.store.now) c.args.request.now slots (world_of c.slots_world-before.result) few c.requires.some c.slots_world-before.ensures.world
 
-pub is_decided-requires : goal.is_decided-requires
-is_decided-requires g c =
+pub open_sides-requires : goal.open_sides-requires
+open_sides-requires g c =
     let stock = stock_of c.args.store.now in
     let request = c.args.request.now in
     let slots = c.args.slots.now in
@@ -39,8 +41,8 @@ is_decided-requires g c =
     let at = ap (λ (place : AdPlace). place.frame) (c.request_place.ensures ∙ ap request_side world) in
     omega (arith, at, there)
 
-pub returns-then-is_decided-clause-docked : goal.returns-then-is_decided-clause-docked
-returns-then-is_decided-clause-docked g c =
+pub returns-in_default-clause-docked : goal.returns-in_default-clause-docked
+returns-in_default-clause-docked g c =
     let stock = stock_of c.args.store.now in
     let request = c.args.request.now in
     let slots = c.args.slots.now in
@@ -48,7 +50,18 @@ returns-then-is_decided-clause-docked g c =
     let some = c.requires.some in
     let looked = ad-looked stock (get_or slots last 0) (ad_frames c.look-ad.result.now) (c.requires.stored last 0 (omega (arith, some))) c.look-ad.ensures.ad in
     let decided = pair-decided c.args.moment stock request slots some last refl (world_of c.slots_world-before.result) (world_of c.with-world.result) (ad_frames c.look-ad.result.now) c.slots_world-before.ensures.world looked c.with-world.ensures c.request_place.result c.request_place.ensures in
-    sym (none-docked c.args.moment stock request slots some (sym decided ∙ sym c.is_decided.ensures ∙ c.if-is_decided.true))
+    sym (none-docked c.args.moment stock request slots some (sym decided ∙ none-undecided (ad_frames request.ad) c.request_place.result.frame (labels_of request.ports) (ad_frames c.look-ad.result.now) (sym c.open_sides.ensures ∙ c.in_default.is)))
+
+pub dock-requires-clause-left : goal.dock-requires-clause-left
+dock-requires-clause-left g c =
+    let stock = stock_of c.args.store.now in
+    let request = c.args.request.now in
+    let slots = c.args.slots.now in
+    let last = length slots - 1 in
+    let some = c.requires.some in
+    let looked = ad-looked stock (get_or slots last 0) (ad_frames c.look-ad.result.now) (c.requires.stored last 0 (omega (arith, some))) c.look-ad.ensures.ad in
+    let left = pair-open c.args.moment stock request slots some last refl (world_of c.slots_world-before.result) (world_of c.with-world.result) (ad_frames c.look-ad.result.now) c.slots_world-before.ensures.world looked c.with-world.ensures c.request_place.result c.request_place.ensures in
+    sym left ∙ sym c.open_sides.ensures ∙ c.in-Some.is
 
 pub returns-clause-docked : goal.returns-clause-docked
 returns-clause-docked g c =
@@ -70,7 +83,7 @@ returns-clause-evaluations g c =
     let some = c.requires.some in
     let looked = ad-looked stock (get_or slots last 0) (ad_frames c.look-ad.result.now) (c.requires.stored last 0 (omega (arith, some))) c.look-ad.ensures.ad in
     let decided = pair-decided c.args.moment stock request slots some last refl (world_of c.slots_world-before.result) (world_of c.with-world.result) (ad_frames c.look-ad.result.now) c.slots_world-before.ensures.world looked c.with-world.ensures c.request_place.result c.request_place.ensures in
-    most-undecided (is_last_decided (slots_world c.args.moment stock request slots)) 2 c.args.tops.now c.dock.new.tops (sym decided ∙ sym c.is_decided.ensures ∙ c.if-is_decided.false) c.dock.ensures.evaluations
+    most-undecided (is_last_decided (slots_world c.args.moment stock request slots)) 2 c.args.tops.now c.dock.new.tops (sym decided ∙ some-undecided (ad_frames request.ad) c.request_place.result.frame (labels_of request.ports) (ad_frames c.look-ad.result.now) c.in-Some.sides (sym c.open_sides.ensures ∙ c.in-Some.is)) c.dock.ensures.evaluations
 
 pub returns-clause-entries : goal.returns-clause-entries
 returns-clause-entries g c =
@@ -82,7 +95,7 @@ returns-clause-entries g c =
     let looked = ad-looked stock (get_or slots last 0) (ad_frames c.look-ad.result.now) (c.requires.stored last 0 (omega (arith, some))) c.look-ad.ensures.ad in
     let world = pair-world c.args.moment stock request slots some last refl (world_of c.slots_world-before.result) (world_of c.with-world.result) (ad_frames c.look-ad.result.now) c.slots_world-before.ensures.world looked c.with-world.ensures in
     let decided = pair-decided c.args.moment stock request slots some last refl (world_of c.slots_world-before.result) (world_of c.with-world.result) (ad_frames c.look-ad.result.now) c.slots_world-before.ensures.world looked c.with-world.ensures c.request_place.result c.request_place.ensures in
-    most-undecided (is_last_decided (slots_world c.args.moment stock request slots)) (2 * attribute_count (slots_world c.args.moment stock request slots)) c.args.entry.now c.dock.new.entry (sym decided ∙ sym c.is_decided.ensures ∙ c.if-is_decided.false)
+    most-undecided (is_last_decided (slots_world c.args.moment stock request slots)) (2 * attribute_count (slots_world c.args.moment stock request slots)) c.args.entry.now c.dock.new.entry (sym decided ∙ some-undecided (ad_frames request.ad) c.request_place.result.frame (labels_of request.ports) (ad_frames c.look-ad.result.now) c.in-Some.sides (sym c.open_sides.ensures ∙ c.in-Some.is))
     (subst (λ (w : PlainWorld). c.dock.new.entry ≤ c.args.entry.now + 2 * attribute_count w) world c.dock.ensures.entries)
 
 pub returns-clause-ratio : goal.returns-clause-ratio

@@ -1,19 +1,20 @@
-use Rattle.std.proofs.Common.{◌≡◌, IfOk, ap, arith, subst, sym, ◌∙◌}
+use Rattle.std.proofs.Common.{◌≡◌, [], IfOk, ap, arith, subst, sym, ◌∙◌}
 use Rattle.ad_tree.specs.Ad.{ad_frames}
-use Rattle.conjunct_plan.specs.Decided.{is_dock_decided}
 use Rattle.conjunct_plan.specs.Tests.{labels_of}
 use Rattle.eval_scope.specs.Shown.{world_of}
 use Rattle.eval_scope.specs.World.{PlainWorld}
 use Rattle.bilateral_match.specs.Docks.{ranked_in}
+use Rattle.bilateral_match.specs.Sides.{open_sides}
+use Rattle.bilateral_match.proofs.MetLemmas.{none-undecided, some-undecided}
 use Rattle.bilateral_match.proofs.SmallLemmas.{pair-small}
 use Rattle.bilateral_match.proofs.WeighLemmas.{ranked-decided, three-evaluations, three-worlds, world-is}
 use Rattle.bilateral_match.proofs.weighing.ranked.Goals as goal
 
-pub returns-then-is_decided-clause-rank : goal.returns-then-is_decided-clause-rank
-returns-then-is_decided-clause-rank g c =
+pub returns-in_default-clause-rank : goal.returns-in_default-clause-rank
+returns-in_default-clause-rank g c =
     let request = ad_frames c.args.request.now.ad in
     let ad = ad_frames c.args.ad.now in
-    sym (ranked-decided c.args.moment request ad (ap (λ ports. is_dock_decided request 0 (labels_of ports) ad) (sym c.requires) ∙ sym c.is_decided.ensures ∙ c.if-is_decided.true))
+    sym (ranked-decided c.args.moment request ad (none-undecided request 0 [] ad (ap (λ ports. open_sides request 0 (labels_of ports) ad) (sym c.requires) ∙ sym c.open_sides.ensures ∙ c.in_default.is)))
 
 pub returns-clause-rank : goal.returns-clause-rank
 returns-clause-rank g c =
@@ -26,14 +27,14 @@ pub returns-clause-evaluations : goal.returns-clause-evaluations
 returns-clause-evaluations g c =
     let request = ad_frames c.args.request.now.ad in
     let ad = ad_frames c.args.ad.now in
-    let undecided = ap (λ ports. is_dock_decided request 0 (labels_of ports) ad) (sym c.requires) ∙ sym c.is_decided.ensures ∙ c.if-is_decided.false in
+    let undecided = some-undecided request 0 [] ad c.in-Some.sides (ap (λ ports. open_sides request 0 (labels_of ports) ad) (sym c.requires) ∙ sym c.open_sides.ensures ∙ c.in-Some.is) in
     omega (arith, c.ranked_in.ensures.evaluations, three-evaluations c.args.moment request ad undecided)
 
 pub returns-clause-entries : goal.returns-clause-entries
 returns-clause-entries g c =
     let request = ad_frames c.args.request.now.ad in
     let ad = ad_frames c.args.ad.now in
-    let undecided = ap (λ ports. is_dock_decided request 0 (labels_of ports) ad) (sym c.requires) ∙ sym c.is_decided.ensures ∙ c.if-is_decided.false in
+    let undecided = some-undecided request 0 [] ad c.in-Some.sides (ap (λ ports. open_sides request 0 (labels_of ports) ad) (sym c.requires) ∙ sym c.open_sides.ensures ∙ c.in-Some.is) in
     let same = world-is c.args.moment request ad c.args.request.now.ports (world_of c.new.result) (world_of c.with-world.result) c.new.ensures c.with-world.ensures c.requires in
     omega (arith, c.ranked_in.ensures.entries, three-worlds c.args.moment request ad (world_of c.with-world.result) same undecided)
 

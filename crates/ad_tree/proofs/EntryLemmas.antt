@@ -72,38 +72,20 @@ pub stepped : {A E : Type 0} (r : Result A E) (P Q : Type 0) → OnOk r P → On
 stepped (Ok a) P Q h k = inl h
 stepped (Err e) P Q h k = inr k
 
--- look-ups under the folded name
-module _ (q name : List ℕ) (folds : q ≡ folded name) where
-  prefix_len-keys : (es : List Entry) → keys_fold_names es
-      → prefix_len (λ k. not (pointwise nat_eq q k.items)) (keys_of es) ≡ prefix_len (λ n. not (same_name name n)) (names_of (attributes_of es))
+-- look-ups among the keys: a test that tells of a folded name whether the name is the one that is looked for
+module _ (test : Vec ℕ Global → Bool) (name : List ℕ) (tells : (k : Vec ℕ Global) (n : List ℕ) → k.items ≡ folded n → test k ≡ same_name name n) where
+  prefix_len-keys : (es : List Entry) → keys_fold_names es → prefix_len (λ k. not (test k)) (keys_of es) ≡ prefix_len (λ n. not (same_name name n)) (names_of (attributes_of es))
   prefix_len-keys [] h = refl
   prefix_len-keys (e ∷ es) h =
-      ap (λ b. cond (not b) (1 + prefix_len (λ k. not (pointwise nat_eq q k.items)) (keys_of es)) 0)
-      (ap (λ k. pointwise nat_eq k e.0.items) folds ∙ ap (pointwise nat_eq (folded name)) (heads h))
+      ap (λ b. cond (not b) (1 + prefix_len (λ k. not (test k)) (keys_of es)) 0) (tells e.0 e.1.name (heads h))
       ∙ ap (λ n. cond (not (same_name name e.1.name)) (1 + n) 0) (prefix_len-keys es (tails h))
 
-  pub position-keys : (es : List Entry) → keys_fold_names es
-      → position (λ k. pointwise nat_eq q k.items) (keys_of es) ≡ position (same_name name) (names_of (attributes_of es))
+  pub position-keys : (es : List Entry) → keys_fold_names es → position test (keys_of es) ≡ position (same_name name) (names_of (attributes_of es))
   position-keys es h =
       ap (λ n. cond (nat_lt n (length (keys_of es))) (Some n) None) (prefix_len-keys es h)
       ∙ ap (λ n. cond (nat_lt (prefix_len (λ m. not (same_name name m)) (names_of (attributes_of es))) n) (Some (prefix_len (λ m. not (same_name name m)) (names_of (attributes_of es)))) None) (as_many es)
     where
       as_many : (fs : List Entry) → length (keys_of fs) ≡ length (names_of (attributes_of fs))
-      as_many [] = refl
-      as_many (f ∷ fs) = ap suc (as_many fs)
-
--- look-ups item by item
-module _ (name : List ℕ) where
-  prefix_len-values : (es : List Entry) → prefix_len (λ a. not (same_name name a.name)) (map (λ e. e.1) es) ≡ prefix_len (λ n. not (same_name name n)) (names_of (attributes_of es))
-  prefix_len-values [] = refl
-  prefix_len-values (e ∷ es) = ap (λ n. cond (not (same_name name e.1.name)) (1 + n) 0) (prefix_len-values es)
-
-  pub position-values : (es : List Entry) → position (λ a. same_name name a.name) (map (λ e. e.1) es) ≡ position (same_name name) (names_of (attributes_of es))
-  position-values es =
-      ap (λ n. cond (nat_lt n (length (map (λ e. e.1) es))) (Some n) None) (prefix_len-values es)
-      ∙ ap (λ n. cond (nat_lt (prefix_len (λ m. not (same_name name m)) (names_of (attributes_of es))) n) (Some (prefix_len (λ m. not (same_name name m)) (names_of (attributes_of es)))) None) (as_many es)
-    where
-      as_many : (fs : List Entry) → length (map (λ e. e.1) fs) ≡ length (names_of (attributes_of fs))
       as_many [] = refl
       as_many (f ∷ fs) = ap suc (as_many fs)
 

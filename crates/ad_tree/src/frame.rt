@@ -1,5 +1,6 @@
 // One frame of an ad or of a draft: its attributes in order, kept under their folded names.
-ghost use Rattle.std.specs.Prelude.{◌≡◌, ◌+◌, ◌<◌, ◌≤◌, ◌^◌, [], length, map, position, slice_get, option_map, Some, IfOk, OnOk, OnErr, IsTrue};
+ghost use Rattle.std.specs.Prelude.{◌≡◌, ◌+◌, ◌<◌, ◌≤◌, ◌^◌, [], length, map, position, slice_get, option_map, nat_eq, Some, IfOk, OnOk, OnErr, IsTrue};
+ghost use Rattle.std.specs.Char.{to_ascii_lowercase};
 ghost use Rattle.pool_text.specs.Folding.{folded};
 ghost use Rattle.ad_tree.specs.Tree.{tree};
 ghost use Rattle.ad_tree.specs.Names.{same_name, are_apart};
@@ -8,24 +9,19 @@ ghost use Rattle.ad_tree.specs.Entries.{attributes_of, keys_fold_names};
 
 use crate::Expr;
 use indexmap::IndexMap;
-use pool_text::{OutOfMemory, Text, same_folded};
+use pool_text::{OutOfMemory, Text};
 use std::alloc::Global;
 
 /// The longest name that is folded without memory.
 const SHORT_NAME: usize = 64;
 
+/// So many keys are gone through in less time than a name is folded and hashed.
+const FEW_KEYS: usize = 32;
+
 #[derive(Drop)]
 pub struct Attribute {
     pub name: Text,
     pub expr: Expr,
-}
-
-impl Attribute {
-    fn is_named(&self, name: &[u8]) -> bool
-        ensures { result ≡ same_name name.now self.now.name }
-    {
-        same_folded(name, self.name.bytes())
-    }
 }
 
 #[derive(Drop)]
@@ -104,10 +100,10 @@ impl AdFrame {
     pub fn position(&self, name: &[u8]) -> Option<u32>
         ensures { result ≡ position (same_name name.now) (names_of (frame_of self.now).attributes) }
     {
-        let place = if name.len() <= SHORT_NAME {
-            self.look_up(name)
-        } else {
+        let place = if self.attributes.len() <= FEW_KEYS || name.len() > SHORT_NAME {
             self.scan(name)
+        } else {
+            self.look_up(name)
         };
         place.map(|i| i as u32)
     }
@@ -128,14 +124,50 @@ impl AdFrame {
     fn scan(&self, name: &[u8]) -> Option<usize>
         ensures { result ≡ position (same_name name.now) (names_of (frame_of self.now).attributes) }
     {
-        place_of(self.attributes.values().as_slice(), name)
+        place_of(self.attributes.keys().as_slice(), name)
     }
 }
 
-fn place_of(attributes: &[Attribute], name: &[u8]) -> Option<usize>
-    ensures { result ≡ position (λ a. same_name name.now a.name) attributes.now }
+fn place_of(keys: &[Vec<u8>], name: &[u8]) -> Option<usize>
+    ensures { result ≡ position (λ key. same_name name.now key.items) keys.now }
 {
-    attributes
-        .iter()
-        .position(|attribute| attribute.is_named(name))
+    keys.iter().position(|key| are_same(name, key))
+}
+
+// Most names differ in their lengths, and most others in their first letters.
+#[inline(always)]
+fn are_same(a: &[u8], b: &[u8]) -> bool
+    ensures { result ≡ same_name a.now b.now }
+{
+    if a.len() != b.len() {
+        return false;
+    }
+    have_same_letters(a, b)
+}
+
+#[inline(always)]
+fn have_same_letters(a: &[u8], b: &[u8]) -> bool
+    ensures { result ≡ same_name a.now b.now }
+{
+    let mut left = a;
+    let mut right = b;
+    while let [x, left_rest @ ..] = left {
+        let [y, right_rest @ ..] = right else {
+            return false;
+        };
+        if !is_same_letter(*x, *y) {
+            return false;
+        }
+        left = left_rest;
+        right = right_rest;
+    }
+    right.len() == 0
+}
+
+// Most letters are spelled alike.
+#[inline(always)]
+fn is_same_letter(a: u8, b: u8) -> bool
+    ensures { result ≡ nat_eq (to_ascii_lowercase a) (to_ascii_lowercase b) }
+{
+    a == b || a.to_ascii_lowercase() == b.to_ascii_lowercase()
 }

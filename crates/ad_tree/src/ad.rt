@@ -22,14 +22,17 @@ pub struct Ad {
 impl Ad {
     ghost use Rattle.ad_tree.specs.Ad.{ad_frames};
 
-    // The ad with these frames. Want of memory is answered too where the numbers of frames end.
-    pub(crate) fn from_frames(frames: Vec<AdFrame>) -> Result<Ad, OutOfMemory>
+    // The ad with these frames, which take no more memory than they need. Want of memory is answered too where the numbers
+    // of frames end.
+    pub(crate) fn from_frames(mut frames: Vec<AdFrame>) -> Result<Ad, OutOfMemory>
         requires { IsAd (frames_of frames.items) }
         ensures { IfOk result (λ ad. ad_frames ad ≡ frames_of frames.items) }
     {
         if frames.len() > u32::MAX as usize {
             return Err(OutOfMemory);
         }
+        shrink(&mut frames);
+        frames.shrink_to_fit();
         Ok(Ad { frames })
     }
 
@@ -86,5 +89,14 @@ impl Ad {
         ensures { result ≡ position (same_name name.now) (names_in (ad_frames self.now) frame) }
     {
         self.frames[frame as usize].position(name)
+    }
+}
+
+// Gives back the room that the frames don't need.
+fn shrink(frames: &mut [AdFrame])
+    ensures { frames_of frames.new ≡ frames_of frames.old }
+{
+    for i in 0..frames.len() {
+        frames[i].shrink();
     }
 }

@@ -53,6 +53,13 @@ impl AdFrame {
         Ok(())
     }
 
+    /// Gives back the room that it doesn't need.
+    pub fn shrink(&mut self)
+        ensures { frame_of self.new ≡ frame_of self.old }
+    {
+        self.attributes.shrink_to_fit();
+    }
+
     /// Defines a name: it keeps its first place, and takes this spelling and this expression.
     #[inline(always)]
     pub fn define(&mut self, alloc: Global, name: Text, expr: Expr) -> Result<(), OutOfMemory>

@@ -1,6 +1,5 @@
 // One frame of an ad or of a draft: its attributes in order, kept under their folded names.
-ghost use Rattle.std.specs.Prelude.{◌≡◌, ◌+◌, ◌<◌, ◌≤◌, ◌^◌, [], length, map, position, slice_get, option_map, nat_eq, Some, IfOk, OnOk, OnErr, IsTrue};
-ghost use Rattle.std.specs.Char.{to_ascii_lowercase};
+ghost use Rattle.std.specs.Prelude.{◌≡◌, ◌+◌, ◌<◌, ◌≤◌, ◌^◌, [], length, map, position, slice_get, option_map, Some, IfOk, OnOk, OnErr, IsTrue};
 ghost use Rattle.pool_text.specs.Folding.{folded};
 ghost use Rattle.ad_tree.specs.Tree.{tree};
 ghost use Rattle.ad_tree.specs.Names.{same_name, are_apart};
@@ -9,7 +8,7 @@ ghost use Rattle.ad_tree.specs.Entries.{attributes_of, keys_fold_names};
 
 use crate::Expr;
 use indexmap::IndexMap;
-use pool_text::{OutOfMemory, Text};
+use pool_text::{OutOfMemory, Text, same_folded};
 use std::alloc::Global;
 
 /// The longest name that is folded without memory.
@@ -138,43 +137,11 @@ impl AdFrame {
 fn place_of(keys: &[Vec<u8>], name: &[u8]) -> Option<usize>
     ensures { result ≡ position (λ key. same_name name.now key.items) keys.now }
 {
-    keys.iter().position(|key| are_same(name, key))
+    keys.iter().position(|key| is_named(key, name))
 }
 
-// Most names differ in their lengths, and most others in their first letters.
-#[inline(always)]
-fn are_same(a: &[u8], b: &[u8]) -> bool
-    ensures { result ≡ same_name a.now b.now }
+fn is_named(key: &[u8], name: &[u8]) -> bool
+    ensures { result ≡ same_name name.now key.now }
 {
-    if a.len() != b.len() {
-        return false;
-    }
-    have_same_letters(a, b)
-}
-
-#[inline(always)]
-fn have_same_letters(a: &[u8], b: &[u8]) -> bool
-    ensures { result ≡ same_name a.now b.now }
-{
-    let mut left = a;
-    let mut right = b;
-    while let [x, left_rest @ ..] = left {
-        let [y, right_rest @ ..] = right else {
-            return false;
-        };
-        if !is_same_letter(*x, *y) {
-            return false;
-        }
-        left = left_rest;
-        right = right_rest;
-    }
-    right.len() == 0
-}
-
-// Most letters are spelled alike.
-#[inline(always)]
-fn is_same_letter(a: u8, b: u8) -> bool
-    ensures { result ≡ nat_eq (to_ascii_lowercase a) (to_ascii_lowercase b) }
-{
-    a == b || a.to_ascii_lowercase() == b.to_ascii_lowercase()
+    same_folded(name, key)
 }

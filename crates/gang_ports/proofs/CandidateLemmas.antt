@@ -1,5 +1,5 @@
 -- The order of candidates, and loops over resources.
-use Rattle.std.proofs.Common.{◌≡◌, ◌<◌, ◌≤◌, ◌+◌, ℕ, zero, suc, refl, List, [], ◌++◌, ◌∷◌, length, map, take, drop, get_or, Option, ap, sym, ◌∙◌}
+use Rattle.std.proofs.Common.{◌≡◌, ◌<◌, ◌≤◌, ◌+◌, ℕ, zero, suc, refl, List, [], ◌++◌, ◌∷◌, length, map, take, drop, get_or, Option, All, ap, sym, ◌∙◌, subst}
 use Rattle.std.specs.Cmp.{IsStrictWeakOrder, IsTotalOrder}
 use Rattle.std.specs.List.{cons_option, filter_map}
 use Rattle.std.specs.Ordering.{is_lt}
@@ -27,6 +27,11 @@ front-at f (x ∷ xs) (suc i) d = front-at f xs i d
 
 pub item-at : {X : Type 0} (f : X → X) (xs now : List X) (i : ℕ) (x : X) → x ≡ get_or now i x → now ≡ map f (take i xs) ++ drop i xs → x ≡ get_or xs i x
 item-at f xs now i x is so_far = is ∙ ap (λ ys. get_or ys i x) so_far ∙ front-at f xs i x
+
+-- what holds of all of them holds of the item
+pub item-hold : {X : Type 0} (P : X → Type 0) (f : X → X) (start now : List X) (i : ℕ) (item : X) → i < length start → item ≡ get_or now i item → now ≡ map f (take i start) ++ drop i start
+    → All P start → P (get_or now i item)
+item-hold P f start now i item within is so_far h = subst P (sym (item-at f start now i item is so_far) ∙ is) (h i item within)
 
 pub front-all : {X : Type 0} (f : X → X) (xs : List X) (i : ℕ) → length xs ≤ i → map f (take i xs) ++ drop i xs ≡ map f xs
 front-all f xs i past = ap (λ ys. map f (take i xs) ++ ys) (drop_all i xs past) ∙ append-nil (map f (take i xs)) ∙ ap (map f) (take_all i xs past)

@@ -7,6 +7,7 @@ pub mod LawLemmas
 pub mod ListLemmas
 mod NearLemmas
 mod OnceLemmas
+mod OpenLemmas
 mod OrderLemmas
 pub mod PoolLemmas
 mod PortLemmas

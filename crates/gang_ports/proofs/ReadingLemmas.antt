@@ -14,12 +14,15 @@ use Rattle.conjunct_plan.specs.Tests.{labels_of}
 use Rattle.eval_scope.specs.World.{PlainWorld, port_frame}
 use Rattle.bilateral_match.specs.Candidates.{AreCandidatesAt, places_where}
 use Rattle.bilateral_match.specs.Pool.{Pool}
+use Rattle.bilateral_match.specs.Sides.{open_sides}
+use Rattle.bilateral_match.specs.declared.sides.OpenSides.{OpenSides}
+use Rattle.bilateral_match.proofs.MetLemmas.{none-undecided, some-undecided}
 use Rattle.gang_ports.specs.declared.weighing.Kept.{Kept}
 use Rattle.gang_ports.specs.declared.weighing.Resource.{Resource}
 use Rattle.gang_ports.specs.declared.weighing.Side.{Side}
 use Rattle.gang_ports.specs.FreePorts.{is_free_port}
 use Rattle.gang_ports.specs.Gangs.{ad_at, free_places, gang_world, is_free, is_open, open_places}
-use Rattle.gang_ports.specs.Search.{AreResources, AreSides, IsWorth, IsSide, is_unknown}
+use Rattle.gang_ports.specs.Search.{AreResources, AreSides, HasSides, HaveSides, IsWorth, IsSide, is_unknown}
 use Rattle.gang_ports.proofs.ListLemmas.{IsPermutation-filter, filter-both, map-more}
 
 -- ---- places that a test leaves
@@ -72,6 +75,27 @@ module _ (pool : Pool) (request : List Frame) (ports : List Port) (frame : ℕ) 
         ads = ads;
       }
 
+  -- the resource at a place, where it may be taken
+  module _ (place : ℕ) (fs : List Frame) (found : option_map (λ a. a.ad) (slice_get pool.ads place) ≡ Some fs) where
+    ad-there : ad_at pool place ≡ fs
+    ad-there = by (slice_get pool.ads place) found
+      where
+        by : (o : Option Advert) → option_map (λ a. a.ad) o ≡ Some fs → option_map_or (λ (a : Advert). a.ad) o [] ≡ fs
+        by None e = absurd (cc)
+        by (Some a) e = cc
+
+    there-open : (decided : Bool) → is_dock_decided request frame (labels_of ports) fs ≡ decided → is_open pool request ports frame place ≡ not decided
+    there-open decided e = ap (λ (ad : List Frame). not (is_dock_decided request frame (labels_of ports) ad)) ad-there ∙ ap not e
+
+    pub none-asked : open_sides request frame (labels_of ports) fs ≡ None → None ≡ (if is_asked place then Some place else None)
+    none-asked none =
+        sym (ap (λ (b : Bool). if b then Some place else None) (closed (is_free pool place) (is_open pool request ports frame place) (there-open true (none-undecided request frame (labels_of ports) fs none))))
+
+    pub some-asked : (sides : OpenSides) → is_free pool place ≡ true → open_sides request frame (labels_of ports) fs ≡ Some sides → Some place ≡ (if is_asked place then Some place else None)
+    some-asked sides free some =
+        sym (ap (λ (b : Bool). if b && is_open pool request ports frame place then Some place else None) free
+        ∙ ap (λ (b : Bool). if b then Some place else None) (there-open false (some-undecided request frame (labels_of ports) fs sides some)))
+
   -- one place more
   module _ (rs new : List Resource) (items : List ℕ) (i : ℕ) (within : i < length items) (o : Option Resource) (added : new ≡ rs ++ cons_option o []) where
     pub asked-next : map (λ (r : Resource). r.place) rs ≡ filter is_asked (take i items) → option_map (λ (r : Resource). r.place) o ≡ (if is_asked (get_or items i 0) then Some (get_or items i 0) else None)
@@ -97,13 +121,12 @@ module _ (pool : Pool) (request : List Frame) (ports : List Port) (frame : ℕ) 
         by None h = subst (All (λ (r : Resource). ad_frames r.ad.now ≡ ad_at pool r.place)) (sym (append-nil rs)) so_far
         by (Some r) h = All-push (λ (r : Resource). ad_frames r.ad.now ≡ ad_at pool r.place) rs r so_far h
 
-pub unknown-next : (rs new : List Resource) (o : Option Resource) → new ≡ rs ++ cons_option o [] → All (λ (r : Resource). is_unknown r.kept ≡ true) rs → IfSome o (λ r. is_unknown r.kept ≡ true)
-    → All (λ (r : Resource). is_unknown r.kept ≡ true) new
-unknown-next rs new o added so_far has = subst (All (λ (r : Resource). is_unknown r.kept ≡ true)) (sym added) (by o has)
+pub found-hold : (P : Resource → Type 0) (rs new : List Resource) (o : Option Resource) → new ≡ rs ++ cons_option o [] → All P rs → IfSome o P → All P new
+found-hold P rs new o added so_far has = subst (All P) (sym added) (by o has)
   where
-    by : (p : Option Resource) → IfSome p (λ r. is_unknown r.kept ≡ true) → All (λ (r : Resource). is_unknown r.kept ≡ true) (rs ++ cons_option p [])
-    by None h = subst (All (λ (r : Resource). is_unknown r.kept ≡ true)) (sym (append-nil rs)) so_far
-    by (Some r) h = All-push (λ (q : Resource). is_unknown q.kept ≡ true) rs r so_far h
+    by : (p : Option Resource) → IfSome p P → All P (rs ++ cons_option p [])
+    by None h = subst (All P) (sym (append-nil rs)) so_far
+    by (Some r) h = All-push P rs r so_far h
 
 -- ---- the sides of all ports
 
@@ -138,3 +161,18 @@ module _ (pool : Pool) (request : List Frame) (ports : List Port) where
         resources = subst (λ (f : ℕ). AreResources pool (open_places pool request ports f) side.resources.items) (sym here) resources;
         kept = λ e k d within. λ before long. let r = get_or side.resources.items k d in unknown-right (gang_world pool request ports before) (ad_frames r.ad.now) r.kept (unknown k d within);
       })))
+
+  have-push : (i : ℕ) (sides : List Side) (side : Side) → HaveSides request ports i sides → All (HasSides request ports (port_frame ports (suc (i + length sides)))) side.resources.items → HaveSides request ports i (sides ++ side ∷ [])
+  have-push i [] side h one = let start : i + 0 ≡ i = omega arith in (subst (λ (n : ℕ). All (HasSides request ports (port_frame ports (suc n))) side.resources.items) start one, tt)
+  have-push i (s ∷ sides) side h one =
+      let moved : i + suc (length sides) ≡ suc i + length sides = omega arith in
+      (h.0, have-push (suc i) sides side h.1 (subst (λ (n : ℕ). All (HasSides request ports (port_frame ports (suc n))) side.resources.items) moved one))
+
+  -- what tests leave open of the docks with the next port
+  pub have-next : (sides new : List Side) (side : Side) (i : ℕ) (port : Port) → new ≡ sides ++ side ∷ [] → HaveSides request ports 0 sides → length sides ≡ i → slice_get ports i ≡ Some port
+      → All (HasSides request ports port.frame) side.resources.items → HaveSides request ports 0 new
+  have-next sides new side i port added so_far many at has =
+      let start : 0 + length sides ≡ length sides = omega arith in
+      let here : port_frame ports (suc (0 + length sides)) ≡ port.frame = ap (λ (n : ℕ). port_frame ports (suc n)) (start ∙ many) ∙ frame-at i port at in
+      subst (HaveSides request ports 0) (sym added)
+      (have-push 0 sides side so_far (subst (λ (f : ℕ). All (HasSides request ports f) side.resources.items) (sym here) has))

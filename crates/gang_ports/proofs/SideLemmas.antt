@@ -46,7 +46,7 @@ module _ (pool : Pool) (w : PlainWorld) (before : List ℕ) (same : w ≡ gang_w
       once others many (Kept.Weighed rank) k = k
 
       by : (others : List ℕ) → length others ≡ length before → (among : Bool)
-          → (let q : Resource = if among then r else record { place = r.place; ad = r.ad; kept = kept_in w (ad_frames r.ad.now) r.kept } in IsWorth (gang_world pool w.request w.ports others) (ad_frames q.ad.now) q.kept)
+          → (let q : Resource = if among then r else record { place = r.place; ad = r.ad; sides = r.sides; kept = kept_in w (ad_frames r.ad.now) r.kept } in IsWorth (gang_world pool w.request w.ports others) (ad_frames q.ad.now) q.kept)
       by others many true = h others many
       by others many false = once others many r.kept (h others many)
 

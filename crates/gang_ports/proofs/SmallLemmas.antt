@@ -1,5 +1,5 @@
 -- Small ads: those of a pool's resources, of candidates, and of the worlds in which they are docked.
-use Rattle.std.proofs.Common.{◌≡◌, ◌<◌, ◌-◌, ℕ, suc, Bool, true, false, if◌then◌else◌, refl, List, [], ◌∷◌, ◌++◌, length, map, get_or, set, take, drop, Option, None, Some, option_map, slice_get, All, ap, sym, ◌∙◌, subst, arith, ℤ}
+use Rattle.std.proofs.Common.{◌≡◌, ◌<◌, ◌-◌, ℕ, suc, Bool, true, false, if◌then◌else◌, refl, List, [], ◌∷◌, length, map, get_or, set, Option, None, Some, option_map, slice_get, All, ap, sym, subst, arith, ℤ}
 use Rattle.std.specs.List.{cons_option, filter_map}
 use Rattle.std.specs.List.Sorted.{IsPermutation}
 use Rattle.std.specs.Option.{option_map_or}
@@ -23,11 +23,10 @@ use Rattle.gang_ports.specs.Choice.{is_among}
 use Rattle.gang_ports.specs.Gangs.{gang_world}
 use Rattle.gang_ports.specs.Search.{AreSides, candidate_in, kept_in, rank_kept, remembered, weighed_in}
 use Rattle.gang_ports.specs.Small.{AreSmallResources, AreSmallSides}
-use Rattle.gang_ports.proofs.CandidateLemmas.{item-at}
 use Rattle.gang_ports.proofs.SearchLemmas.{first-cut, first-whole, made, rest_of}
-use Rattle.gang_ports.proofs.WeighLemmas.{remembered-hold, weighed-hold}
+use Rattle.gang_ports.proofs.WeighLemmas.{asked-hold, kept-hold, remembered-hold}
 
-abbrev HasSmall : Resource → Type 0
+abbrev pub HasSmall : Resource → Type 0
 HasSmall r = IsSmall (ad_frames r.ad.now)
 
 abbrev HaveSmall : Side → Type 0
@@ -67,24 +66,17 @@ module _ (pool : Pool) (request : List Frame) (ports : List Port) where
 
 -- ---- resources, weighed one after another
 
--- the item that a loop is at, where those before it are others already
-pub item-small : (f : Resource → Resource) (start now : List Resource) (i : ℕ) (item : Resource) → i < length start → item ≡ get_or now i item → now ≡ map f (take i start) ++ drop i start
-    → AreSmallResources start → HasSmall (get_or now i item)
-item-small f start now i item within is so_far small = subst HasSmall (sym (item-at f start now i item is so_far) ∙ is) (small i item within)
-
 module _ (w : PlainWorld) (before : List ℕ) where
   remembered-small : (free : Bool) (rs : List Resource) → AreSmallResources rs → AreSmallResources (remembered free rs)
   remembered-small free rs small = remembered-hold w before HasSmall (λ r kept h. h) free rs small
 
   -- as the code has it: the resources once they are forgotten or not, of which there is another list
   pub asked-small : (free : Bool) (rs now asked : List Resource) → now ≡ rs → asked ≡ remembered free now → AreSmallResources rs → AreSmallResources asked
-  asked-small free rs now asked same is small = subst AreSmallResources (ap (remembered free) (sym same) ∙ sym is) (remembered-small free rs small)
+  asked-small = asked-hold w before HasSmall (λ r kept h. h)
 
   -- once they are weighed
   pub kept-small : (side new : Side) → new.resources.items ≡ map (weighed_in w before) (remembered side.is_free side.resources.items) → AreSmallResources side.resources.items → AreSmallResources new.resources.items
-  kept-small side new kept small =
-      subst AreSmallResources (sym kept)
-      (weighed-hold w before HasSmall (λ r kept h. h) (remembered side.is_free side.resources.items) (remembered-small side.is_free side.resources.items small))
+  kept-small = kept-hold w before HasSmall (λ r kept h. h)
 
   candidate-small : (r : Resource) (tl : List Candidate) (among : Bool) (rank : Option ℤ) → HasSmall r → All IsOfSmall tl
       → All IsOfSmall (cons_option (if among then None else option_map (made r) rank) tl)

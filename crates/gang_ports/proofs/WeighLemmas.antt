@@ -9,6 +9,7 @@ use Rattle.eval_scope.specs.World.{PlainWorld, with_docked}
 use Rattle.gang_ports.specs.declared.weighing.Candidate.{Candidate}
 use Rattle.gang_ports.specs.declared.weighing.Kept.{Kept}
 use Rattle.gang_ports.specs.declared.weighing.Resource.{Resource}
+use Rattle.gang_ports.specs.declared.weighing.Side.{Side}
 use Rattle.gang_ports.specs.Choice.{is_among}
 use Rattle.gang_ports.specs.Search.{IsWorth, attributes_of, candidate_in, candidate_of, evaluations_ahead, evaluations_in, evaluations_of, forgotten, is_unknown, kept_in, rank_kept, remembered, weighed, weighed_in, worth}
 use Rattle.gang_ports.proofs.ListLemmas.{sum_by-map}
@@ -74,7 +75,7 @@ module _ (w : PlainWorld) (before : List ℕ) where
       once (Kept.Weighed rank) = refl
 
       by : (among : Bool)
-          → (if among then 0 else if is_unknown r.kept then 3 else 0) + evaluations_ahead (if among then r else record { place = r.place; ad = r.ad; kept = kept_in w (ad_frames r.ad.now) r.kept }) ≡ evaluations_ahead r
+          → (if among then 0 else if is_unknown r.kept then 3 else 0) + evaluations_ahead (if among then r else record { place = r.place; ad = r.ad; sides = r.sides; kept = kept_in w (ad_frames r.ad.now) r.kept }) ≡ evaluations_ahead r
       by true = omega arith
       by false = once r.kept
 
@@ -93,11 +94,11 @@ module _ (w : PlainWorld) (before : List ℕ) where
   -- ---- what is kept
 
   -- what holds of a resource whatever is kept of it
-  module _ (P : Resource → Type 0) (whatever : (r : Resource) (kept : Kept) → P r → P (record { place = r.place; ad = r.ad; kept = kept })) where
+  module _ (P : Resource → Type 0) (whatever : (r : Resource) (kept : Kept) → P r → P (record { place = r.place; ad = r.ad; sides = r.sides; kept = kept })) where
     weighed-holds : (r : Resource) → P r → P (weighed_in w before r)
     weighed-holds r h = by (is_among before r.place)
       where
-        by : (among : Bool) → P (if among then r else record { place = r.place; ad = r.ad; kept = kept_in w (ad_frames r.ad.now) r.kept })
+        by : (among : Bool) → P (if among then r else record { place = r.place; ad = r.ad; sides = r.sides; kept = kept_in w (ad_frames r.ad.now) r.kept })
         by true = h
         by false = whatever r (kept_in w (ad_frames r.ad.now) r.kept) h
 
@@ -108,10 +109,19 @@ module _ (w : PlainWorld) (before : List ℕ) where
     pub weighed-hold : (rs : List Resource) → All P rs → All P (map (weighed_in w before) rs)
     weighed-hold rs h = All-map P (weighed_in w before) rs (λ k d within. weighed-holds _ (h k d within))
 
+    -- as the code has it: of resources once they are forgotten or not, of which there is another list
+    pub asked-hold : (free : Bool) (rs now asked : List Resource) → now ≡ rs → asked ≡ remembered free now → All P rs → All P asked
+    asked-hold free rs now asked same is h = subst (All P) (ap (remembered free) (sym same) ∙ sym is) (remembered-hold free rs h)
+
+    -- once they are weighed
+    pub kept-hold : (side new : Side) → new.resources.items ≡ map (weighed_in w before) (remembered side.is_free side.resources.items) → All P side.resources.items → All P new.resources.items
+    kept-hold side new kept h =
+        subst (All P) (sym kept) (weighed-hold (remembered side.is_free side.resources.items) (remembered-hold side.is_free side.resources.items h))
+
   place-same : (r : Resource) → (weighed_in w before r).place ≡ r.place
   place-same r = by (is_among before r.place)
     where
-      by : (among : Bool) → (let q : Resource = if among then r else record { place = r.place; ad = r.ad; kept = kept_in w (ad_frames r.ad.now) r.kept } in q.place) ≡ r.place
+      by : (among : Bool) → (let q : Resource = if among then r else record { place = r.place; ad = r.ad; sides = r.sides; kept = kept_in w (ad_frames r.ad.now) r.kept } in q.place) ≡ r.place
       by true = refl
       by false = refl
 

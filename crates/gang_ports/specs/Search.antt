@@ -9,7 +9,9 @@ use Rattle.ad_tree.specs.Frames.{Frame}
 use Rattle.ad_tree.specs.declared.request.Port.{Port}
 use Rattle.eval_scope.specs.World.{PlainWorld, attribute_count, port_frame, request_side, with_docked}
 use Rattle.ad_eval.specs.Dock.{is_docked, rank_by}
+use Rattle.conjunct_plan.specs.Tests.{labels_of}
 use Rattle.bilateral_match.specs.Pool.{Pool}
+use Rattle.bilateral_match.specs.Sides.{open_sides}
 use Rattle.gang_ports.specs.declared.weighing.Candidate.{Candidate}
 use Rattle.gang_ports.specs.declared.weighing.Kept.{Kept}
 use Rattle.gang_ports.specs.declared.weighing.Resource.{Resource}
@@ -66,7 +68,7 @@ rank_kept (Kept.Weighed rank) = rank
 
 -- a resource is weighed where it isn't docked yet and nothing is known of it
 abbrev pub weighed_in : PlainWorld → List ℕ → Resource → Resource
-weighed_in w before r = if is_among before r.place then r else record { place = r.place; ad = r.ad; kept = kept_in w (ad_frames r.ad.now) r.kept }
+weighed_in w before r = if is_among before r.place then r else record { place = r.place; ad = r.ad; sides = r.sides; kept = kept_in w (ad_frames r.ad.now) r.kept }
 
 -- the candidate that it then is
 abbrev pub candidate_in : PlainWorld → List ℕ → Resource → Option Candidate
@@ -79,7 +81,7 @@ abbrev pub evaluations_in : List ℕ → Resource → ℕ
 evaluations_in before r = if is_among before r.place then 0 else if is_unknown r.kept then 3 else 0
 
 abbrev pub forgotten : Resource → Resource
-forgotten r = record { place = r.place; ad = r.ad; kept = Kept.Unknown }
+forgotten r = record { place = r.place; ad = r.ad; sides = r.sides; kept = Kept.Unknown }
 
 -- the resources of a port as they are when they are weighed again: what is kept of them stays at a free port alone
 abbrev pub remembered : Bool → List Resource → List Resource
@@ -112,6 +114,20 @@ pub record IsSide (pool : Pool) (request : List Frame) (ports : List Port) (i : 
   pub free : side.is_free ≡ is_free_port request ports i
   pub resources : AreResources pool (open_places pool request ports (port_frame ports (suc i))) side.resources.items
   pub kept : side.is_free ≡ true → All (IsKept pool request ports i) side.resources.items
+
+-- the sides of a resource's dock with frame f of a request are those that tests leave open
+abbrev pub HasSides : List Frame → List Port → ℕ → Resource → Type 0
+HasSides request ports f r = open_sides request f (labels_of ports) (ad_frames r.ad.now) ≡ Some r.sides
+
+-- so are those of its dock with the next port in a world
+abbrev pub HasSidesIn : PlainWorld → Resource → Type 0
+HasSidesIn w r = HasSides w.request w.ports (port_frame w.ports (suc (length w.docked))) r
+
+-- so are those of all resources of the ports from i on
+abbrev pub HaveSides : List Frame → List Port → ℕ → List Side → Type 0
+HaveSides request ports i [] = Unit {0}
+HaveSides request ports i (side ∷ sides) =
+    All (HasSides request ports (port_frame ports (suc i))) side.resources.items × HaveSides request ports (suc i) sides
 
 -- the ports from i on
 abbrev pub AreSides : Pool → List Frame → List Port → ℕ → List Side → Type 0

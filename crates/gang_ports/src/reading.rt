@@ -9,13 +9,13 @@ ghost use Rattle.bilateral_match.specs.Counts.{least_left};
 ghost use Rattle.bilateral_match.specs.Pool.{pool_of};
 ghost use Rattle.bilateral_match.specs.Rows.{rows_of};
 ghost use Rattle.gang_ports.specs.Gangs.{ad_at, is_free, is_open, looks_most, open_places};
-ghost use Rattle.gang_ports.specs.Search.{AreResources, AreSides, is_unknown};
+ghost use Rattle.gang_ports.specs.Search.{AreResources, AreSides, HasSides, HaveSides, is_unknown};
 
 use crate::free_ports::is_free_port;
 use crate::weighing::{Kept, Resource, Side};
 use ad_store::{Holdings, Store};
 use ad_tree::{Ad, Request};
-use bilateral_match::{candidates_at, is_decided, is_live};
+use bilateral_match::{candidates_at, is_live, open_sides};
 use literal_index::Index;
 use pool_steps::Steps;
 use pool_text::OutOfMemory;
@@ -36,6 +36,7 @@ pub fn read_sides<'a, H: Holdings, T: Ledger>(
 ) -> Result<Vec<Side<'a>>, OutOfMemory>
     requires { IsIndex index.now (rows_of (stock_of store.now)) }
     ensures sides { IfOk result (λ sides. AreSides (pool_of moment (stock_of store.now) (H.is_offered held.now) (H.holding held.now)) (ad_frames request.now.ad) request.now.ports 0 sides.items) }
+    ensures tests { IfOk result (λ sides. HaveSides (ad_frames request.now.ad) request.now.ports 0 sides.items) }
     ensures many { IfOk result (λ sides. length sides.items ≡ length request.now.ports) }
     ensures looks { touch.new ≤ touch.old + looks_most (stock_of store.now).ads (ad_frames request.now.ad) request.now.ports }
 {
@@ -65,6 +66,7 @@ fn read_resources<'a, H: Holdings, T: Ledger>(
     requires frame { frame < length (ad_frames request.now.ad) }
     ensures resources { IfOk result (λ resources. AreResources (pool_of moment (stock_of store.now) (H.is_offered held.now) (H.holding held.now))
         (open_places (pool_of moment (stock_of store.now) (H.is_offered held.now) (H.holding held.now)) (ad_frames request.now.ad) request.now.ports frame) resources.items) }
+    ensures tests { IfOk result (λ resources. All (HasSides (ad_frames request.now.ad) request.now.ports frame) resources.items) }
     ensures unknown { IfOk result (λ resources. All (λ r. is_unknown r.kept ≡ true) resources.items) }
     ensures looks { touch.new ≤ touch.old
         + least_left (stock_of store.now).ads (tests_of (ad_frames request.now.ad) frame (labels_of request.now.ports)) }
@@ -95,6 +97,7 @@ fn resource_at<'a, H: Holdings, T: Ledger>(
         && is_open (pool_of moment (stock_of store.now) (H.is_offered held.now) (H.holding held.now)) (ad_frames request.now.ad) request.now.ports frame place
         then Some place else None) }
     ensures ad { IfSome result (λ r. ad_frames r.ad.now ≡ ad_at (pool_of moment (stock_of store.now) (H.is_offered held.now) (H.holding held.now)) r.place) }
+    ensures tests { IfSome result (HasSides (ad_frames request.now.ad) request.now.ports frame) }
     ensures unknown { IfSome result (λ r. is_unknown r.kept ≡ true) }
     ensures looks { touch.new ≤ touch.old + 1 }
 {
@@ -103,12 +106,13 @@ fn resource_at<'a, H: Holdings, T: Ledger>(
         return None;
     }
     let ad = store.look(slot, touch);
-    if is_decided(alloc, request, frame, ad) {
+    let Some(sides) = open_sides(alloc, request, frame, ad) else {
         return None;
-    }
+    };
     Some(Resource {
         place,
         ad,
+        sides,
         kept: Kept::Unknown,
     })
 }

@@ -3,7 +3,7 @@ ghost use Rattle.std.specs.Prelude.{◌≤◌, ◌+◌, ◌*◌, length, IfOk, O
 ghost use Rattle.eval_scope.specs.Shown.{world_of};
 ghost use Rattle.ad_eval.specs.Small.{AreSmall};
 ghost use Rattle.bilateral_match.specs.Pool.{Pool};
-ghost use Rattle.gang_ports.specs.Search.{AreSides, IsBehind, Outcome, attributes_from, choice_in, evaluations_from, evaluations_once, sides_ahead};
+ghost use Rattle.gang_ports.specs.Search.{AreSides, HaveSides, IsBehind, Outcome, attributes_from, choice_in, evaluations_from, evaluations_once, sides_ahead};
 ghost use Rattle.gang_ports.specs.Small.{AreSmallSides};
 
 use crate::weighing::{Side, candidates};
@@ -26,7 +26,8 @@ pub fn search<'a, F: Ledger, E: Ledger>(
     tops: &mut Steps<F>,
     entry: &mut Steps<E>,
 ) -> Result<bool, OutOfMemory>
-    requires { length (world_of world.now).docked + length sides.old ≤ 8 }
+    requires room { length (world_of world.now).docked + length sides.old ≤ 8 }
+    requires tests { HaveSides (world_of world.now).request (world_of world.now).ports (length (world_of world.now).docked) sides.old }
     ensures outcome { IfOk result (λ found. (pool : Pool) → IsBehind pool (world_of world.now) before.old.items sides.old
         → Outcome (choice_in pool (world_of world.now)) (length sides.old) before.old.items before.new.items found) }
     ensures sides { OnOk result ((pool : Pool) → IsBehind pool (world_of world.now) before.old.items sides.old
@@ -40,6 +41,7 @@ pub fn search<'a, F: Ledger, E: Ledger>(
     ensures entries { (pool : Pool) → IsBehind pool (world_of world.now) before.old.items sides.old
         → entry.new ≤ entry.old + attributes_from pool (world_of world.now) (length sides.old) before.old.items }
     ensures small { OnOk result (AreSmallSides sides.old → AreSmallSides sides.new) }
+    ensures tests { OnOk result (HaveSides (world_of world.now).request (world_of world.now).ports (length (world_of world.now).docked) sides.new) }
     ensures ratio { AreSmall (world_of world.now) → AreSmallSides sides.old → entry.new + 9216 * tops.old ≤ entry.old + 9216 * tops.new }
 {
     if sides.is_empty() {

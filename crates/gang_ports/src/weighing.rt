@@ -1,5 +1,5 @@
 // What the docks of a port with single resources are worth.
-ghost use Rattle.std.specs.Prelude.{◌≡◌, ◌≤◌, ◌<◌, ◌+◌, ◌*◌, [], length, map, option_map, sum_by, IfOk, OnOk, ◌++◌};
+ghost use Rattle.std.specs.Prelude.{◌≡◌, ◌≤◌, ◌<◌, ◌+◌, ◌*◌, [], All, Some, length, map, option_map, sum_by, IfOk, OnOk, ◌++◌};
 ghost use Rattle.std.specs.List.{cons_option, filter_map};
 ghost use Rattle.std.specs.List.Sorted.{IsPermutation, IsSorted};
 ghost use Rattle.ad_tree.specs.Ad.{ad_frames};
@@ -7,12 +7,14 @@ ghost use Rattle.ad_tree.specs.Small.{IsSmall};
 ghost use Rattle.eval_scope.specs.Shown.{world_of};
 ghost use Rattle.eval_scope.specs.World.{attribute_count};
 ghost use Rattle.ad_eval.specs.Small.{AreSmall};
+ghost use Rattle.bilateral_match.specs.Docks.{last_open};
 ghost use Rattle.gang_ports.specs.Choice.{is_among};
-ghost use Rattle.gang_ports.specs.Search.{attributes_of, candidate_in, candidate_order, evaluations_in, forgotten, remembered, weighed_in, worth};
+ghost use Rattle.gang_ports.specs.Search.{HasSidesIn, attributes_of, candidate_in, candidate_order, evaluations_in, forgotten, remembered, weighed_in, worth};
 ghost use Rattle.gang_ports.specs.Small.{AreSmallResources};
 
-use ad_eval::{dock, rank};
+use ad_eval::rank;
 use ad_tree::Ad;
+use bilateral_match::OpenSides;
 use eval_scope::World;
 use pool_steps::Steps;
 use pool_text::OutOfMemory;
@@ -27,11 +29,13 @@ pub enum Kept {
     Weighed(Option<i64>),
 }
 
-/// A resource that a port may be given: its place in the order of the store, counted from 0, its ad, and what is known of it.
+/// A resource that a port may be given: its place in the order of the store, counted from 0, its ad, the sides of its dock
+/// with the port that tests leave open, and what is known of it.
 #[derive(Clone, Copy)]
 pub struct Resource<'a> {
     pub place: usize,
     pub ad: &'a Ad,
+    pub sides: OpenSides,
     pub kept: Kept,
 }
 
@@ -61,7 +65,8 @@ pub fn candidates<'a, F: Ledger, E: Ledger>(
     tops: &mut Steps<F>,
     entry: &mut Steps<E>,
 ) -> Result<Vec<Candidate<'a>>, OutOfMemory>
-    requires { length (world_of world.now).docked < 8 }
+    requires room { length (world_of world.now).docked < 8 }
+    requires tests { All (HasSidesIn (world_of world.now)) side.old.resources.items }
     ensures all { IfOk result (λ tries. IsPermutation (filter_map (candidate_in (world_of world.now) before.now) (remembered side.old.is_free side.old.resources.items)) tries.items) }
     ensures ordered { IfOk result (λ tries. IsSorted candidate_order tries.items) }
     ensures free { side.new.is_free ≡ side.old.is_free }
@@ -112,7 +117,8 @@ fn weigh_all<'a, F: Ledger, E: Ledger>(
     tops: &mut Steps<F>,
     entry: &mut Steps<E>,
 ) -> Result<Vec<Candidate<'a>>, OutOfMemory>
-    requires { length (world_of world.now).docked < 8 }
+    requires room { length (world_of world.now).docked < 8 }
+    requires tests { All (HasSidesIn (world_of world.now)) resources.old }
     ensures tries { IfOk result (λ tries. tries.items ≡ filter_map (candidate_in (world_of world.now) before.now) resources.old) }
     ensures kept { OnOk result (resources.new ≡ map (weighed_in (world_of world.now) before.now) resources.old) }
     ensures evaluations { tops.new ≤ tops.old + sum_by (evaluations_in before.now) resources.old }
@@ -136,7 +142,8 @@ fn weigh<'a, F: Ledger, E: Ledger>(
     tops: &mut Steps<F>,
     entry: &mut Steps<E>,
 ) -> Result<(), OutOfMemory>
-    requires { length (world_of world.now).docked < 8 }
+    requires room { length (world_of world.now).docked < 8 }
+    requires tests { HasSidesIn (world_of world.now) resource.old }
     ensures found { OnOk result (tries.new.items ≡ tries.old.items ++ cons_option (candidate_in (world_of world.now) before.now resource.old) []) }
     ensures kept { OnOk result (resource.new ≡ weighed_in (world_of world.now) before.now resource.old) }
     ensures evaluations { tops.new ≤ tops.old + evaluations_in before.now resource.old }
@@ -148,7 +155,9 @@ fn weigh<'a, F: Ledger, E: Ledger>(
     }
     let rank = match resource.kept {
         Kept::Weighed(rank) => rank,
-        Kept::Unknown => { rank_where_docked(alloc, &world.with(resource.ad), tops, entry)? }
+        Kept::Unknown => {
+            rank_where_docked(alloc, &world.with(resource.ad), resource.sides, tops, entry)?
+        }
     };
     resource.kept = Kept::Weighed(rank);
     keep(tries, ranked(resource, rank))
@@ -173,19 +182,22 @@ fn is_among(places: &[usize], place: usize) -> bool
     places.iter().any(|other| *other == place)
 }
 
-// The rank that the request's side of the last dock gives, where the dock is true.
+// The rank that the request's side of the last dock gives, where the dock is true, of which tests leave these sides open.
 fn rank_where_docked<F: Ledger, E: Ledger>(
     alloc: Global,
     world: &World<'_>,
+    sides: OpenSides,
     tops: &mut Steps<F>,
     entry: &mut Steps<E>,
 ) -> Result<Option<i64>, OutOfMemory>
+    requires docked { 0 < length (world_of world.now).docked }
+    requires tests { last_open (world_of world.now) ≡ Some sides }
     ensures rank { IfOk result (λ rank. rank ≡ worth (world_of world.now)) }
     ensures evaluations { tops.new ≤ tops.old + 3 }
     ensures entries { entry.new ≤ entry.old + 3 * attribute_count (world_of world.now) }
     ensures ratio { AreSmall (world_of world.now) → entry.new + 9216 * tops.old ≤ entry.old + 9216 * tops.new }
 {
-    if !dock(alloc, world, tops, entry)? {
+    if !sides.dock(alloc, world, tops, entry)? {
         return Ok(None);
     }
     Ok(Some(rank(alloc, world, world.request_place(), tops, entry)?))

@@ -3,12 +3,19 @@ use Rattle.std.proofs.lemmas.List.{length-map}
 use Rattle.ad_tree.specs.Ad.{ad_frames}
 use Rattle.ad_store.specs.Store.{stock_of}
 use Rattle.eval_scope.specs.Shown.{world_of}
+use Rattle.eval_scope.specs.World.{PlainWorld}
 use Rattle.bilateral_match.specs.Pool.{Pool, pool_of, slot_at}
-use Rattle.gang_ports.specs.Search.{IsBehind, Outcome, choice_in}
+use Rattle.gang_ports.specs.Search.{HaveSides, IsBehind, Outcome, choice_in}
 use Rattle.gang_ports.proofs.OnceLemmas.{once-whole}
 use Rattle.gang_ports.proofs.PoolLemmas.{attributes-whole, evaluations-whole, found-whole, none-whole, starts, within-whole}
 use Rattle.gang_ports.proofs.SmallLemmas.{sides-small, start-small}
 use Rattle.gang_ports.proofs.gangs.first_gang.Goals as goal
+
+pub search-searched-requires-clause-tests : goal.search-searched-requires-clause-tests
+search-searched-requires-clause-tests g c =
+    let sides = c.as_mut_slice.result.now in
+    subst (λ (w : PlainWorld). HaveSides w.request w.ports (length w.docked) sides) (sym c.new-world.ensures)
+    (subst (HaveSides (ad_frames c.args.request.now.ad) c.args.request.now.ports 0) (sym c.as_mut_slice.ensures.value) c.in_ok-sides.ensures.tests)
 
 pub returns-in_err-found-clause-evaluations : goal.returns-in_err-found-clause-evaluations
 returns-in_err-found-clause-evaluations g c =

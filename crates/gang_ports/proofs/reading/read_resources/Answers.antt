@@ -1,9 +1,11 @@
-use Rattle.std.proofs.Common.{filter, ap, ◌∙◌, arith}
+use Rattle.std.proofs.Common.{◌≡◌, true, filter, ap, ◌∙◌, arith}
 use Rattle.std.proofs.lemmas.List.{take_all}
 use Rattle.ad_tree.specs.Ad.{ad_frames}
 use Rattle.ad_store.specs.Store.{stock_of}
 use Rattle.bilateral_match.specs.Pool.{Pool, pool_of}
-use Rattle.gang_ports.proofs.ReadingLemmas.{ads-next, asked-next, asked-places, is_asked, unknown-next}
+use Rattle.gang_ports.specs.declared.weighing.Resource.{Resource}
+use Rattle.gang_ports.specs.Search.{HasSides, is_unknown}
+use Rattle.gang_ports.proofs.ReadingLemmas.{ads-next, asked-next, asked-places, found-hold, is_asked}
 use Rattle.gang_ports.proofs.reading.read_resources.Goals as goal
 
 pub loop-place-preserved : goal.loop-place-preserved
@@ -17,7 +19,8 @@ loop-place-preserved g c =
     record {
       places = asked-next pool request ports c.args.frame so_far new items c.loop-place.place-index c.loop-place-test.true c.resource_at-found.result c.in_ok-keep.ensures c.loop-place.invariant.places c.resource_at-found.ensures.found;
       ads = ads-next pool request ports c.args.frame so_far new items c.loop-place.place-index c.loop-place-test.true c.resource_at-found.result c.in_ok-keep.ensures c.loop-place.invariant.ads c.resource_at-found.ensures.ad;
-      unknown = unknown-next so_far new c.resource_at-found.result c.in_ok-keep.ensures c.loop-place.invariant.unknown c.resource_at-found.ensures.unknown;
+      tests = found-hold (HasSides request ports c.args.frame) so_far new c.resource_at-found.result c.in_ok-keep.ensures c.loop-place.invariant.tests c.resource_at-found.ensures.tests;
+      unknown = found-hold (λ (r : Resource). is_unknown r.kept ≡ true) so_far new c.resource_at-found.result c.in_ok-keep.ensures c.loop-place.invariant.unknown c.resource_at-found.ensures.unknown;
       looks = omega (arith, c.loop-place.invariant.looks, c.resource_at-found.ensures.looks);
     }
 

@@ -4,7 +4,7 @@ use Rattle.ad_store.specs.Store.{stock_of}
 use Rattle.bilateral_match.specs.Pool.{Pool, pool_of}
 use Rattle.gang_ports.specs.declared.weighing.Resource.{Resource}
 use Rattle.gang_ports.specs.Gangs.{ad_at, is_free, is_open}
-use Rattle.gang_ports.specs.Search.{is_unknown}
+use Rattle.gang_ports.specs.Search.{HasSides, is_unknown}
 use Rattle.gang_ports.proofs.reading.read_resources.Given as goal
 
 -- the resources of the places so far
@@ -14,6 +14,7 @@ invariant-loop-place g l =
     record {
       places : map (λ (r : Resource). r.place) l.resources.items ≡ filter (λ place. is_free pool place && is_open pool (ad_frames l.request.ad) l.request.ports l.frame place) (take l.place-index l.place-items);
       ads : All (λ (r : Resource). ad_frames r.ad.now ≡ ad_at pool r.place) l.resources.items;
+      tests : All (HasSides (ad_frames l.request.ad) l.request.ports l.frame) l.resources.items;
       unknown : All (λ (r : Resource). is_unknown r.kept ≡ true) l.resources.items;
       looks : l.touch ≤ l.initial.touch + l.place-index;
     }

@@ -9,7 +9,7 @@ use Rattle.bilateral_match.specs.Pool.{Pool, pool_of}
 use Rattle.gang_ports.specs.declared.weighing.Side.{Side}
 use Rattle.gang_ports.specs.FreePorts.{is_free_port}
 use Rattle.gang_ports.proofs.ListLemmas.{count-next, count-within, length-more}
-use Rattle.gang_ports.proofs.ReadingLemmas.{sides-next}
+use Rattle.gang_ports.proofs.ReadingLemmas.{have-next, sides-next}
 use Rattle.gang_ports.proofs.reading.read_sides.Goals as goal
 
 pub returns-in_err-resources-clause-looks : goal.returns-in_err-resources-clause-looks
@@ -46,6 +46,7 @@ loop-port-preserved g c =
       sides =
           sides-next pool (ad_frames request.ad) request.ports c.loop-port.sides.items c.push.new.self.items side i port c.in_ok-push.ensures.items c.loop-port.invariant.sides c.loop-port.invariant.many at
           (c.is_free_port-is_free.ensures ∙ ap (λ (n : ℕ). is_free_port (ad_frames request.ad) request.ports n) counted) c.in_ok-resources.ensures.resources c.in_ok-resources.ensures.unknown;
+      tests = have-next pool (ad_frames request.ad) request.ports c.loop-port.sides.items c.push.new.self.items side i port c.in_ok-push.ensures.items c.loop-port.invariant.tests c.loop-port.invariant.many at c.in_ok-resources.ensures.tests;
       many = let long : length c.push.new.self.items ≡ suc (length c.loop-port.sides.items) = ap length c.in_ok-push.ensures.items ∙ length-more c.loop-port.sides.items side in omega (arith, long, c.loop-port.invariant.many);
       looks = count-next left c.as_slice-port-items.result.now i c.args.touch.now c.loop-port.touch c.loop-port.invariant.looks port c.read_resources.new.touch c.loop-port-test.true c.port-item.is c.read_resources.ensures.looks;
     }

@@ -4,7 +4,7 @@ use Rattle.ad_store.specs.Store.{stock_of}
 use Rattle.conjunct_plan.specs.Tests.{labels_of, tests_of}
 use Rattle.bilateral_match.specs.Counts.{least_left}
 use Rattle.bilateral_match.specs.Pool.{Pool, pool_of}
-use Rattle.gang_ports.specs.Search.{AreSides}
+use Rattle.gang_ports.specs.Search.{AreSides, HaveSides}
 use Rattle.gang_ports.proofs.reading.read_sides.Given as goal
 
 -- the sides of the ports so far
@@ -13,6 +13,7 @@ invariant-loop-port g l =
     let pool : Pool = pool_of l.moment (stock_of l.store) (g.H.Holdings.is_offered l.held) (g.H.Holdings.holding l.held) in
     record {
       sides : AreSides pool (ad_frames l.request.ad) l.request.ports 0 l.sides.items;
+      tests : HaveSides (ad_frames l.request.ad) l.request.ports 0 l.sides.items;
       many : length l.sides.items ≡ l.port-index;
       looks : l.touch ≤ l.initial.touch + sum_by (λ port. least_left (stock_of l.store).ads (tests_of (ad_frames l.request.ad) port.frame (labels_of l.request.ports))) (take l.port-index l.port-items);
     }

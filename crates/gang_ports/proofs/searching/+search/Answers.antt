@@ -7,8 +7,10 @@ use Rattle.ad_eval.specs.Small.{AreSmall}
 use Rattle.gang_ports.specs.declared.weighing.Candidate.{Candidate}
 use Rattle.gang_ports.specs.declared.weighing.Side.{Side}
 use Rattle.gang_ports.specs.Gangs.{attributes_behind, evaluations_behind}
-use Rattle.gang_ports.specs.Search.{AreSides, Outcome, candidate_order, choice_in, evaluations_anew, evaluations_once, sides_ahead, weighed}
+use Rattle.gang_ports.specs.Search.{AreSides, HasSidesIn, Outcome, candidate_order, choice_in, evaluations_anew, evaluations_once, sides_ahead, weighed}
 use Rattle.gang_ports.proofs.ListLemmas.{length-more}
+use Rattle.gang_ports.proofs.OpenLemmas.{behind-have, deeper-have, first-has, rest-have, whole-have}
+use Rattle.gang_ports.proofs.WeighLemmas.{kept-hold}
 use Rattle.gang_ports.proofs.SearchLemmas.{ahead-cons, first-attributes, first-cut, first-evaluations, first-once, first-spent, first-whole, once-deeper, once-next, once-place, outcome-whole, popped, ports-left, pushed, rest-fewer, rest_of, some-first, side-after, tries-all, turn-attributes, turn-behind, turn-deeper, turn-evaluations, turn-first, turn-found, turn-left, turn-next, turn-none, turn-once, turn-passed, turn-place}
 use Rattle.gang_ports.proofs.SmallLemmas.{kept-small, rest-small, turn-small, whole-small}
 use Rattle.gang_ports.proofs.searching.+search.Goals as goal
@@ -38,8 +40,13 @@ returns-then-is_empty-clause-entries g t c = λ pool h. omega arith
 pub returns-then-is_empty-clause-ratio : goal.returns-then-is_empty-clause-ratio
 returns-then-is_empty-clause-ratio g t c small are = omega arith
 
-pub candidates-requires : goal.candidates-requires
-candidates-requires g t c = let some : 0 < length c.args.sides.now = some-first c.args.sides.now c.is_empty.result c.is_empty.ensures c.if-is_empty.false in omega (arith, c.requires, some)
+pub candidates-requires-clause-room : goal.candidates-requires-clause-room
+candidates-requires-clause-room g t c = let some : 0 < length c.args.sides.now = some-first c.args.sides.now c.is_empty.result c.is_empty.ensures c.if-is_empty.false in omega (arith, c.requires.room, some)
+
+pub candidates-requires-clause-tests : goal.candidates-requires-clause-tests
+candidates-requires-clause-tests g t c =
+    let w = world_of c.args.world.now in
+    first-has w.request w.ports (length w.docked) c.args.sides.now c.index-sides-0.result (some-first c.args.sides.now c.is_empty.result c.is_empty.ensures c.if-is_empty.false) c.requires.tests
 
 pub returns-in_err-tries-clause-evaluations : goal.returns-in_err-tries-clause-evaluations
 returns-in_err-tries-clause-evaluations g t c = λ pool h.
@@ -98,11 +105,12 @@ loop-candidate-init g t c = record {
   once = λ pool h. omega arith;
   entries = λ pool h. omega arith;
   small = λ are. rest-small c.args.sides.now c.candidates.new.side (some-first c.args.sides.now c.is_empty.result c.is_empty.ensures c.if-is_empty.false) are;
+  tests = let w = world_of c.args.world.now in rest-have w.request w.ports (length w.docked) c.args.sides.now c.candidates.new.side (some-first c.args.sides.now c.is_empty.result c.is_empty.ensures c.if-is_empty.false) c.requires.tests;
   ratio = λ small are. omega arith;
 }
 
 pub with-deeper-requires : goal.with-deeper-requires
-with-deeper-requires g t c = let some : 0 < length c.args.sides.now = some-first c.args.sides.now c.is_empty.result c.is_empty.ensures c.if-is_empty.false in omega (arith, c.requires, some)
+with-deeper-requires g t c = let some : 0 < length c.args.sides.now = some-first c.args.sides.now c.is_empty.result c.is_empty.ensures c.if-is_empty.false in omega (arith, c.requires.room, some)
 
 pub returns-in_err-push-clause-evaluations : goal.returns-in_err-push-clause-evaluations
 returns-in_err-push-clause-evaluations g t c = λ pool h.
@@ -165,7 +173,7 @@ search-requires g t c κs within =
     let long : length (world_of c.with-deeper.result).docked ≡ suc (length (world_of c.args.world.now).docked) = ap (λ (u : PlainWorld). length u.docked) c.with-deeper.ensures ∙ length-more (world_of c.args.world.now).docked (ad_frames c.candidate-item.result.ad.now) in
     let some : 0 < length c.args.sides.now = some-first c.args.sides.now c.is_empty.result c.is_empty.ensures c.if-is_empty.false in
     let fewer : suc (length c.loop-candidate.others) ≡ length c.args.sides.now = rest-fewer c.args.sides.now c.candidates.new.side c.loop-candidate.others some c.loop-candidate.invariant.long in
-    (omega (arith, c.decreases, fewer), (within.0, (within.1, omega (arith, c.requires, fewer, long))))
+    (omega (arith, c.decreases, fewer), (within.0, (within.1, (omega (arith, c.requires.room, fewer, long), deeper-have (world_of c.args.world.now) (world_of c.with-deeper.result) (ad_frames c.candidate-item.result.ad.now) c.with-deeper.ensures c.loop-candidate.others c.loop-candidate.invariant.tests))))
 
 pub returns-in_err-search-clause-evaluations : goal.returns-in_err-search-clause-evaluations
 returns-in_err-search-clause-evaluations g t c = λ pool h.
@@ -424,6 +432,16 @@ returns-then-branch-clause-small g t c are =
     (kept-small (world_of c.args.world.now) c.as_slice.result.now (get_or c.args.sides.now 0 c.index-sides-0.result) c.candidates.new.side c.in_ok-tries.ensures.kept (are 0 c.index-sides-0.result some))
     (c.in_ok-search.ensures.small (c.loop-candidate.invariant.small are))
 
+pub returns-then-branch-clause-tests : goal.returns-then-branch-clause-tests
+returns-then-branch-clause-tests g t c =
+    let w = world_of c.args.world.now in
+    let sides = c.args.sides.now in
+    let some : 0 < length sides = some-first sides c.is_empty.result c.is_empty.ensures c.if-is_empty.false in
+    whole-have w.request w.ports (length w.docked) sides c.candidates.new.side some c.search.new.sides (c.search.auto.sides ∙ c.loop-candidate.invariant.long)
+    (kept-hold w c.as_slice.result.now (HasSidesIn w) (λ r kept h. h) (get_or sides 0 c.index-sides-0.result) c.candidates.new.side c.in_ok-tries.ensures.kept
+    (first-has w.request w.ports (length w.docked) sides c.index-sides-0.result some c.requires.tests))
+    (behind-have w (world_of c.with-deeper.result) (ad_frames c.candidate-item.result.ad.now) c.with-deeper.ensures c.search.new.sides c.in_ok-search.ensures.tests)
+
 pub returns-then-branch-clause-ratio : goal.returns-then-branch-clause-ratio
 returns-then-branch-clause-ratio g t c small are =
     let some : 0 < length c.args.sides.now = some-first c.args.sides.now c.is_empty.result c.is_empty.ensures c.if-is_empty.false in
@@ -587,6 +605,7 @@ loop-candidate-preserved g t c =
           turn-next pool w before side sides others cut h tries all (attributes_behind pool w.request w.ports) c.args.entry.now c.candidates.new.entry (first-attributes pool w before side sides others cut h b same c.args.entry.now c.candidates.new.entry c.candidates.ensures.entries) i c.loop-candidate.entry (c.loop-candidate.invariant.entries pool h)
           here within at c.search.new.entry (turn-attributes pool w before side sides others cut h tries all left long are i here within at deeper docked longer is c.loop-candidate.entry c.search.new.entry (c.search.ensures.entries pool (turn-behind pool w before side sides others cut h tries all left long are i here within at deeper docked longer is)));
       small = λ are. c.in_ok-search.ensures.small (c.loop-candidate.invariant.small are);
+      tests = behind-have (world_of c.args.world.now) (world_of c.with-deeper.result) (ad_frames c.candidate-item.result.ad.now) c.with-deeper.ensures c.search.new.sides c.in_ok-search.ensures.tests;
       ratio = λ small are.
           let some : 0 < length c.args.sides.now = some-first c.args.sides.now c.is_empty.result c.is_empty.ensures c.if-is_empty.false in
           let side = get_or c.args.sides.now 0 c.index-sides-0.result in
@@ -704,6 +723,16 @@ returns-clause-small g t c are =
     whole-small c.args.sides.now c.candidates.new.side c.loop-candidate.others some c.loop-candidate.invariant.long
     (kept-small (world_of c.args.world.now) c.as_slice.result.now (get_or c.args.sides.now 0 c.index-sides-0.result) c.candidates.new.side c.in_ok-tries.ensures.kept (are 0 c.index-sides-0.result some))
     (c.loop-candidate.invariant.small are)
+
+pub returns-clause-tests : goal.returns-clause-tests
+returns-clause-tests g t c =
+    let w = world_of c.args.world.now in
+    let sides = c.args.sides.now in
+    let some : 0 < length sides = some-first sides c.is_empty.result c.is_empty.ensures c.if-is_empty.false in
+    whole-have w.request w.ports (length w.docked) sides c.candidates.new.side some c.loop-candidate.others c.loop-candidate.invariant.long
+    (kept-hold w c.as_slice.result.now (HasSidesIn w) (λ r kept h. h) (get_or sides 0 c.index-sides-0.result) c.candidates.new.side c.in_ok-tries.ensures.kept
+    (first-has w.request w.ports (length w.docked) sides c.index-sides-0.result some c.requires.tests))
+    c.loop-candidate.invariant.tests
 
 pub returns-clause-ratio : goal.returns-clause-ratio
 returns-clause-ratio g t c small are =

@@ -4,7 +4,7 @@ use Rattle.ad_eval.specs.Small.{AreSmall}
 use Rattle.bilateral_match.specs.Pool.{Pool}
 use Rattle.gang_ports.specs.Choice.{tuples}
 use Rattle.gang_ports.specs.Gangs.{attributes_behind, evaluations_behind}
-use Rattle.gang_ports.specs.Search.{AreSides, IsBehind, choice_in, evaluations_anew, sides_ahead}
+use Rattle.gang_ports.specs.Search.{AreSides, HaveSides, IsBehind, choice_in, evaluations_anew, sides_ahead}
 use Rattle.gang_ports.specs.Small.{AreSmallSides}
 use Rattle.gang_ports.proofs.CountLemmas.{behind}
 use Rattle.gang_ports.proofs.SearchLemmas.{place_of}
@@ -32,5 +32,6 @@ invariant-loop-candidate g l =
       entries : (pool : Pool) → IsBehind pool w start l.fn.sides
           → l.entry ≤ l.initial.entry + behind (choice_in pool w) (attributes_behind pool w.request w.ports) (length l.initial.others) start tried;
       small : AreSmallSides l.fn.sides → AreSmallSides l.others;
+      tests : HaveSides w.request w.ports (suc (length w.docked)) l.others;
       ratio : AreSmall w → AreSmallSides l.fn.sides → l.entry + 9216 * l.initial.tops ≤ l.initial.entry + 9216 * l.tops;
     }

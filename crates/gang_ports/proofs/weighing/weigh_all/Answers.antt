@@ -3,11 +3,19 @@ use Rattle.std.specs.List.{cons_option}
 use Rattle.std.proofs.lemmas.List.Edits.{map_over_more}
 use Rattle.eval_scope.specs.Shown.{world_of}
 use Rattle.gang_ports.specs.declared.weighing.Resource.{Resource}
-use Rattle.gang_ports.specs.Search.{attributes_of, candidate_in, evaluations_in, weighed_in}
-use Rattle.gang_ports.proofs.CandidateLemmas.{found-all, found-next, front-all, item-at}
+use Rattle.gang_ports.specs.Search.{HasSidesIn, attributes_of, candidate_in, evaluations_in, weighed_in}
+use Rattle.gang_ports.proofs.CandidateLemmas.{found-all, found-next, front-all, item-at, item-hold}
 use Rattle.gang_ports.proofs.ListLemmas.{count-all, count-next, count-within}
-use Rattle.gang_ports.proofs.SmallLemmas.{item-small}
+use Rattle.gang_ports.proofs.SmallLemmas.{HasSmall}
 use Rattle.gang_ports.proofs.weighing.weigh_all.Goals as goal
+
+pub weigh-requires-clause-tests : goal.weigh-requires-clause-tests
+weigh-requires-clause-tests g c =
+    let w = world_of c.args.world.now in
+    let start = c.args.resources.now in
+    let i = c.loop-resource.resource-index in
+    let within : i < length start = omega (arith, c.loop-resource-test.true, c.loop-resource.auto.resource-index-end, c.loop-resource.auto.resources) in
+    item-hold (HasSidesIn w) (weighed_in w c.args.before.now) start c.loop-resource.resources i c.resource-item.result within c.resource-item.is c.loop-resource.invariant.kept c.requires.tests
 
 pub returns-in_err-weigh-clause-evaluations : goal.returns-in_err-weigh-clause-evaluations
 returns-in_err-weigh-clause-evaluations g c =
@@ -41,7 +49,7 @@ returns-in_err-weigh-clause-ratio g c small are =
     let i = c.loop-resource.resource-index in
     let item = c.resource-item.result in
     let within : i < length start = omega (arith, c.loop-resource-test.true, c.loop-resource.auto.resource-index-end, c.loop-resource.auto.resources) in
-    omega (arith, c.loop-resource.invariant.ratio small are, c.weigh.ensures.ratio small (item-small (weighed_in w before) start c.loop-resource.resources i item within c.resource-item.is c.loop-resource.invariant.kept are))
+    omega (arith, c.loop-resource.invariant.ratio small are, c.weigh.ensures.ratio small (item-hold HasSmall (weighed_in w before) start c.loop-resource.resources i item within c.resource-item.is c.loop-resource.invariant.kept are))
 
 pub loop-resource-preserved : goal.loop-resource-preserved
 loop-resource-preserved g c =
@@ -67,7 +75,7 @@ loop-resource-preserved g c =
           count-next (attributes_of w before) start i c.args.entry.now c.loop-resource.entry c.loop-resource.invariant.entries item c.weigh.new.entry within at
           (subst (λ (r : Resource). c.weigh.new.entry ≤ c.loop-resource.entry + attributes_of w before r) (sym c.resource-item.is) c.weigh.ensures.entries);
       ratio = λ small are.
-          omega (arith, c.loop-resource.invariant.ratio small are, c.weigh.ensures.ratio small (item-small (weighed_in w before) start c.loop-resource.resources i item within c.resource-item.is c.loop-resource.invariant.kept are));
+          omega (arith, c.loop-resource.invariant.ratio small are, c.weigh.ensures.ratio small (item-hold HasSmall (weighed_in w before) start c.loop-resource.resources i item within c.resource-item.is c.loop-resource.invariant.kept are));
     }
 
 pub returns-clause-tries : goal.returns-clause-tries

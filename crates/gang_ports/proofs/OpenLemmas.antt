@@ -1,0 +1,59 @@
+-- What tests leave open of the docks of ports with their resources.
+use Rattle.std.proofs.Common.{◌≡◌, ◌<◌, ◌-◌, ℕ, suc, List, length, get_or, set, Some, All, ap, sym, ◌∙◌, subst, arith}
+use borrow.Rule.Slice.PartMut.{put_mid}
+use Rattle.ad_tree.specs.Ad.{ad_frames}
+use Rattle.ad_tree.specs.Frames.{Frame}
+use Rattle.ad_tree.specs.declared.request.Port.{Port}
+use Rattle.conjunct_plan.specs.Tests.{labels_of}
+use Rattle.eval_scope.specs.World.{PlainWorld, port_frame, with_docked}
+use Rattle.bilateral_match.specs.Docks.{last_ad, last_open}
+use Rattle.bilateral_match.specs.Sides.{open_sides}
+use Rattle.bilateral_match.proofs.DockingLemmas.{last-docked}
+use Rattle.gang_ports.specs.declared.weighing.Resource.{Resource}
+use Rattle.gang_ports.specs.declared.weighing.Side.{Side}
+use Rattle.gang_ports.specs.Search.{HasSides, HasSidesIn, HaveSides}
+use Rattle.gang_ports.proofs.ListLemmas.{length-more}
+use Rattle.gang_ports.proofs.SearchLemmas.{first-cut, first-whole, rest_of}
+
+-- ---- one more resource is docked
+
+module _ (w deeper : PlainWorld) where
+  module _ (ad : List Frame) (docked : deeper ≡ with_docked w ad) where
+    longer : length deeper.docked ≡ suc (length w.docked)
+    longer = ap (λ (u : PlainWorld). length u.docked) docked ∙ length-more w.docked ad
+
+    pub some-docked : 0 < length deeper.docked
+    some-docked = omega (arith, longer)
+
+    -- the ports that are left there are those behind the next one
+    pub deeper-have : (sides : List Side) → HaveSides w.request w.ports (suc (length w.docked)) sides → HaveSides deeper.request deeper.ports (length deeper.docked) sides
+    deeper-have sides have =
+        subst (λ (u : PlainWorld). HaveSides u.request u.ports (length u.docked) sides) (sym docked)
+        (subst (λ (n : ℕ). HaveSides w.request w.ports n sides) (sym (length-more w.docked ad)) have)
+
+    pub behind-have : (sides : List Side) → HaveSides deeper.request deeper.ports (length deeper.docked) sides → HaveSides w.request w.ports (suc (length w.docked)) sides
+    behind-have sides have =
+        subst (λ (n : ℕ). HaveSides w.request w.ports n sides) (length-more w.docked ad)
+        (subst (λ (u : PlainWorld). HaveSides u.request u.ports (length u.docked) sides) docked have)
+
+  -- the sides that are open are those of the last dock
+  pub docked-open : (r : Resource) → deeper ≡ with_docked w (ad_frames r.ad.now) → HasSidesIn w r → last_open deeper ≡ Some r.sides
+  docked-open r docked has =
+      ap last_open docked
+      ∙ ap (λ (n : ℕ). open_sides w.request (port_frame w.ports n) (labels_of w.ports) (last_ad (with_docked w (ad_frames r.ad.now)))) (length-more w.docked (ad_frames r.ad.now))
+      ∙ ap (open_sides w.request (port_frame w.ports (suc (length w.docked))) (labels_of w.ports)) (last-docked w (ad_frames r.ad.now))
+      ∙ has
+
+-- ---- the sides of a search
+
+module _ (request : List Frame) (ports : List Port) (i : ℕ) (sides : List Side) (new : Side) (some : 0 < length sides) where
+  pub first-has : HaveSides request ports i sides → All (HasSides request ports (port_frame ports (suc i))) (get_or sides 0 new).resources.items
+  first-has have = (subst (HaveSides request ports i) (first-cut sides new new some) have).0
+
+  pub rest-have : HaveSides request ports i sides → HaveSides request ports (suc i) (rest_of sides new)
+  rest-have have = (subst (HaveSides request ports i) (first-cut sides new new some) have).1
+
+  -- all of them, once the first one is another, and those behind it are others
+  pub whole-have : (left : List Side) → length left ≡ length (rest_of sides new) → All (HasSides request ports (port_frame ports (suc i))) new.resources.items → HaveSides request ports (suc i) left
+      → HaveSides request ports i (put_mid 1 (length (set sides 0 new) - 1) (set sides 0 new) left)
+  whole-have left long first rest = subst (HaveSides request ports i) (sym (first-whole sides new left some long)) (first, rest)

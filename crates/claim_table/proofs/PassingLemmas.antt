@@ -15,8 +15,9 @@ use Rattle.eval_scope.specs.World.{PlainWorld, attribute_count, port_frame, requ
 use Rattle.ad_eval.specs.Dock.{is_docked}
 use Rattle.conjunct_plan.specs.Decided.{is_dock_decided}
 use Rattle.conjunct_plan.specs.Tests.{labels_of}
-use Rattle.bilateral_match.specs.Docks.{is_last_decided, last_ad}
+use Rattle.bilateral_match.specs.Docks.{is_last_decided, last_ad, last_open}
 use Rattle.bilateral_match.specs.Pool.{AreStored, holder_world, regard_in}
+use Rattle.bilateral_match.specs.Sides.{open_sides}
 use Rattle.bilateral_match.proofs.DecidedLemmas.{not-docked}
 use Rattle.bilateral_match.proofs.DockingLemmas.{frame-there}
 use Rattle.claim_table.specs.declared.job.Job.{Job}
@@ -28,14 +29,22 @@ use Rattle.claim_table.proofs.HolderLemmas.{holder-found}
 
 -- ---- the test of literal attributes
 
--- the last dock is decided as the contract of the tests says it
-pub decided-here : (w : PlainWorld) (request : Request) (fs : List Frame) (at : AdPlace) → at ≡ request_side w → w.request ≡ ad_frames request.ad → w.ports ≡ request.ports → last_ad w ≡ fs
-    → is_dock_decided (ad_frames request.ad) at.frame (labels_of request.ports) fs ≡ is_last_decided w
-decided-here w request fs at side asked ports last =
-    ap (λ (p : AdPlace). is_dock_decided (ad_frames request.ad) p.frame (labels_of request.ports) fs) side
-    ∙ ap (λ (r : List Frame). is_dock_decided r (request_side w).frame (labels_of request.ports) fs) (sym asked)
-    ∙ ap (λ ps. is_dock_decided w.request (request_side w).frame (labels_of ps) fs) (sym ports)
-    ∙ ap (is_dock_decided w.request (request_side w).frame (labels_of w.ports)) (sym last)
+module _ (w : PlainWorld) (request : Request) (fs : List Frame) (at : AdPlace) (side : at ≡ request_side w) (asked : w.request ≡ ad_frames request.ad) (ports : w.ports ≡ request.ports) (last : last_ad w ≡ fs) where
+  -- what depends on the sides of the last dock is the same in that world
+  seen-here : {A : Type 0} (seen : List Frame → ℕ → List (List ℕ) → List Frame → A)
+      → seen (ad_frames request.ad) at.frame (labels_of request.ports) fs ≡ seen w.request (request_side w).frame (labels_of w.ports) (last_ad w)
+  seen-here seen =
+      ap (λ (p : AdPlace). seen (ad_frames request.ad) p.frame (labels_of request.ports) fs) side
+      ∙ ap (λ (r : List Frame). seen r (request_side w).frame (labels_of request.ports) fs) (sym asked)
+      ∙ ap (λ ps. seen w.request (request_side w).frame (labels_of ps) fs) (sym ports)
+      ∙ ap (seen w.request (request_side w).frame (labels_of w.ports)) (sym last)
+
+  -- it is decided as the contract of the tests says it, and the same sides are open
+  pub decided-here : is_dock_decided (ad_frames request.ad) at.frame (labels_of request.ports) fs ≡ is_last_decided w
+  decided-here = seen-here is_dock_decided
+
+  pub open-here : open_sides (ad_frames request.ad) at.frame (labels_of request.ports) fs ≡ last_open w
+  open-here = seen-here open_sides
 
 -- a resource whose dock a test decides doesn't pass
 pub decided-fails : (moment : ℕ) (stock : Stock) (jobs : List Job) (slot : ℕ) (w : PlainWorld) → 0 < length w.docked → is_last_decided w ≡ true → false ≡ passes moment stock jobs slot w

@@ -20,10 +20,10 @@ ghost use Rattle.claim_table.specs.Table.{jobs_of};
 
 use crate::notes::put;
 use crate::{ClaimFault, ClaimTable, FreedList, Job, JobState};
-use ad_eval::{dock, rank};
+use ad_eval::rank;
 use ad_store::{Holdings, Store};
 use ad_tree::{Ad, Request};
-use bilateral_match::{is_decided, is_won};
+use bilateral_match::{is_won, open_sides};
 use eval_scope::World;
 use pool_steps::Steps;
 use pool_text::{OutOfMemory, Slots};
@@ -137,10 +137,10 @@ impl ClaimTable {
         ensures ratio { AreSmall (world_of world.now) → AreSmallAds (stock_of store.now).ads → AreSmallJobs (jobs_of self.now) → entry.new + 9216 * tops.old ≤ entry.old + 9216 * tops.new }
         ensures looks { touch.new ≤ touch.old + 8 }
     {
-        if is_decided(self.alloc, request, world.request_place().frame, ad) {
+        let Some(sides) = open_sides(self.alloc, request, world.request_place().frame, ad) else {
             return Ok(false);
-        }
-        if !dock(self.alloc, world, tops, entry)? {
+        };
+        if !sides.dock(self.alloc, world, tops, entry)? {
             return Ok(false);
         }
         self.wins(store, slot, world, moment, tops, entry, touch)

@@ -2,26 +2,34 @@ use Rattle.std.proofs.Common.{◌≡◌, ◌∙◌, ℕ, Bool, ap, arith, false,
 use Rattle.ad_tree.specs.Ad.{ad_frames}
 use Rattle.ad_store.specs.Store.{stock_of}
 use Rattle.eval_scope.specs.Shown.{world_of}
+use Rattle.conjunct_plan.specs.Tests.{labels_of}
 use Rattle.bilateral_match.specs.Docks.{is_last_decided}
+use Rattle.bilateral_match.proofs.MetLemmas.{none-undecided, some-undecided}
 use Rattle.claim_table.specs.Table.{jobs_of}
-use Rattle.claim_table.proofs.PassingLemmas.{decided-fails, decided-here, docked-wins, entered-open, frame-here, undocked-fails}
+use Rattle.claim_table.proofs.PassingLemmas.{decided-fails, decided-here, docked-wins, entered-open, frame-here, open-here, undocked-fails}
 use Rattle.claim_table.proofs.table.ClaimTable.passes.Goals as goal
 
-pub is_decided-requires : goal.is_decided-requires
-is_decided-requires g c = frame-here (world_of c.args.world.now) c.args.request.now c.request_place.result c.request_place.ensures c.requires.ports
+pub open_sides-requires : goal.open_sides-requires
+open_sides-requires g c = frame-here (world_of c.args.world.now) c.args.request.now c.request_place.result c.request_place.ensures c.requires.ports
 
-pub returns-then-is_decided-clause-passes : goal.returns-then-is_decided-clause-passes
-returns-then-is_decided-clause-passes g c =
+pub returns-in_default-clause-passes : goal.returns-in_default-clause-passes
+returns-in_default-clause-passes g c =
     let w = world_of c.args.world.now in
     let request = c.args.request.now in
     let decided = decided-here w request (ad_frames c.args.ad.now) c.request_place.result c.request_place.ensures c.requires.request c.requires.ports c.requires.last in
-    decided-fails c.args.moment (stock_of c.args.store.now) (jobs_of c.args.self.now) c.args.slot w c.requires.docked (sym decided ∙ sym c.is_decided.ensures ∙ c.if-is_decided.true)
+    decided-fails c.args.moment (stock_of c.args.store.now) (jobs_of c.args.self.now) c.args.slot w c.requires.docked (sym decided ∙ none-undecided (ad_frames request.ad) c.request_place.result.frame (labels_of request.ports) (ad_frames c.args.ad.now) (sym c.open_sides.ensures ∙ c.in_default.is))
+
+pub dock-requires-clause-left : goal.dock-requires-clause-left
+dock-requires-clause-left g c =
+    sym (open-here (world_of c.args.world.now) c.args.request.now (ad_frames c.args.ad.now) c.request_place.result c.request_place.ensures c.requires.request c.requires.ports c.requires.last)
+    ∙ sym c.open_sides.ensures
+    ∙ c.in-Some.is
 
 pub returns-in_err-dock-clause-evaluations : goal.returns-in_err-dock-clause-evaluations
 returns-in_err-dock-clause-evaluations g c =
     let w = world_of c.args.world.now in
     let decided = decided-here w c.args.request.now (ad_frames c.args.ad.now) c.request_place.result c.request_place.ensures c.requires.request c.requires.ports c.requires.last in
-    let undecided : is_last_decided w ≡ false = sym decided ∙ sym c.is_decided.ensures ∙ c.if-is_decided.false in
+    let undecided : is_last_decided w ≡ false = sym decided ∙ some-undecided (ad_frames c.args.request.now.ad) c.request_place.result.frame (labels_of c.args.request.now.ports) (ad_frames c.args.ad.now) c.in-Some.sides (sym c.open_sides.ensures ∙ c.in-Some.is) in
     let one = ap {B = ℕ} (λ (b : Bool). if b then 0 else 1) undecided in
     omega (arith, one, c.dock.ensures.evaluations)
 
@@ -29,7 +37,7 @@ pub returns-in_err-dock-clause-entries : goal.returns-in_err-dock-clause-entries
 returns-in_err-dock-clause-entries g c =
     let w = world_of c.args.world.now in
     let decided = decided-here w c.args.request.now (ad_frames c.args.ad.now) c.request_place.result c.request_place.ensures c.requires.request c.requires.ports c.requires.last in
-    let undecided : is_last_decided w ≡ false = sym decided ∙ sym c.is_decided.ensures ∙ c.if-is_decided.false in
+    let undecided : is_last_decided w ≡ false = sym decided ∙ some-undecided (ad_frames c.args.request.now.ad) c.request_place.result.frame (labels_of c.args.request.now.ports) (ad_frames c.args.ad.now) c.in-Some.sides (sym c.open_sides.ensures ∙ c.in-Some.is) in
     let entered = entered-open c.args.moment (stock_of c.args.store.now) (jobs_of c.args.self.now) c.args.slot w undecided in
     omega (arith, entered, c.dock.ensures.entries)
 
@@ -44,7 +52,7 @@ pub returns-then-not-branch-clause-evaluations : goal.returns-then-not-branch-cl
 returns-then-not-branch-clause-evaluations g c =
     let w = world_of c.args.world.now in
     let decided = decided-here w c.args.request.now (ad_frames c.args.ad.now) c.request_place.result c.request_place.ensures c.requires.request c.requires.ports c.requires.last in
-    let undecided : is_last_decided w ≡ false = sym decided ∙ sym c.is_decided.ensures ∙ c.if-is_decided.false in
+    let undecided : is_last_decided w ≡ false = sym decided ∙ some-undecided (ad_frames c.args.request.now.ad) c.request_place.result.frame (labels_of c.args.request.now.ports) (ad_frames c.args.ad.now) c.in-Some.sides (sym c.open_sides.ensures ∙ c.in-Some.is) in
     let one = ap {B = ℕ} (λ (b : Bool). if b then 0 else 1) undecided in
     omega (arith, one, c.dock.ensures.evaluations)
 
@@ -52,7 +60,7 @@ pub returns-then-not-branch-clause-entries : goal.returns-then-not-branch-clause
 returns-then-not-branch-clause-entries g c =
     let w = world_of c.args.world.now in
     let decided = decided-here w c.args.request.now (ad_frames c.args.ad.now) c.request_place.result c.request_place.ensures c.requires.request c.requires.ports c.requires.last in
-    let undecided : is_last_decided w ≡ false = sym decided ∙ sym c.is_decided.ensures ∙ c.if-is_decided.false in
+    let undecided : is_last_decided w ≡ false = sym decided ∙ some-undecided (ad_frames c.args.request.now.ad) c.request_place.result.frame (labels_of c.args.request.now.ports) (ad_frames c.args.ad.now) c.in-Some.sides (sym c.open_sides.ensures ∙ c.in-Some.is) in
     let entered = entered-open c.args.moment (stock_of c.args.store.now) (jobs_of c.args.self.now) c.args.slot w undecided in
     omega (arith, entered, c.dock.ensures.entries)
 
@@ -67,7 +75,7 @@ pub returns-clause-evaluations : goal.returns-clause-evaluations
 returns-clause-evaluations g c =
     let w = world_of c.args.world.now in
     let decided = decided-here w c.args.request.now (ad_frames c.args.ad.now) c.request_place.result c.request_place.ensures c.requires.request c.requires.ports c.requires.last in
-    let undecided : is_last_decided w ≡ false = sym decided ∙ sym c.is_decided.ensures ∙ c.if-is_decided.false in
+    let undecided : is_last_decided w ≡ false = sym decided ∙ some-undecided (ad_frames c.args.request.now.ad) c.request_place.result.frame (labels_of c.args.request.now.ports) (ad_frames c.args.ad.now) c.in-Some.sides (sym c.open_sides.ensures ∙ c.in-Some.is) in
     let one = ap {B = ℕ} (λ (b : Bool). if b then 0 else 1) undecided in
     omega (arith, one, c.dock.ensures.evaluations, c.wins.ensures.evaluations)
 
@@ -75,7 +83,7 @@ pub returns-clause-entries : goal.returns-clause-entries
 returns-clause-entries g c =
     let w = world_of c.args.world.now in
     let decided = decided-here w c.args.request.now (ad_frames c.args.ad.now) c.request_place.result c.request_place.ensures c.requires.request c.requires.ports c.requires.last in
-    let undecided : is_last_decided w ≡ false = sym decided ∙ sym c.is_decided.ensures ∙ c.if-is_decided.false in
+    let undecided : is_last_decided w ≡ false = sym decided ∙ some-undecided (ad_frames c.args.request.now.ad) c.request_place.result.frame (labels_of c.args.request.now.ports) (ad_frames c.args.ad.now) c.in-Some.sides (sym c.open_sides.ensures ∙ c.in-Some.is) in
     let entered = entered-open c.args.moment (stock_of c.args.store.now) (jobs_of c.args.self.now) c.args.slot w undecided in
     omega (arith, entered, c.dock.ensures.entries, c.wins.ensures.entries)
 

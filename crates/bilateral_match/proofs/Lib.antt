@@ -8,7 +8,7 @@ mod LoopLemmas
 mod MemberLemmas
 mod MemberScanLemmas
 pub mod MemberWeighLemmas
-mod MetLemmas
+pub mod MetLemmas
 mod NarrowLemmas
 pub mod OfferLemmas
 mod OrderLemmas

@@ -3,7 +3,8 @@ ghost use Rattle.std.specs.Prelude.{◌≡◌, IfOk};
 ghost use Rattle.ad_value.specs.Plain.{plain, plain_of_lit};
 
 use crate::Value;
-use pool_text::{Lit, OutOfMemory, Text};
+use crate::copying::copy_text;
+use pool_text::{Lit, OutOfMemory};
 use std::alloc::Global;
 
 /// The value of a literal.
@@ -15,6 +16,6 @@ pub fn from_lit(alloc: Global, lit: &Lit) -> Result<Value, OutOfMemory>
         Lit::Error => Value::Error,
         Lit::Boolean(b) => Value::Boolean(*b),
         Lit::Integer(n) => Value::Integer(*n),
-        Lit::Str(text) => Value::Str(Text::from_bytes(alloc, text.bytes())?),
+        Lit::Str(text) => copy_text(alloc, text)?,
     })
 }

@@ -1,10 +1,26 @@
 -- Steps of the loop that counts open constructs.
-use Rattle.std.proofs.Common.{arith, ◌≡◌, ℕ, zero, suc, ◌+◌, ◌<◌, ◌≤◌, ◌||◌, true, false, nat_lt, List, [], ◌∷◌, map, drop, length, get_or, Option, None, ap, sym, ◌∙◌, add-one}
+use Rattle.std.proofs.Common.{refl, arith, ◌≡◌, ℕ, zero, suc, ◌+◌, ◌<◌, ◌≤◌, ◌||◌, true, false, nat_lt, List, [], ◌∷◌, map, drop, length, get_or, Option, None, ap, sym, ◌∙◌, add-one}
 use Rattle.std.proofs.lemmas.Bool.Decides.{nat_tests}
 use Rattle.ad_grammar.specs.declared.mark.Mark.{Mark}
 use Rattle.ad_grammar.specs.Nesting.{nests_deeper, opening, closing}
 use Rattle.ad_grammar.specs.HeldMarks.{mark_in}
 use Rattle.ad_grammar.specs.Words.{Word}
+
+-- what is open is all that counts
+lower : (opened closed : ℕ) (ws : List Word) → nests_deeper (suc opened) (suc closed) ws ≡ nests_deeper opened closed ws
+lower opened closed [] = refl
+lower opened closed (w ∷ ws) =
+    let same : nat_lt (suc closed + closing w + 130) (suc opened + opening w) ≡ nat_lt (closed + closing w + 130) (opened + opening w) = grind (arith, nat_tests) in
+    let opens : suc opened + opening w ≡ suc (opened + opening w) = omega arith in
+    let closes : suc closed + closing w ≡ suc (closed + closing w) = omega arith in
+    ap (λ b. b || nests_deeper (suc opened + opening w) (suc closed + closing w) ws) same
+    ∙ ap (λ n. nat_lt (closed + closing w + 130) (opened + opening w) || nests_deeper n (suc closed + closing w) ws) opens
+    ∙ ap (λ n. nat_lt (closed + closing w + 130) (opened + opening w) || nests_deeper (suc (opened + opening w)) n ws) closes
+    ∙ ap (λ b. nat_lt (closed + closing w + 130) (opened + opening w) || b) (lower (opened + opening w) (closed + closing w) ws)
+
+pub level : (n : ℕ) (ws : List Word) → nests_deeper n n ws ≡ nests_deeper 0 0 ws
+level zero ws = refl
+level (suc n) ws = lower n n ws ∙ level n ws
 
 module _ (opened closed : ℕ) where
   next-by : (i : ℕ) (ws : List Word) (ms : List (Option Mark)) (opens closes : ℕ) → map mark_in ws ≡ ms → i < length ms
@@ -28,6 +44,20 @@ module _ (opened closed : ℕ) where
     shallow-next few =
         let fits : nat_lt (closed + closes + 130) (opened + opens) ≡ false = grind (arith, nat_tests) in
         next ∙ ap (λ b. b || nests_deeper (opened + opens) (closed + closes) (drop (i + 1) ws)) fits
+
+    -- the same with one construct more, and with as many as before
+    pub opened-next : (room : ℕ) → opened ≡ 130 → opened + opens ≡ suc opened → closed + closes ≡ suc room → nests_deeper opened closed (drop i ws) ≡ nests_deeper opened room (drop (i + 1) ws)
+    opened-next room at one enough =
+        shallow-next (omega (arith, at, one, enough))
+        ∙ ap (λ n. nests_deeper n (closed + closes) (drop (i + 1) ws)) one
+        ∙ ap (λ n. nests_deeper (suc opened) n (drop (i + 1) ws)) enough
+        ∙ lower opened room (drop (i + 1) ws)
+
+    pub passed-next : (room : ℕ) → opened ≡ 130 → opened + opens ≡ opened → closed + closes ≡ room → nests_deeper opened closed (drop i ws) ≡ nests_deeper opened room (drop (i + 1) ws)
+    passed-next room at none same =
+        shallow-next (omega (arith, at, none))
+        ∙ ap (λ n. nests_deeper n (closed + closes) (drop (i + 1) ws)) none
+        ∙ ap (λ n. nests_deeper opened n (drop (i + 1) ws)) same
 
     -- and one that does
     pub deep-next : closed + closes + 130 < opened + opens → nests_deeper opened closed (drop i ws) ≡ true

@@ -1,5 +1,5 @@
 -- What instructions make of a stack, one after another, and what a rule leaves on it.
-use Rattle.std.proofs.Common.{refl, ◌≡◌, ℕ, zero, suc, ◌+◌, List, [], ◌∷◌, ◌++◌, None, Some, Result, Ok, Err, OnOk, ap, sym, ◌∙◌, add-one}
+use Rattle.std.proofs.Common.{refl, arith, ◌≡◌, ℕ, zero, suc, ◌+◌, ◌<◌, List, [], ◌∷◌, ◌++◌, length, get_or, slice_set, None, Some, ap, sym, ◌∙◌, add-one}
 use Rattle.ad_tree.specs.Inline.{Inline, Inlines, Defs, shape, inner, end, next, no_defs, def}
 use Rattle.ad_tree.specs.Tree.{Label, choice}
 use Rattle.ad_grammar.specs.declared.program.Instruction.{Instruction}
@@ -15,14 +15,11 @@ pub run-append : (is js : List Instruction) (st : List Inline) → run (is ++ js
 run-append [] js st = refl
 run-append (i ∷ is) js st = run-append is js (step i st)
 
--- what the last instruction has made
-pub run-last : {is : List Instruction} (js : List Instruction) {i : Instruction} (j : Instruction) → is ≡ js ++ i ∷ [] → i ≡ j → run is [] ≡ step j (run js [])
-run-last {is} js {i} j more same = ap (λ ks. run ks []) more ∙ run-append js (i ∷ []) [] ∙ ap (λ k. step k (run js [])) same
-
--- what an Ok tells, told on
-pub on_ok : {A E : Type 0} (r : Result A E) {P Q : Type 0} → (P → Q) → OnOk r P → OnOk r Q
-on_ok (Ok a) f h = f h
-on_ok (Err e) f h = h
+-- an instruction replaced by one that makes the same of every stack
+pub run-set : (is : List Instruction) (k : ℕ) (i j d : Instruction) (st : List Inline) → get_or is k d ≡ i → k < length is → ((s : List Inline) → step j s ≡ step i s) → run (slice_set is k j) st ≡ run is st
+run-set [] k i j d st e l same = refl
+run-set (x ∷ is) zero i j d st e l same = ap (run is) (same st ∙ ap (λ m. step m st) (sym e))
+run-set (x ∷ is) (suc k) i j d st e l same = run-set is k i j d (step x st) e (omega arith) same
 
 pub chosen-more : (n : ℕ) (st : List Inline) → step instructions.Choice (chosen n st) ≡ chosen (n + 1) st
 chosen-more n st = by n st ∙ ap (λ k. chosen k st) (sym (add-one n))

@@ -210,13 +210,13 @@ module _ (e : Rule) (x : Inline) (ws now : List Word) where
 -- ---- primaries ----
 
 -- a call or a list that was put on the stack, and what is read behind it
-pub call-begun : (e : Rule) (text : List ℕ) (ws now : List Word) (st pushed : List Inline) → ws ≡ mark OpenParen ∷ now → pushed ≡ step (instructions.Call text) st
+pub call-begun : (e : Rule) (text : List ℕ) (ws now : List Word) (st pushed : List Inline) → ws ≡ mark OpenParen ∷ now → pushed ≡ step (instructions.Call text 0) st
     → plain_at e text ws ≡ extended (top pushed) (arguments e now)
 call-begun e text ws now st pushed stood is =
     ap (plain_at e text) stood ∙ extended-new (call text) (arguments e now) ∙ ap (λ s. extended (top s) (arguments e now)) (sym is)
 
 module _ (e : Rule) (m : Mark) (ws : List Word) where
-  pub list-begun : (st pushed : List Inline) → m ≡ OpenBrace → pushed ≡ step instructions.List st → primary e (mark m ∷ ws) ≡ extended (top pushed) (elements e ws)
+  pub list-begun : (st pushed : List Inline) → m ≡ OpenBrace → pushed ≡ step (instructions.List 0) st → primary e (mark m ∷ ws) ≡ extended (top pushed) (elements e ws)
   list-begun st pushed is put =
       ap (λ k. primary e (mark k ∷ ws)) is ∙ extended-new list (elements e ws) ∙ ap (λ s. extended (top s) (elements e ws)) (sym put)
 

@@ -40,12 +40,11 @@ step (instructions.Infix op) st = joined op (top (below st)) (top st) ∷ below 
 step instructions.Choice st = over_three choice (top (below (below st))) (top (below st)) (top st) ∷ below (below (below st))
 step (instructions.Select text) st = over_one (select text) (top st) ∷ below st
 step instructions.Subscript st = over_two subscript (top (below st)) (top st) ∷ below (below st)
-step instructions.List st = shape list end ∷ st
-step (instructions.Call text) st = shape (call text) end ∷ st
+step (instructions.List room) st = shape list end ∷ st
+step (instructions.Call text room) st = shape (call text) end ∷ st
 step instructions.Element st = with_element (top (below st)) (top st) ∷ below (below st)
 step instructions.Ad st = inner no_defs ∷ st
 step (instructions.Define text) st = with_definition (top (below st)) text (top st) ∷ below (below st)
-step (instructions.DefineLiteral text lit) st = with_definition (top st) text (leaf (literal lit)) ∷ below st
 step instructions.Close st = st
 
 -- what instructions make of it, one after another

@@ -223,7 +223,7 @@ fn marked(
     match mark {
         Mark::Dot => attribute(alloc, reader, program, Scope::My),
         Mark::OpenBrace => {
-            program.push(Instruction::List)?;
+            program.push(Instruction::List(0))?;
             elements(alloc, reader, program, fuel)
         }
         Mark::OpenBracket => {
@@ -287,12 +287,15 @@ fn several(
         (rules.several (rules.expression fuel) (length (left reader.old)) (left reader.old)))
         result (left reader.new) (below (stack program.old)) (stack program.new) }
 {
-    let mut turns = reader.count();
+    let opening = program.last_place();
+    let most = reader.count();
+    let mut turns = most;
     while turns > 0 {
         turns -= 1;
         expression(alloc, reader, program, fuel)?;
         program.push(Instruction::Element)?;
         if !reader.takes(Mark::Comma) {
+            program.make_room(opening, most.saturating_sub(turns));
             return Ok(());
         }
     }

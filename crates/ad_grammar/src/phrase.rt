@@ -73,7 +73,7 @@ fn named(
     ensures { Begins (λ e. plain_at e text.now (left reader.old)) result (left reader.new) (stack program.old) (stack program.new) }
 {
     if reader.takes(Mark::OpenParen) {
-        program.push(Instruction::Call(Text::from_bytes(alloc, text)?))?;
+        program.push(Instruction::Call(Text::from_bytes(alloc, text)?, 0))?;
         return Ok(true);
     }
     reference(alloc, reader, program, text)?;
@@ -142,7 +142,7 @@ pub(crate) fn finished(
     ensures defined { (goes : Bool) → result ≡ Ok goes → stack program.new ≡ step (instructions.Define name) (stack program.old) }
     ensures marks { Continues (left reader.old) (left reader.new) result }
 {
-    program.define(name)?;
+    program.push(Instruction::Define(name))?;
     reader.goes_on()
 }
 

@@ -31,18 +31,16 @@ pub enum Instruction {
     Select(Text),
     /// Takes the last tree as a place in the one below it.
     Subscript,
-    /// Puts an empty list on the stack.
-    List,
-    /// Puts a call without arguments on the stack.
-    Call(Text),
+    /// Puts an empty list on the stack, which will take so many elements.
+    List(usize),
+    /// Puts a call without arguments on the stack, which will take so many.
+    Call(Text, usize),
     /// Adds the last tree to the list or the call below it.
     Element,
     /// Puts an ad literal without definitions on the stack.
     Ad,
     /// Defines a name in the ad literal below the last tree, as that tree.
     Define(Text),
-    /// Defines a name in the ad literal that is the last tree, as a literal.
-    DefineLiteral(Text, Lit),
     /// Ends the definitions of the ad literal that is the last tree.
     Close,
 }
@@ -54,9 +52,8 @@ pub struct Program {
 }
 
 impl Program {
-    ghost use Rattle.std.specs.Prelude.{IfOk, OnOk};
+    ghost use Rattle.std.specs.Prelude.{◌-◌, length, IfOk, OnOk};
     ghost use Rattle.ad_grammar.specs.Machine.{stack, run, step, chosen};
-    ghost use Rattle.ad_grammar.specs.declared.program.Instruction.TheVariants as instructions;
 
     /// No instructions, with room for so many.
     pub(crate) fn with_capacity(alloc: Global, room: usize) -> Result<Program, OutOfMemory>
@@ -68,6 +65,7 @@ impl Program {
     }
 
     /// One instruction more.
+    #[inline(always)]
     pub(crate) fn push(&mut self, instruction: Instruction) -> Result<(), OutOfMemory>
         ensures { OnOk result (stack self.new ≡ step instruction (stack self.old)) }
     {
@@ -75,19 +73,25 @@ impl Program {
         Ok(())
     }
 
-    /// A definition: the last tree is that of the name. Most are of a literal alone, which is then no tree of its own.
-    pub(crate) fn define(&mut self, name: Text) -> Result<(), OutOfMemory>
-        ensures { OnOk result (stack self.new ≡ step (instructions.Define name) (stack self.old)) }
+    /// The place of the last instruction.
+    pub(crate) fn last_place(&self) -> usize
+        ensures { result ≡ length self.now.instructions.items - 1 }
     {
-        match self.instructions.pop() {
-            Some(Instruction::Literal(literal)) => {
-                self.push(Instruction::DefineLiteral(name, literal))
-            }
-            Some(last) => {
-                self.push(last)?;
-                self.push(Instruction::Define(name))
-            }
-            None => self.push(Instruction::Define(name)),
+        self.instructions.len().saturating_sub(1)
+    }
+
+    /// Tells the instruction at a place how many elements its list or its call will take, so that there is room for them at
+    /// once. Nothing else rests on it.
+    pub(crate) fn make_room(&mut self, place: usize, elements: usize)
+        ensures { stack self.new ≡ stack self.old }
+    {
+        if place >= self.instructions.len() {
+            return;
+        }
+        match &mut self.instructions[place] {
+            Instruction::List(room) => *room = elements,
+            Instruction::Call(_, room) => *room = elements,
+            _ => {}
         }
     }
 

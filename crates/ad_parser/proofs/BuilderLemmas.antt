@@ -3,11 +3,10 @@ use Rattle.std.proofs.Common.{◌≡◌, ℕ, Bool, true, false, List, [], ◌�
 use Rattle.ad_tree.specs.Draft.{draft_frames}
 use Rattle.ad_tree.specs.Frames.{Frame, empty_frame, defined}
 use Rattle.ad_tree.specs.Inline.{Inline, inner, no_defs, frames, number, spelled, spelled_tree, ad_of, phrase_of, phrase_tree}
-use Rattle.pool_text.specs.declared.language.Lit.{Lit}
-use Rattle.ad_tree.specs.Tree.{Label, literal, Tree, node, frame, none, one, two, three, all, any, pack}
+use Rattle.ad_tree.specs.Tree.{Label, Tree, node, frame, one, two, three, all, any, pack}
 use Rattle.ad_tree.proofs.InlineLemmas.{pack-push}
 use Rattle.ad_grammar.specs.Machine.{top, below, with_element, with_definition}
-use Rattle.ad_grammar.specs.Shapes.{leaf, over_one, over_two, over_three, joined}
+use Rattle.ad_grammar.specs.Shapes.{over_one, over_two, over_three, joined}
 use Rattle.ad_grammar.specs.declared.program.Infix.{Infix}
 use Rattle.ad_grammar.specs.declared.program.Infix.TheVariants as infixes
 use Rattle.ad_parser.specs.Builds.{slot, HasPut, Holds}
@@ -16,7 +15,7 @@ use Rattle.ad_parser.specs.Laid.{Slot, value, open_ad, Laid}
 use Rattle.ad_parser.specs.declared.builder.Builder.{Builder}
 use Rattle.ad_parser.specs.declared.builder.Operand.{Operand}
 use Rattle.ad_parser.specs.declared.builder.Operand.TheVariants as operands
-use Rattle.ad_parser.proofs.LaidLemmas.{last_tree-last, leaf-laid, one-laid, two-laid, three-laid, joined-laid, element-laid, open-laid, define-laid, close-laid, ad-finished, phrase-finished, phrase_tree-finished}
+use Rattle.ad_parser.proofs.LaidLemmas.{last_tree-last, one-laid, two-laid, three-laid, joined-laid, element-laid, open-laid, define-laid, close-laid, ad-finished, phrase-finished, phrase_tree-finished}
 
 -- what an Ok tells, told on
 pub on_ok : {A E : Type 0} (r : Result A E) {P Q : Type 0} → (P → Q) → OnOk r P → OnOk r Q
@@ -108,19 +107,6 @@ module _ (is_ad : Bool) (st : List Inline) where
       let before : Laid is_ad (value t ∷ open_ad n outer ∷ map slot found.0) between.parent st (draft_frames between.draft) =
       subst (λ os. Laid is_ad (value t ∷ map slot os) between.parent st (draft_frames between.draft)) found.1 (taken is_ad st [] first h) in
       subst (λ os. Laid is_ad (map slot os) between.parent now fs) (sym found.1) (define-laid is_ad between.parent (draft_frames between.draft) (map slot found.0) n outer t name st is before)
-
-  pub literal-carried : (n outer : ℕ) (name : List ℕ) (lit : Lit) {t : Tree} (old : Builder) {fs : List Frame} → t ≡ node (literal lit) none
-      → slice_get old.operands 0 ≡ Some (operands.Open n outer) → fs ≡ defined (draft_frames old.draft) old.parent name t
-      → Holds is_ad old st → Laid is_ad (map slot old.operands) old.parent (with_definition (top st) name (leaf (literal lit)) ∷ below st) fs
-  literal-carried n outer name lit {t} old {fs} same last is h =
-      let found = front old.operands (operands.Open n outer) last in
-      let now : List Inline = with_definition (top st) name (leaf (literal lit)) ∷ below st in
-      let before : Laid is_ad (open_ad n outer ∷ map slot found.0) old.parent st (draft_frames old.draft) =
-      subst (λ os. Laid is_ad (map slot os) old.parent st (draft_frames old.draft)) found.1 h in
-      subst (λ os. Laid is_ad (map slot os) old.parent now fs) (sym found.1)
-      (define-laid is_ad old.parent (draft_frames old.draft) (map slot found.0) n outer (node (literal lit) none) name (leaf (literal lit) ∷ st)
-      (is ∙ ap (defined (draft_frames old.draft) old.parent name) same)
-      (leaf-laid is_ad old.parent (draft_frames old.draft) (literal lit) (open_ad n outer ∷ map slot found.0) st before))
 
   pub open-carried : (old : Builder) (n : ℕ) {os : List Operand} {fs : List Frame} → n ≡ length (draft_frames old.draft) → fs ≡ draft_frames old.draft ++ empty_frame old.parent ∷ []
       → os ≡ operands.Open n old.parent ∷ old.operands → Holds is_ad old st → Laid is_ad (map slot os) n (inner no_defs ∷ st) fs

@@ -58,7 +58,6 @@ fn root_size(instructions: &[Instruction]) -> usize {
             Instruction::Ad => open = open.saturating_add(1),
             Instruction::Close => open = open.saturating_sub(1),
             Instruction::Define(_) if open == 1 => size = size.saturating_add(1),
-            Instruction::DefineLiteral(_, _) if open == 1 => size = size.saturating_add(1),
             _ => {}
         }
     }
@@ -137,12 +136,11 @@ impl Builder {
             Instruction::Choice => self.choice(),
             Instruction::Select(name) => self.select(name),
             Instruction::Subscript => self.subscript(),
-            Instruction::List => self.put(Expr::List(Exprs::new(self.alloc))),
-            Instruction::Call(name) => self.put(Expr::Call(name, Exprs::new(self.alloc))),
+            Instruction::List(room) => self.list(room),
+            Instruction::Call(name, room) => self.call(name, room),
             Instruction::Element => self.element(),
             Instruction::Ad => self.open(),
             Instruction::Define(name) => self.define(name),
-            Instruction::DefineLiteral(name, literal) => self.define_literal(name, literal),
             Instruction::Close => self.close(),
         }
     }
@@ -227,6 +225,27 @@ impl Builder {
         self.put(Expr::Subscript(base, place))
     }
 
+    /// An empty list with room for so many elements.
+    fn list(&mut self, room: usize) -> Result<(), OutOfMemory>
+        ensures { Carries (instructions.List room) self.old self.new result }
+    {
+        let elements = Exprs::with_capacity(self.alloc, room)?;
+        self.put(Expr::List(elements))
+    }
+
+    /// A call without arguments, with room for so many.
+    fn call(&mut self, name: Text, room: usize) -> Result<(), OutOfMemory>
+        ensures { Carries (instructions.Call name room) self.old self.new result }
+    {
+        match Exprs::with_capacity(self.alloc, room) {
+            Ok(arguments) => self.put(Expr::Call(name, arguments)),
+            Err(error) => {
+                drop(name);
+                Err(error)
+            }
+        }
+    }
+
     /// Adds the last tree to the list or the call below it.
     fn element(&mut self) -> Result<(), OutOfMemory>
         ensures { Carries instructions.Element self.old self.new result }
@@ -255,20 +274,6 @@ impl Builder {
             Some(Operand::Open(_, _)) => self.draft.define(self.parent, name, value),
             _ => {
                 drop(value);
-                Err(OutOfMemory)
-            }
-        }
-    }
-
-    /// Defines a name as a literal in the ad literal that is the last operand.
-    fn define_literal(&mut self, name: Text, literal: Lit) -> Result<(), OutOfMemory>
-        ensures { Carries (instructions.DefineLiteral name literal) self.old self.new result }
-    {
-        let expr = Expr::Literal(literal);
-        match self.operands.last() {
-            Some(Operand::Open(_, _)) => self.draft.define(self.parent, name, expr),
-            _ => {
-                drop(expr);
                 Err(OutOfMemory)
             }
         }

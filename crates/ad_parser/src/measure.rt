@@ -202,8 +202,8 @@ fn measure_next(measures: &mut Stack<Measure>, instruction: &Instruction) -> Res
     match instruction {
         Instruction::Literal(_) => measures.push(Measure::leaf()),
         Instruction::Name(_, _) => measures.push(Measure::leaf()),
-        Instruction::List => measures.push(Measure::leaf()),
-        Instruction::Call(_) => measures.push(Measure::leaf()),
+        Instruction::List(_) => measures.push(Measure::leaf()),
+        Instruction::Call(_, _) => measures.push(Measure::leaf()),
         Instruction::Ad => measures.push(Measure::ad()),
         Instruction::Unary(_) => {
             let operand = last(measures);
@@ -238,10 +238,6 @@ fn measure_next(measures: &mut Stack<Measure>, instruction: &Instruction) -> Res
             let value = last(measures);
             let ad = last(measures);
             measures.push(ad.with_definition(value))
-        }
-        Instruction::DefineLiteral(_, _) => {
-            let ad = last(measures);
-            measures.push(ad.with_definition(Measure::leaf()))
         }
         Instruction::Close => Ok(()),
     }

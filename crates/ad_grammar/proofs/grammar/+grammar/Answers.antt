@@ -252,13 +252,14 @@ several-returns-then-not-takes t c =
     let w = extended (top start) (rules.several e (length ws) ws) in
     let before = stack c.loop-turns.program in
     let second = stack c.expression.new.program in
-    let after = stack c.push.new.self in
+    let after = stack c.make_room.new.self in
+    let pushed = c.make_room.ensures ∙ c.in_ok-push.ensures in
     let on = c.in_ok-expression.ensures.on c.in_ok-expression.field-0 refl in
     puts-ok w (left c.takes.new.self) (below start) after tt
     (several-end e w c.loop-turns.turns before (left c.loop-turns.reader) c.loop-turns.invariant.read c.loop-turns-test.true
-    second after (left c.expression.new.reader) (left c.takes.new.self) on (c.in_ok-expression.ensures.ok c.in_ok-expression.field-0 refl) c.in_ok-push.ensures
+    second after (left c.expression.new.reader) (left c.takes.new.self) on (c.in_ok-expression.ensures.ok c.in_ok-expression.field-0 refl) pushed
     (c.takes.ensures.other c.if-not-takes.true) (c.takes.ensures.kept c.if-not-takes.true))
-    (two-below (below start) before second after c.loop-turns.invariant.rest on (ap below c.in_ok-push.ensures))
+    (two-below (below start) before second after c.loop-turns.invariant.rest on (ap below pushed))
 
 pub several-loop-turns-preserved : goal.several-loop-turns-preserved
 several-loop-turns-preserved t c =

@@ -1,7 +1,6 @@
 use Rattle.std.proofs.Common.{refl, ap}
 use Rattle.ad_tree.specs.Tree.{literal, name, unary, choice, select, subscript, call, list}
 use Rattle.ad_grammar.specs.Machine.{top, below, step}
-use Rattle.ad_grammar.specs.Shapes.{leaf}
 use Rattle.ad_parser.proofs.MeasureLemmas.{pushed}
 use Rattle.ad_parser.proofs.measure.measure_next.Goals as goal
 
@@ -47,10 +46,3 @@ returns-in-Choice c = λ st a.
     let first = c.last-first-in-Choice.ensures (below (below st)) second.1 in
     pushed _ _ _ c.args.instruction.now st c.push-in-Choice.result (ap (λ i. step i st) c.in-Choice.is) c.push-in-Choice.ensures
     (c.over_three.ensures choice (top (below (below st))) (top (below st)) (top st) refl first.0 second.0 third.0) first.1
-
-pub returns-in-DefineLiteral : goal.returns-in-DefineLiteral
-returns-in-DefineLiteral c = λ st a.
-    let ad = c.last-ad-in-DefineLiteral.ensures st a in
-    pushed _ _ _ c.args.instruction.now st c.push-in-DefineLiteral.result (ap (λ i. step i st) c.in-DefineLiteral.is) c.push-in-DefineLiteral.ensures
-    (c.with_definition-in-DefineLiteral.ensures c.in-DefineLiteral.field-0 (top st) (leaf (literal c.in-DefineLiteral.field-1)) ad.0
-    (c.leaf-in-DefineLiteral.ensures (literal c.in-DefineLiteral.field-1) refl)) ad.1

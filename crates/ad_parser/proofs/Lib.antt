@@ -1,4 +1,5 @@
 pub mod AnswerLemmas
+mod BoundsLemmas
 mod BuilderLemmas
 pub mod KeptLemmas
 mod LaidLemmas

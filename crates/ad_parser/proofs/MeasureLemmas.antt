@@ -15,27 +15,27 @@ use Rattle.ad_parser.specs.Measures.{IsMeasure, AreMeasures, kind_at, kind_of}
 
 -- ---- one tree and one definition more
 
-count_all-last : (xs : Inlines) (y : Inline) → count_all (followed_by xs y) ≡ count_all xs + count y
+pub count_all-last : (xs : Inlines) (y : Inline) → count_all (followed_by xs y) ≡ count_all xs + count y
 count_all-last end y = omega arith
 count_all-last (next x xs) y = omega (arith, count_all-last xs y)
 
-highest-last : (xs : Inlines) (y : Inline) → highest (followed_by xs y) ≡ max (highest xs) (height y)
+pub highest-last : (xs : Inlines) (y : Inline) → highest (followed_by xs y) ≡ max (highest xs) (height y)
 highest-last end y = omega arith
 highest-last (next x xs) y = omega (arith, highest-last xs y)
 
-definitions_all-last : (xs : Inlines) (y : Inline) → definitions_all (followed_by xs y) ≡ definitions_all xs + definitions y
+pub definitions_all-last : (xs : Inlines) (y : Inline) → definitions_all (followed_by xs y) ≡ definitions_all xs + definitions y
 definitions_all-last end y = omega arith
 definitions_all-last (next x xs) y = omega (arith, definitions_all-last xs y)
 
-count_defs-last : (ds : Defs) (text : List ℕ) (y : Inline) → count_defs (defined_last ds text y) ≡ count_defs ds + count y
+pub count_defs-last : (ds : Defs) (text : List ℕ) (y : Inline) → count_defs (defined_last ds text y) ≡ count_defs ds + count y
 count_defs-last no_defs text y = omega arith
 count_defs-last (def other x ds) text y = omega (arith, count_defs-last ds text y)
 
-highest_def-last : (ds : Defs) (text : List ℕ) (y : Inline) → highest_def (defined_last ds text y) ≡ max (highest_def ds) (height y)
+pub highest_def-last : (ds : Defs) (text : List ℕ) (y : Inline) → highest_def (defined_last ds text y) ≡ max (highest_def ds) (height y)
 highest_def-last no_defs text y = omega arith
 highest_def-last (def other x ds) text y = omega (arith, highest_def-last ds text y)
 
-definitions_in-last : (ds : Defs) (text : List ℕ) (y : Inline) → definitions_in (defined_last ds text y) ≡ suc (definitions_in ds + definitions y)
+pub definitions_in-last : (ds : Defs) (text : List ℕ) (y : Inline) → definitions_in (defined_last ds text y) ≡ suc (definitions_in ds + definitions y)
 definitions_in-last no_defs text y = omega arith
 definitions_in-last (def other x ds) text y = omega (arith, definitions_in-last ds text y)
 

@@ -1,4 +1,5 @@
 pub mod Answers
+pub mod Bounds
 pub mod Builds
 pub mod Counts
 pub mod Faults

@@ -20,9 +20,13 @@ IsEarlyFault text faults.Nesting = (ws : List Word) × HasWords text ws × (nest
 IsEarlyFault text faults.OutOfMemory = Unit {0}
 IsEarlyFault text fault = ⊥
 
--- a tree is within the limits, where so many roots are counted beside its frames, or it isn't
+-- a tree is within the limits, where so many roots are counted beside its frames
+abbrev pub IsFit : ℕ → Inline → Type 0
+IsFit roots x = (height x ≤ height_limit) × (roots + count x ≤ frame_limit) × (definitions x ≤ definition_limit)
+
+-- it is, or it isn't
 abbrev pub IsChecked : ℕ → Inline → Result (Unit {0}) ParseFault → Type 0
-IsChecked roots x (Ok done) = (height x ≤ height_limit) × (roots + count x ≤ frame_limit) × (definitions x ≤ definition_limit)
+IsChecked roots x (Ok done) = IsFit roots x
 IsChecked roots x (Err faults.Depth) = height_limit < height x
 IsChecked roots x (Err faults.Frames) = (height x ≤ height_limit) × (frame_limit < roots + count x)
 IsChecked roots x (Err faults.Attributes) = (height x ≤ height_limit) × (roots + count x ≤ frame_limit) × (definition_limit < definitions x)

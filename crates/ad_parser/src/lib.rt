@@ -1,6 +1,7 @@
 //! Ads and expressions from ClassAd text: exactly those of the grammar, within the limits.
 #![tactic(auto)]
 
+mod bounds;
 mod builder;
 mod fault;
 mod laws;

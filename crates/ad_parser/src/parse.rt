@@ -1,5 +1,5 @@
 // Parsing a text: its tokens, their words, the program that builds their tree, and the ad of the tree.
-ghost use Rattle.std.specs.Prelude.{◌<◌, ◌≤◌, ◌^◌, length, Result, IfOk, IfErr};
+ghost use Rattle.std.specs.Prelude.{◌<◌, ◌≤◌, ◌^◌, length, List, Result, IfOk, IfErr, IsTrue};
 ghost use Rattle.ad_tree.specs.Ad.{ad_frames};
 ghost use Rattle.ad_tree.specs.Inline.{Inline};
 ghost use Rattle.ad_tree.specs.Small.{IsSmall};
@@ -7,10 +7,12 @@ ghost use Rattle.ad_grammar.specs.Machine.{stack, top};
 ghost use Rattle.ad_grammar.specs.Steps.{left};
 ghost use Rattle.ad_parser.specs.declared.fault.ParseFault.{ParseFault};
 ghost use Rattle.ad_parser.specs.Answers.{AnswersAd, AnswersExpr};
+ghost use Rattle.ad_parser.specs.Bounds.{IsBounded};
 ghost use Rattle.ad_parser.specs.Outcomes.{HasAdOutcome, HasExprOutcome, IsAdAnswer, IsExprAnswer};
-ghost use Rattle.ad_parser.specs.Taking.{IsShallow, IsEarlyFault, IsChecked};
+ghost use Rattle.ad_parser.specs.Taking.{IsShallow, IsEarlyFault, IsFit, IsChecked};
 
 use crate::ParseFault;
+use crate::bounds::{Bounds, bound_trees};
 use crate::builder::{build_ad, build_phrase};
 use crate::measure::measure_tree;
 use ad_grammar::{Program, Reader, read_ad, read_expression};
@@ -93,6 +95,9 @@ fn check(alloc: Global, program: &Program, roots: u32) -> Result<(), ParseFault>
     requires { roots ≤ 1 }
     ensures { IsChecked roots (top (stack program.now)) result }
 {
+    if are_within(bound_trees(program.instructions()), roots) {
+        return Ok(());
+    }
     let tree = measure_tree(alloc, program.instructions())?;
     if tree.height > HEIGHT_LIMIT {
         return Err(ParseFault::Depth);
@@ -104,4 +109,14 @@ fn check(alloc: Global, program: &Program, roots: u32) -> Result<(), ParseFault>
         return Err(ParseFault::Attributes);
     }
     Ok(())
+}
+
+/// Whether numbers that the trees of a stack don't exceed are within the limits.
+fn are_within(bounds: Bounds, roots: u32) -> bool
+    ensures { IsTrue result → (st : List Inline) → IsBounded bounds st → IsFit roots (top st) }
+{
+    bounds.lowest <= HEIGHT_LIMIT
+        && bounds.others <= HEIGHT_LIMIT
+        && bounds.frames.saturating_add(roots) <= FRAME_LIMIT
+        && bounds.definitions <= DEFINITION_LIMIT
 }

@@ -69,6 +69,19 @@ impl Program {
     pub(crate) fn push(&mut self, instruction: Instruction) -> Result<(), OutOfMemory>
         ensures { OnOk result (stack self.new ≡ step instruction (stack self.old)) }
     {
+        if self.instructions.len() < self.instructions.capacity() {
+            self.instructions.push_reserved(instruction);
+            return Ok(());
+        }
+        self.push_growing(instruction)
+    }
+
+    // Most instructions find room, so what makes room stands apart.
+    #[cold]
+    #[inline(never)]
+    fn push_growing(&mut self, instruction: Instruction) -> Result<(), OutOfMemory>
+        ensures { OnOk result (stack self.new ≡ step instruction (stack self.old)) }
+    {
         self.instructions.push(instruction)?;
         Ok(())
     }

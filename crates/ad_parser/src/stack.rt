@@ -29,7 +29,21 @@ impl<T: Drop> Stack<T> {
         }
     }
 
+    #[inline(always)]
     pub fn push(&mut self, item: T) -> Result<(), OutOfMemory>
+        ensures { OnOk result (self.new ≡ item ∷ self.old) }
+    {
+        if self.items.len() < self.items.capacity() {
+            self.items.push_reserved(item);
+            return Ok(());
+        }
+        self.push_growing(item)
+    }
+
+    // Most items find room, so what makes room stands apart.
+    #[cold]
+    #[inline(never)]
+    fn push_growing(&mut self, item: T) -> Result<(), OutOfMemory>
         ensures { OnOk result (self.new ≡ item ∷ self.old) }
     {
         self.items.push(item)?;

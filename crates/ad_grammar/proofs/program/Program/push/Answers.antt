@@ -3,5 +3,5 @@ use Rattle.ad_grammar.specs.Machine.{run}
 use Rattle.ad_grammar.proofs.MachineLemmas.{run-append}
 use Rattle.ad_grammar.proofs.program.Program.push.Goals as goal
 
-pub returns : goal.returns
-returns c = ap (λ is. run is []) c.in_ok-push.ensures.items ∙ run-append c.args.self.now.instructions.items (c.args.instruction ∷ []) []
+pub returns-then-len-capacity : goal.returns-then-len-capacity
+returns-then-len-capacity c = ap (λ is. run is []) c.push_reserved.ensures.items ∙ run-append c.args.self.now.instructions.items (c.args.instruction ∷ []) []

@@ -14,8 +14,7 @@ ghost use Rattle.bilateral_match.specs.Small.{AreSmallAds};
 
 use crate::sides::open_sides;
 use ad_store::Store;
-use ad_tree::{Ad, Ports, Request};
-use conjunct_plan::rules_out;
+use ad_tree::Request;
 use eval_scope::World;
 use pool_steps::Steps;
 use pool_text::OutOfMemory;
@@ -77,14 +76,4 @@ pub fn slots_world<'a, T: Ledger>(
         world.dock(store.look(*slot, touch));
     }
     world
-}
-
-/// Whether a test of either side is decided against by the other, where the ad is docked to this frame of the request.
-pub fn is_decided(alloc: Global, request: &Request, frame: u32, ad: &Ad) -> bool
-    requires { frame < length (ad_frames request.now.ad) }
-    ensures { result ≡ is_dock_decided (ad_frames request.now.ad) frame (labels_of request.now.ports) (ad_frames ad.now) }
-{
-    let no_ports = Ports::new(alloc);
-    rules_out(&request.ad, frame, &request.ports, ad, 0)
-        || rules_out(ad, 0, &no_ports, &request.ad, frame)
 }

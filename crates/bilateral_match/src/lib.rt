@@ -17,7 +17,7 @@ mod weighing;
 pub use alike::are_alike;
 pub use candidates::candidates_at;
 pub use choosing::best;
-pub use docking::{is_decided, pair};
+pub use docking::pair;
 pub use hit::{Hit, Hits, Match};
 pub use laws::{
     a_conjunct_has_the_value_of_its_test, a_conjunction_is_true_only_where_its_conjuncts_are,

@@ -5,32 +5,10 @@ ghost use Rattle.ad_value.specs.Logic.{is_true};
 ghost use Rattle.ad_value.specs.Plain.{integer, plain, plain_of_lit, text};
 
 use crate::Value;
-use crate::arithmetic::{on_integers, on_numbers};
+use crate::arithmetic::on_numbers;
 use crate::folding::equal_texts;
-use crate::operators::{on_compared_texts, on_texts};
+use crate::operators::on_compared_texts;
 use pool_text::{BinOp, Lit, order_folded};
-
-/// The value of `a op b` for two literals. It takes no memory.
-pub fn binary_of_literals(op: BinOp, a: &Lit, b: &Lit) -> Value
-    ensures { plain result ≡ binary_value op (plain_of_lit a.now) (plain_of_lit b.now) }
-{
-    match (a, b) {
-        (Lit::Integer(x), Lit::Integer(y)) => on_integers(op, *x, *y),
-        (Lit::Str(x), Lit::Str(y)) => on_texts(op, x.bytes(), y.bytes()),
-        _ => by_operator(op, a, b),
-    }
-}
-
-// The same for literals of any kinds.
-fn by_operator(op: BinOp, a: &Lit, b: &Lit) -> Value
-    ensures { plain result ≡ binary_value op (plain_of_lit a.now) (plain_of_lit b.now) }
-{
-    match op {
-        BinOp::Same => Value::Boolean(are_same(a, b)),
-        BinOp::NotSame => Value::Boolean(!are_same(a, b)),
-        _ => strict_result(op, a, b),
-    }
-}
 
 /// Whether `a op b` is true for two literals. It takes no memory.
 pub fn is_true_of_literals(op: BinOp, a: &Lit, b: &Lit) -> bool
@@ -72,6 +50,17 @@ fn is_true_of_texts(op: BinOp, a: &[u8], b: &[u8]) -> bool
         BinOp::Greater => order_folded(a, b).is_gt(),
         BinOp::AtLeast => order_folded(a, b).is_ge(),
         _ => false,
+    }
+}
+
+// The value of `a op b` for literals of any kinds.
+fn by_operator(op: BinOp, a: &Lit, b: &Lit) -> Value
+    ensures { plain result ≡ binary_value op (plain_of_lit a.now) (plain_of_lit b.now) }
+{
+    match op {
+        BinOp::Same => Value::Boolean(are_same(a, b)),
+        BinOp::NotSame => Value::Boolean(!are_same(a, b)),
+        _ => strict_result(op, a, b),
     }
 }
 

@@ -13,7 +13,7 @@ mod operators;
 mod value;
 mod weighing;
 
-pub use comparison::{binary_of_literals, is_true_of_literals};
+pub use comparison::is_true_of_literals;
 pub use copying::copy;
 pub use identity::same;
 pub use laws::{

@@ -16,7 +16,7 @@ use crate::planning::requirement;
 use crate::probe::{Probe, probe_of};
 use crate::verdict::Verdict;
 use ad_tree::{Ad, Expr, Exprs, Ports};
-use ad_value::{Value, binary_of_literals};
+use ad_value::is_true_of_literals;
 use pool_text::{Lit, Text};
 
 /// Whether the test is decided against by a frame of the other side and the frames that enclose it: the attribute that it
@@ -119,19 +119,12 @@ fn holds(probe: Probe<'_>, found: &Lit) -> bool
             lit,
             attr_left: true,
             ..
-        } => is_true(&binary_of_literals(op, found, lit)),
+        } => is_true_of_literals(op, found, lit),
         Probe::Compare {
             op,
             lit,
             attr_left: false,
             ..
-        } => is_true(&binary_of_literals(op, lit, found)),
+        } => is_true_of_literals(op, lit, found),
     }
-}
-
-// Whether the value is the Boolean true.
-fn is_true(value: &Value) -> bool
-    ensures { result ≡ is_true (plain value.now) }
-{
-    matches!(value, Value::Boolean(true))
 }

@@ -60,7 +60,8 @@ impl<T: Drop> Stack<T> {
 
     /// The last item, which stays.
     pub fn last(&self) -> Option<&T>
-        ensures { IfSome result (λ item. slice_get self.now 0 ≡ Some item.now) }
+        ensures some { IfSome result (λ item. slice_get self.now 0 ≡ Some item.now) }
+        ensures none { result ≡ None → self.now ≡ [] }
     {
         self.items.last()
     }

@@ -12,15 +12,6 @@ abbrev pub put_name : List ℕ → List (List ℕ) → List (List ℕ)
 put_name name [] = name ∷ []
 put_name name (other ∷ others) = cond (same_name name other) (name ∷ others) (other ∷ put_name name others)
 
-pub names-put_attribute : (name : List ℕ) (t : Tree) (attributes : List (List ℕ × Tree)) → names_of (put_attribute name t attributes) ≡ put_name name (names_of attributes)
-names-put_attribute name t [] = refl
-names-put_attribute name t (a ∷ rest) = by (same_name name a.0) (names-put_attribute name t rest)
-  where
-    by : (b : Bool) → names_of (put_attribute name t rest) ≡ put_name name (names_of rest)
-        → names_of (cond b ((name, t) ∷ rest) (a ∷ put_attribute name t rest)) ≡ cond b (name ∷ names_of rest) (a.0 ∷ put_name name (names_of rest))
-    by true e = refl
-    by false e = ap (λ ns. a.0 ∷ ns) e
-
 pub names-put : (name : List ℕ) (i : Inline) (ds : Defs) → def_names (put name i ds) ≡ put_name name (def_names ds)
 names-put name i no_defs = refl
 names-put name i (def other j ds) = by (same_name name other) (names-put name i ds)
@@ -52,9 +43,6 @@ apart-put_name name (n ∷ ns) h = by (same_name name n) refl (apart-put_name na
     by : (b : Bool) → same_name name n ≡ b → are_apart (put_name name ns) ≡ true → are_apart (cond b (name ∷ ns) (n ∷ put_name name ns)) ≡ true
     by true e k = both _ _ (ap not (has_name-along name n ns e) ∙ both_left _ _ h) (both_right _ _ h)
     by false e k = both _ _ (ap not (has_name-put n name ns e (not_true _ (both_left _ _ h)))) k
-
-pub apart-put_attribute : (name : List ℕ) (t : Tree) (attributes : List (List ℕ × Tree)) → are_apart (names_of attributes) ≡ true → are_apart (names_of (put_attribute name t attributes)) ≡ true
-apart-put_attribute name t attributes h = ap are_apart (names-put_attribute name t attributes) ∙ apart-put_name name (names_of attributes) h
 
 -- one attribute more at the end
 pub put_all-push : (done attributes : List (List ℕ × Tree)) (name : List ℕ) (t : Tree) → put_all done (attributes ++ (name, t) ∷ []) ≡ put_attribute name t (put_all done attributes)

@@ -5,7 +5,7 @@ use Rattle.std.proofs.lemmas.Option.{slice_get_read, slice_get_past, slice_get-m
 use Rattle.ad_tree.specs.declared.frame.AdFrame.{AdFrame}
 use Rattle.ad_tree.specs.Tree.{Tree}
 use Rattle.ad_tree.specs.Frames.{Frame, attributes_at, attributes_in, defined_in, defined, parent_of}
-use Rattle.ad_tree.specs.Entries.{attributes_of}
+use Rattle.ad_tree.specs.Attributes.{attributes_of}
 use Rattle.ad_tree.specs.Table.{frame_of, frames_of}
 
 less_one : (f : ℕ) → suc f - 1 ≡ f
@@ -76,7 +76,7 @@ told_on_err (Ok a) h = tt
 told_on_err (Err e) h = h
 
 -- the attributes of a frame of an ad are read in the frame
-pub attributes-read : (fs : List AdFrame) (f : ℕ) (x : AdFrame) → f < length (frames_of fs) → x ≡ get_or fs f x → attributes_at (frames_of fs) f ≡ attributes_of x.attributes.entries
+pub attributes-read : (fs : List AdFrame) (f : ℕ) (x : AdFrame) → f < length (frames_of fs) → x ≡ get_or fs f x → attributes_at (frames_of fs) f ≡ attributes_of x.attributes.keys
 attributes-read fs f x h e =
     ap attributes_in (slice_get-map frame_of fs f
     ∙ ap (option_map frame_of) (slice_get_read fs (length (frames_of fs)) f x (length-map fs frame_of) h e))

@@ -9,7 +9,7 @@ use Rattle.ad_tree.specs.Phrases.{IsPhrase}
 use Rattle.ad_tree.specs.Placed.{IsPlaced, HasDefined}
 use Rattle.ad_tree.specs.Table.{frame_of, frames_of}
 use Rattle.ad_tree.proofs.AdLemmas.{IsAd-frames, IsAd-phrase, inside-apart, spelled_tree-apart}
-use Rattle.ad_tree.proofs.EntryLemmas.{apart-frames}
+use Rattle.ad_tree.proofs.FrameLemmas.{apart-frames}
 use Rattle.ad_tree.proofs.PlacedLemmas.{defined-placed}
 use Rattle.ad_tree.proofs.SpellingLemmas.{settled_frame-frames, spelled_tree-frames}
 

@@ -1,8 +1,8 @@
 pub mod AdLemmas
 mod AttributeLemmas
 mod DraftLemmas
-mod EntryLemmas
 mod FinishLemmas
+mod FrameLemmas
 pub mod InlineLemmas
 pub mod Measures
 mod NameLemmas

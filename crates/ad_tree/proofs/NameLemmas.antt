@@ -1,9 +1,7 @@
 -- Laws of names that are apart.
-use Rattle.std.proofs.Common.{refl, ◌≡◌, ◌∙◌, ℕ, List, [], ◌∷◌, ◌++◌, Bool, true, false, not, ◌&&◌, ◌||◌, bytes_eq, ap}
+use Rattle.std.proofs.Common.{refl, ◌≡◌, ℕ, List, [], ◌∷◌, ◌++◌, Bool, true, false, not, ◌&&◌, ◌||◌, bytes_eq, ap}
 use Rattle.std.proofs.lemmas.Bool.Decides.{Decides-eqb}
 use Rattle.std.proofs.lemmas.Slice.Eq.{slice_eq-Decides}
-use Rattle.std.proofs.lemmas.Str.Ascii.{lowercase-lowercase}
-use Rattle.std.specs.Char.{to_ascii_lowercase}
 use Rattle.pool_text.specs.Folding.{folded}
 use Rattle.ad_tree.specs.Names.{same_name, has_name}
 
@@ -36,15 +34,6 @@ neither_right false b h = h
 pub neither : (a b : Bool) → a ≡ false → b ≡ false → (a || b) ≡ false
 neither true b h k = absurd (cc)
 neither false b h k = k
-
--- folding twice is folding once
-folded-twice : (name : List ℕ) → folded (folded name) ≡ folded name
-folded-twice [] = refl
-folded-twice (x ∷ xs) = ap (λ y. y ∷ folded (folded xs)) (lowercase-lowercase x) ∙ ap (λ ys. to_ascii_lowercase x ∷ ys) (folded-twice xs)
-
--- so a name is compared with the folded one as with the other
-pub same_name-folded : (name other key : List ℕ) → key ≡ folded other → same_name name key ≡ same_name name other
-same_name-folded name other key h = ap (λ k. same_name name k) h ∙ ap (λ f. bytes_eq (folded name) f) (folded-twice other)
 
 -- equal names have one folded form
 pub same_folded_form : (a b : List ℕ) → same_name a b ≡ true → folded a ≡ folded b

@@ -1,7 +1,8 @@
 pub mod Ad
+pub mod Attributes
+pub mod Digests
 pub mod Draft
 pub mod Enclosing
-pub mod Entries
 pub mod Frames
 pub mod Inline
 pub mod Names

@@ -2,11 +2,11 @@
 use Rattle.std.specs.Prelude.{List, map}
 use Rattle.ad_tree.specs.declared.frame.AdFrame.{AdFrame}
 use Rattle.ad_tree.specs.Frames.{Frame}
-use Rattle.ad_tree.specs.Entries.{attributes_of}
+use Rattle.ad_tree.specs.Attributes.{attributes_of}
 
 -- a frame
 abbrev pub frame_of : AdFrame → Frame
-frame_of f = record { parent = f.parent; attributes = attributes_of f.attributes.entries }
+frame_of f = record { parent = f.parent; attributes = attributes_of f.attributes.keys }
 
 -- a list of frames
 abbrev pub frames_of : List AdFrame → List Frame

@@ -85,9 +85,9 @@ impl Draft {
         ensures len { length (draft_frames self.new) ≡ length (draft_frames self.old) }
     {
         if frame == 0 {
-            self.root.define(self.alloc, name, expr)
+            self.root.define(name, expr)
         } else {
-            self.inner[frame as usize - 1].define(self.alloc, name, expr)
+            self.inner[frame as usize - 1].define(name, expr)
         }
     }
 

@@ -2,6 +2,7 @@
 #![tactic(auto)]
 
 mod ad;
+mod attribute;
 mod draft;
 mod frame;
 mod laws;

@@ -1,0 +1,24 @@
+-- Digests of names, by which a frame hashes its attributes.
+use Rattle.std.specs.Prelude.{ℕ, ◌+◌, ◌*◌, ◌%◌, ◌^◌, List, [], ◌∷◌}
+use Rattle.std.specs.Cmp.Lexicographic.{bytes_decides}
+use Rattle.std.specs.Hash as fed
+use Rattle.std.specs.Hash.{Alike, on_Alike, same_Alike}
+use Rattle.pool_text.specs.Folding.{folded}
+use Rattle.ad_tree.specs.Names.{same_name}
+
+-- a number of 64 bits that bytes give behind those that gave h
+abbrev pub digest_from : ℕ → List ℕ → ℕ
+digest_from h [] = h
+digest_from h (b ∷ bytes) = digest_from (((h * 31) % (2 ^ 64) + b) % (2 ^ 64)) bytes
+
+-- the number of a name
+abbrev pub name_digest : List ℕ → ℕ
+name_digest name = digest_from 0 (folded name)
+
+-- what a name feeds a hasher
+abbrev pub hashed_name : List ℕ → List (List ℕ)
+hashed_name name = fed.u64 (name_digest name)
+
+-- equal names feed it alike
+pub equal_names : Alike same_name hashed_name
+equal_names = on_Alike folded (same_Alike (λ bytes. fed.u64 (digest_from 0 bytes)) bytes_decides)

@@ -1,0 +1,104 @@
+// The attributes of a frame, which are equal where their names are, so that a set of them has each name once.
+ghost use Rattle.std.specs.Prelude.{◌≡◌};
+ghost use Rattle.std.specs.Cmp.{partial_equiv_from_equiv};
+ghost use Rattle.std.specs.Cmp.Lexicographic.{on_texts_equal};
+ghost use Rattle.pool_text.specs.Folding.{folded};
+ghost use Rattle.ad_tree.specs.Names.{same_name};
+ghost use Rattle.ad_tree.specs.Digests.{name_digest, hashed_name, equal_names};
+
+use crate::Expr;
+use indexmap::Equivalent;
+use pool_text::{Text, same_folded};
+use std::hash::{Hash, Hasher};
+
+#[derive(Drop)]
+pub struct Attribute {
+    pub name: Text,
+    pub expr: Expr,
+}
+
+impl PartialEq for Attribute {
+    ghost eq = { λ a b. same_name a.name b.name };
+
+    ghost laws = { partial_equiv_from_equiv (on_texts_equal (λ a. folded a.name)) };
+
+    fn eq(&self, other: &Attribute) -> bool {
+        is_named(self, other.name.bytes())
+    }
+}
+
+impl Eq for Attribute {
+    ghost laws = { on_texts_equal (λ a. folded a.name) };
+}
+
+impl Hash for Attribute {
+    ghost hash_input = { λ a. hashed_name a.name };
+
+    ghost respects_eq = { λ a b. equal_names.fed a.name b.name };
+
+    fn hash<H: Hasher>(&self, state: &mut H) {
+        state.write_u64(name_digest(self.name.bytes()));
+    }
+}
+
+/// A name as it is spelled in a look-up.
+#[derive(Clone, Copy)]
+pub struct Spelled<'a>(pub &'a [u8]);
+
+impl PartialEq for Spelled<'_> {
+    ghost eq = { λ a b. same_name a.0.now b.0.now };
+
+    ghost laws = { partial_equiv_from_equiv (on_texts_equal (λ a. folded a.0.now)) };
+
+    fn eq(&self, other: &Self) -> bool {
+        same_folded(self.0, other.0)
+    }
+}
+
+impl Eq for Spelled<'_> {
+    ghost laws = { on_texts_equal (λ a. folded a.0.now) };
+}
+
+impl Hash for Spelled<'_> {
+    ghost hash_input = { λ a. hashed_name a.0.now };
+
+    ghost respects_eq = { λ a b. equal_names.fed a.0.now b.0.now };
+
+    fn hash<H: Hasher>(&self, state: &mut H) {
+        state.write_u64(name_digest(self.0));
+    }
+}
+
+impl Equivalent<Attribute> for Spelled<'_> {
+    ghost equivalent = { λ q a. same_name q.0.now a.name };
+
+    ghost respects_hash = { λ q a. equal_names.fed q.0.now a.name };
+
+    ghost respects_eq = { λ q a b. (on_texts_equal folded).congr q.0.now a.name b.name };
+
+    fn equivalent(&self, attribute: &Attribute) -> bool {
+        is_named(attribute, self.0)
+    }
+}
+
+/// Whether the attribute has this name.
+pub fn is_named(attribute: &Attribute, name: &[u8]) -> bool
+    ensures { result ≡ same_name name.now attribute.now.name }
+{
+    same_folded(name, attribute.name.bytes())
+}
+
+/// A number that names share which are equal after folding, and few others do. It takes no memory.
+fn name_digest(name: &[u8]) -> u64
+    ensures { result ≡ name_digest name.now }
+{
+    let mut digest: u64 = 0;
+    let mut rest = name;
+    while let [byte, behind @ ..] = rest {
+        digest = digest
+            .wrapping_mul(31)
+            .wrapping_add(u64::from(byte.to_ascii_lowercase()));
+        rest = behind;
+    }
+    digest
+}

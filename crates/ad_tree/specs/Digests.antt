@@ -9,7 +9,7 @@ use Rattle.ad_tree.specs.Names.{same_name}
 -- a number of 64 bits that bytes give behind those that gave h
 abbrev pub digest_from : ℕ → List ℕ → ℕ
 digest_from h [] = h
-digest_from h (b ∷ bytes) = digest_from (((h * 31) % (2 ^ 64) + b) % (2 ^ 64)) bytes
+digest_from h (b ∷ bytes) = digest_from (((h * 6364136223846793005) % (2 ^ 64) + b) % (2 ^ 64)) bytes
 
 -- the number of a name
 abbrev pub name_digest : List ℕ → ℕ

@@ -11,6 +11,10 @@ use indexmap::Equivalent;
 use pool_text::{Text, same_folded};
 use std::hash::{Hash, Hasher};
 
+/// With a small multiplier, names of one digest are found by hand, as `an` and `c0` with 31.
+const MULTIPLIER: u64 = 6_364_136_223_846_793_005;
+
+/// A name with its expression.
 #[derive(Drop)]
 pub struct Attribute {
     pub name: Text,
@@ -41,7 +45,7 @@ impl Hash for Attribute {
     }
 }
 
-/// A name as it is spelled in a look-up.
+/// A name that is looked up, in any spelling.
 #[derive(Clone, Copy)]
 pub struct Spelled<'a>(pub &'a [u8]);
 
@@ -96,7 +100,7 @@ fn name_digest(name: &[u8]) -> u64
     let mut rest = name;
     while let [byte, behind @ ..] = rest {
         digest = digest
-            .wrapping_mul(31)
+            .wrapping_mul(MULTIPLIER)
             .wrapping_add(u64::from(byte.to_ascii_lowercase()));
         rest = behind;
     }

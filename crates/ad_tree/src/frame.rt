@@ -12,7 +12,7 @@ use pool_text::{OutOfMemory, Text};
 use std::alloc::Global;
 
 /// So many names are gone through in less time than a name is hashed.
-const FEW_NAMES: usize = 32;
+const FEW_NAMES: usize = 16;
 
 #[derive(Drop)]
 pub struct AdFrame {

@@ -161,6 +161,29 @@ impl Store {
         requires { Contains (stock_of self.now).slots slot }
         ensures { slice_get (stock_of self.now).slots result ≡ Some slot }
     {
+        // Slots are given out in order, so until an ad leaves a slot's number is its place.
+        if self.stands_at(slot, slot) {
+            return slot;
+        }
+        self.place_by_name(slot)
+    }
+
+    // Whether the ad at a place is the one in this slot.
+    fn stands_at(&self, place: usize, slot: usize) -> bool
+        ensures { IsTrue result → slice_get (stock_of self.now).slots place ≡ Some slot }
+    {
+        let slots: &[usize] = self.names.values().as_slice();
+        match slots.get(place) {
+            Some(found) => *found == slot,
+            None => false,
+        }
+    }
+
+    // The place of the ad in this slot, by its name.
+    fn place_by_name(&self, slot: usize) -> usize
+        requires { Contains (stock_of self.now).slots slot }
+        ensures { slice_get (stock_of self.now).slots result ≡ Some slot }
+    {
         let name = self.entry(slot).name.bytes();
         self.names.get_index_of(name).unwrap_or(0)
     }

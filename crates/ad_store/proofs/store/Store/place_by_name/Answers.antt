@@ -3,7 +3,7 @@ use Rattle.ad_store.specs.Held.{slots_of}
 use Rattle.ad_store.proofs.ChangeLemmas.{named}
 use Rattle.ad_store.proofs.Lookups.{lookup}
 use Rattle.ad_store.proofs.SlotLemmas.{found_again, place_from}
-use Rattle.ad_store.proofs.store.Store.place.Goals as goal
+use Rattle.ad_store.proofs.store.Store.place_by_name.Goals as goal
 
 pub returns : goal.returns
 returns c =

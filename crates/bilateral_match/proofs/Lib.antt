@@ -1,4 +1,5 @@
 pub mod AlikeLemmas
+mod BarLemmas
 mod ConjunctLemmas
 pub mod DecidedLemmas
 pub mod DockingLemmas

@@ -1,5 +1,5 @@
 -- The ads at places, as a query goes through them.
-use Rattle.std.specs.Prelude.{ℕ, Bool, List, Option, None, Some, slice_get, if◌then◌else◌}
+use Rattle.std.specs.Prelude.{ℕ, ℤ, Bool, true, not, int_lt, List, Option, None, Some, slice_get, if◌then◌else◌}
 use Rattle.std.specs.Option.{option_and_then, option_map_or}
 use Rattle.ad_tree.specs.Frames.{Frame}
 use Rattle.ad_store.specs.Stock.{Advert}
@@ -44,6 +44,21 @@ where_won won ranks claimed place = if won then Some (as_member ranks claimed pl
 
 abbrev pub member_at : Pool → List Frame → ℕ → Option Member
 member_at pool request place = option_and_then (member_with pool request place) (slice_get pool.ads place)
+
+-- the job's rank is no lower than the bar, where there is one
+abbrev pub reaches : Option ℤ → ℤ → Bool
+reaches None rank = true
+reaches (Some bar) rank = not (int_lt rank bar)
+
+-- ranks whose rank by the job reaches the bar
+abbrev pub ranks_above : Option ℤ → Option Ranks → Option Ranks
+ranks_above bar None = None
+ranks_above bar (Some ranks) = if reaches bar ranks.rank then Some ranks else None
+
+-- a member whose rank by the job reaches the bar
+abbrev pub member_above : Option ℤ → Option Member → Option Member
+member_above bar None = None
+member_above bar (Some m) = if reaches bar m.rank then Some m else None
 
 -- how many evaluations the resource at a place may take, and how many attributes may be entered in them
 abbrev pub evaluations_for : Pool → List Frame → ℕ → ℕ

@@ -103,12 +103,23 @@ fn first_at<H: Holdings, F: Ledger, E: Ledger, T: Ledger>(
 {
     let mut first = None;
     for place in places.as_slice() {
+        let bar = rank_of(&first);
         let next = member_at(
-            alloc, store, held, request, moment, *place, tops, entry, touch,
+            alloc, store, held, request, moment, *place, bar, tops, entry, touch,
         )?;
         first = earlier(first, next);
     }
     Ok(first)
+}
+
+// The rank of a member by the job, which any that comes before it reaches.
+fn rank_of(member: &Option<Member>) -> Option<i64>
+    ensures { result ≡ option_map (λ m. m.rank) member.now }
+{
+    match member {
+        Some(member) => Some(member.rank),
+        None => None,
+    }
 }
 
 // The earlier of two members, where there are two.

@@ -28,7 +28,8 @@ use pool_text::OutOfMemory;
 use std::alloc::Global;
 use std::sync::ledger::Ledger;
 
-/// The resource at a place, if it is a member for the job.
+/// The resource at a place, if it is a member for the job and the job ranks it no lower than the bar, where there is one. A
+/// resource below the bar isn't asked how it ranks the job, nor is its holder.
 pub fn member_at<H: Holdings, F: Ledger, E: Ledger, T: Ledger>(
     alloc: Global,
     store: &Store,
@@ -36,6 +37,7 @@ pub fn member_at<H: Holdings, F: Ledger, E: Ledger, T: Ledger>(
     request: &Request,
     moment: u64,
     place: usize,
+    bar: Option<i64>,
     tops: &mut Steps<F>,
     entry: &mut Steps<E>,
     touch: &mut Steps<T>,
@@ -43,7 +45,7 @@ pub fn member_at<H: Holdings, F: Ledger, E: Ledger, T: Ledger>(
     requires stored { pool.AreStored (stock_of store.now) (H.holding held.now) }
     requires single { request.now.ports ≡ [] }
     requires place { place < length (stock_of store.now).slots }
-    ensures member { IfOk result (λ member. member ≡ scan.member_at (pool.pool_of moment (stock_of store.now) (H.is_offered held.now) (H.holding held.now)) (ad_frames request.now.ad) place) }
+    ensures member { IfOk result (λ member. member ≡ scan.member_above bar (scan.member_at (pool.pool_of moment (stock_of store.now) (H.is_offered held.now) (H.holding held.now)) (ad_frames request.now.ad) place)) }
     ensures evaluations { tops.new ≤ tops.old + scan.evaluations_for (pool.pool_of moment (stock_of store.now) (H.is_offered held.now) (H.holding held.now)) (ad_frames request.now.ad) place }
     ensures entries { entry.new ≤ entry.old + scan.attributes_for (pool.pool_of moment (stock_of store.now) (H.is_offered held.now) (H.holding held.now)) (ad_frames request.now.ad) place }
     ensures ratio { IsSmall (ad_frames request.now.ad) → AreSmallAds (stock_of store.now).ads → AreSmallHolders (H.holding held.now) → entry.new + 9216 * tops.old ≤ entry.old + 9216 * tops.new }
@@ -57,7 +59,7 @@ pub fn member_at<H: Holdings, F: Ledger, E: Ledger, T: Ledger>(
         return Ok(None);
     }
     let ad = store.look(slot, touch);
-    let met = ranks(alloc, request, ad, moment, tops, entry)?;
+    let met = ranks(alloc, request, ad, moment, bar, tops, entry)?;
     let Some(ranks) = met else {
         return Ok(None);
     };
@@ -119,17 +121,19 @@ fn is_within(now: u64, born: u64, lifetime: u64) -> bool
     now < born || now - born < lifetime
 }
 
-// What the sides rank each other, where their dock is true. Nothing is evaluated where a test decides it.
+// What the sides rank each other, where their dock is true and the request's rank reaches the bar. Nothing is evaluated where
+// a test decides the dock.
 fn ranks<F: Ledger, E: Ledger>(
     alloc: Global,
     request: &Request,
     ad: &Ad,
     moment: u64,
+    bar: Option<i64>,
     tops: &mut Steps<F>,
     entry: &mut Steps<E>,
 ) -> Result<Option<Ranks>, OutOfMemory>
     requires { request.now.ports ≡ [] }
-    ensures ranks { IfOk result (λ ranks. ranks ≡ scan.ranks_of_dock moment (ad_frames request.now.ad) (ad_frames ad.now)) }
+    ensures ranks { IfOk result (λ ranks. ranks ≡ scan.ranks_above bar (scan.ranks_of_dock moment (ad_frames request.now.ad) (ad_frames ad.now))) }
     ensures evaluations { tops.new ≤ tops.old + (if is_undecided (ad_frames request.now.ad) (ad_frames ad.now) then 4 else 0) }
     ensures entries { entry.new ≤ entry.old + (if is_undecided (ad_frames request.now.ad) (ad_frames ad.now)
         then 4 * attribute_count (pair_world moment (ad_frames request.now.ad) (ad_frames ad.now)) else 0) }
@@ -139,20 +143,22 @@ fn ranks<F: Ledger, E: Ledger>(
         return Ok(None);
     };
     let world = World::new(moment, &request.ad, &request.ports).with(ad);
-    ranks_in(alloc, &world, sides, tops, entry)
+    ranks_in(alloc, &world, sides, bar, tops, entry)
 }
 
-// What the sides of the last dock rank each other, where it is true, of which tests leave these sides open.
+// What the sides of the last dock rank each other, where it is true and the request's rank reaches the bar. Tests leave these
+// sides of it open.
 fn ranks_in<F: Ledger, E: Ledger>(
     alloc: Global,
     world: &World<'_>,
     sides: OpenSides,
+    bar: Option<i64>,
     tops: &mut Steps<F>,
     entry: &mut Steps<E>,
 ) -> Result<Option<Ranks>, OutOfMemory>
     requires docked { 0 < length (world_of world.now).docked }
     requires left { last_open (world_of world.now) ≡ Some sides }
-    ensures ranks { IfOk result (λ ranks. ranks ≡ scan.ranks_in (world_of world.now)) }
+    ensures ranks { IfOk result (λ ranks. ranks ≡ scan.ranks_above bar (scan.ranks_in (world_of world.now))) }
     ensures evaluations { tops.new ≤ tops.old + 4 }
     ensures entries { entry.new ≤ entry.old + 4 * attribute_count (world_of world.now) }
     ensures ratio { AreSmall (world_of world.now) → entry.new + 9216 * tops.old ≤ entry.old + 9216 * tops.new }
@@ -160,10 +166,24 @@ fn ranks_in<F: Ledger, E: Ledger>(
     if !sides.dock(alloc, world, tops, entry)? {
         return Ok(None);
     }
+    let given = rank(alloc, world, world.request_place(), tops, entry)?;
+    if !reaches(bar, given) {
+        return Ok(None);
+    }
     Ok(Some(Ranks {
-        rank: rank(alloc, world, world.request_place(), tops, entry)?,
+        rank: given,
         regard: rank(alloc, world, world.resource_place(), tops, entry)?,
     }))
+}
+
+// Whether a rank is no lower than the bar, where there is one.
+fn reaches(bar: Option<i64>, rank: i64) -> bool
+    ensures { result ≡ scan.reaches bar rank }
+{
+    match bar {
+        Some(bar) => rank >= bar,
+        None => true,
+    }
 }
 
 /// Whether a resource that ranks a job so is unclaimed, or ranks its holder strictly lower. The holder is ranked in the world

@@ -98,7 +98,7 @@ fn members_at<H: Holdings, F: Ledger, E: Ledger, T: Ledger>(
     let mut found = Vec::new(alloc);
     for place in places.as_slice() {
         let next = member_at(
-            alloc, store, held, request, moment, *place, tops, entry, touch,
+            alloc, store, held, request, moment, *place, None, tops, entry, touch,
         )?;
         keep(&mut found, next)?;
     }

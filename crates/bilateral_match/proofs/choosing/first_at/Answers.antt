@@ -1,8 +1,10 @@
-use Rattle.std.proofs.Common.{◌<◌, All, List, ℕ, length, sym, subst, arith}
+use Rattle.std.proofs.Common.{◌<◌, ◌∙◌, All, List, ℕ, ap, get_or, length, refl, sym, subst, arith}
 use Rattle.ad_tree.specs.Ad.{ad_frames}
 use Rattle.ad_store.specs.Store.{stock_of}
 use Rattle.bilateral_match.specs.Pool.{pool_of}
-use Rattle.bilateral_match.specs.Scan.{attributes_for, evaluations_for, member_at}
+use Rattle.bilateral_match.specs.Members.{earlier}
+use Rattle.bilateral_match.specs.Scan.{attributes_for, evaluations_for, member_above, member_at}
+use Rattle.bilateral_match.proofs.BarLemmas.{earlier-above}
 use Rattle.bilateral_match.proofs.LoopLemmas.{ends, grows, stays}
 use Rattle.bilateral_match.proofs.MemberScanLemmas.{first-ends, first-grows}
 use Rattle.bilateral_match.proofs.choosing.first_at.Goals as goal
@@ -30,7 +32,10 @@ loop-place-preserved g c =
     let request = ad_frames c.args.request.now.ad in
     record {
       first = first-grows (member_at pool request) c.as_slice-place-items.result.now c.loop-place.place-index
-          c.loop-place.first c.earlier-first.result c.in_ok-next.next c.loop-place-test.true c.loop-place.invariant.first c.in_ok-next.ensures.member c.earlier-first.ensures;
+          c.loop-place.first c.earlier-first.result (member_at pool request (get_or c.as_slice-place-items.result.now c.loop-place.place-index 0)) c.loop-place-test.true c.loop-place.invariant.first refl
+          (c.earlier-first.ensures ∙ ap (earlier c.loop-place.first) c.in_ok-next.ensures.member
+          ∙ ap (λ bar. earlier c.loop-place.first (member_above bar (member_at pool request (get_or c.as_slice-place-items.result.now c.loop-place.place-index 0)))) c.rank_of-bar.ensures
+          ∙ earlier-above c.loop-place.first (member_at pool request (get_or c.as_slice-place-items.result.now c.loop-place.place-index 0)));
       evaluations = grows (evaluations_for pool request) c.as_slice-place-items.result.now c.args.places.now c.as_slice-place-items.ensures
           c.loop-place.place-index c.args.tops.now c.loop-place.tops c.member_at.new.tops c.loop-place.invariant.evaluations c.loop-place-test.true c.member_at.ensures.evaluations;
       entries = grows (attributes_for pool request) c.as_slice-place-items.result.now c.args.places.now c.as_slice-place-items.ensures

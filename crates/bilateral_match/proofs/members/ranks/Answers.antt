@@ -5,6 +5,7 @@ use Rattle.conjunct_plan.specs.Tests.{labels_of}
 use Rattle.eval_scope.specs.Shown.{world_of}
 use Rattle.eval_scope.specs.World.{PlainWorld, attribute_count}
 use Rattle.bilateral_match.specs.Docks.{pair_world}
+use Rattle.bilateral_match.specs.Scan.{ranks_above}
 use Rattle.bilateral_match.specs.Sides.{open_sides}
 use Rattle.bilateral_match.proofs.MemberWeighLemmas.{ranks-decided}
 use Rattle.bilateral_match.proofs.MetLemmas.{most-left, none-undecided, some-undecided}
@@ -15,7 +16,7 @@ pub returns-in_default-clause-ranks : goal.returns-in_default-clause-ranks
 returns-in_default-clause-ranks g c =
     let request = ad_frames c.args.request.now.ad in
     let ad = ad_frames c.args.ad.now in
-    ranks-decided c.args.moment request ad (none-undecided request 0 [] ad (ap (λ ports. open_sides request 0 (labels_of ports) ad) (sym c.requires) ∙ sym c.open_sides.ensures ∙ c.in_default.is))
+    ap (ranks_above c.args.bar) (ranks-decided c.args.moment request ad (none-undecided request 0 [] ad (ap (λ ports. open_sides request 0 (labels_of ports) ad) (sym c.requires) ∙ sym c.open_sides.ensures ∙ c.in_default.is)))
 
 pub returns-clause-evaluations : goal.returns-clause-evaluations
 returns-clause-evaluations g c =

@@ -1,8 +1,9 @@
-use Rattle.std.proofs.Common.{◌<◌, All, List, ℕ, length, sym, subst, arith}
+use Rattle.std.proofs.Common.{◌<◌, ◌∙◌, All, List, ℕ, get_or, length, sym, subst, arith}
 use Rattle.ad_tree.specs.Ad.{ad_frames}
 use Rattle.ad_store.specs.Store.{stock_of}
 use Rattle.bilateral_match.specs.Pool.{pool_of}
 use Rattle.bilateral_match.specs.Scan.{attributes_for, evaluations_for, member_at}
+use Rattle.bilateral_match.proofs.BarLemmas.{no-bar}
 use Rattle.bilateral_match.proofs.LoopLemmas.{ends, finds-all, finds-next, grows, stays}
 use Rattle.bilateral_match.proofs.shortlists.members_at.Goals as goal
 
@@ -42,7 +43,8 @@ loop-place-preserved g c =
     let request = ad_frames c.args.request.now.ad in
     record {
       found = finds-next (member_at pool request) c.as_slice-place-items.result.now c.loop-place.place-index
-          c.loop-place.found.items c.keep.new.found.items c.in_ok-next.next c.loop-place-test.true c.loop-place.invariant.found c.in_ok-next.ensures.member c.in_ok-keep.ensures;
+          c.loop-place.found.items c.keep.new.found.items c.in_ok-next.next c.loop-place-test.true c.loop-place.invariant.found
+          (c.in_ok-next.ensures.member ∙ no-bar (member_at pool request (get_or c.as_slice-place-items.result.now c.loop-place.place-index 0))) c.in_ok-keep.ensures;
       evaluations = grows (evaluations_for pool request) c.as_slice-place-items.result.now c.args.places.now c.as_slice-place-items.ensures
           c.loop-place.place-index c.args.tops.now c.loop-place.tops c.member_at.new.tops c.loop-place.invariant.evaluations c.loop-place-test.true c.member_at.ensures.evaluations;
       entries = grows (attributes_for pool request) c.as_slice-place-items.result.now c.args.places.now c.as_slice-place-items.ensures

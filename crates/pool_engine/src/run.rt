@@ -21,6 +21,7 @@ use pool_io::{Failed, Sink, Source};
 use pool_steps::Steps;
 use pool_text::{OutOfMemory, Text};
 use std::alloc::Global;
+use std::mem;
 use std::process::ExitCode;
 use std::sync::ledger::Ledger;
 
@@ -87,7 +88,8 @@ impl RunEnd {
 /// counts in `tops` the whole evaluations of the commands, and in `entry` and `touch` the attributes that they enter and the
 /// ads of the store that are looked into. A workload: the script that `generated` writes, as a pool runs it, but it offers no
 /// reply, and at the end the summary of all as one piece; the source is left alone. A wire: the schedule that the source gives,
-/// as `run_wire` runs it; nothing is counted or posted. Where the words are wrong nothing is read, written or posted.
+/// as `run_wire` runs it; nothing is counted or posted. Where the words are wrong nothing is read, written or posted. The memory of
+/// the pool is left to the process.
 ///
 /// Over a run `entry` rises by at most 9,216 times the rise of `tops`, since a world has at most nine ads of 1,024 attributes
 /// each.
@@ -180,11 +182,13 @@ fn run_input<S: Source, K: Sink, D: Notices, F: Ledger, E: Ledger, T: Ledger>(
 {
     let mut session = Session::new(alloc);
     let answered = answer_input(&mut session, source, sink, desk, tops, entry, touch);
-    drop(session);
+    // A run is what its process is for, and the system takes back the memory of a process at once. To take a pool of 10,000 ads
+    // apart piece by piece is a fifth of the time of a run that only reads and shows them.
+    mem::forget(session);
     answered
 }
 
-// Reads all of a script into a new session. A session has many parts, so it is dropped in one place alone.
+// Reads all of a script into a new session.
 fn answer_input<S: Source, K: Sink, D: Notices, F: Ledger, E: Ledger, T: Ledger>(
     session: &mut Session,
     source: &mut S,

@@ -22,6 +22,7 @@ use pool_state::Pool;
 use pool_steps::Steps;
 use pool_text::OutOfMemory;
 use std::alloc::Global;
+use std::mem;
 use std::sync::ledger::Ledger;
 use workload::{Summary, generated};
 
@@ -97,11 +98,11 @@ fn summed<D: Notices, F: Ledger, E: Ledger, T: Ledger>(
     let mut pool = Pool::new(alloc);
     let summary = sum_waiting(alloc, &mut script, &mut pool, desk, tops, entry, touch);
     drop(script);
-    drop(pool);
+    mem::forget(pool);
     summary
 }
 
-// Runs the commands that wait in a pool, and sums up their replies. The pool has many parts, so others drop it.
+// Runs the commands that wait in a pool, and sums up their replies. The pool is left to the process, as that of a script is.
 fn sum_waiting<D: Notices, F: Ledger, E: Ledger, T: Ledger>(
     alloc: Global,
     script: &mut Script,

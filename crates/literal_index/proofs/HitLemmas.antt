@@ -100,7 +100,7 @@ module _ (p : Row → Bool) where
       by rest true = (h.0, rest)
       by rest false = rest
 
-  distinct-chosen : (rows : List Row) → IsDistinct nat_eq (map (λ row. row.slot) rows) → IsDistinct nat_eq (map (λ row. row.slot) (filter p rows))
+  pub distinct-chosen : (rows : List Row) → IsDistinct nat_eq (map (λ row. row.slot) rows) → IsDistinct nat_eq (map (λ row. row.slot) (filter p rows))
   unfolding IsDistinct
   distinct-chosen [] apart = tt
   distinct-chosen (row ∷ rows) apart = by (distinct-chosen rows apart.1) (p row)
@@ -154,11 +154,11 @@ module _ (p : Row → Bool) where
 
 -- ---- spans
 
-open_covered : (test : Test) (found : Option Lit) → is_of test Choice.Open found ≡ true → Covers open_span (kind_of found) (value_of found)
+pub open_covered : (test : Test) (found : Option Lit) → is_of test Choice.Open found ≡ true → Covers open_span (kind_of found) (value_of found)
 open_covered test None h = (refl, refl)
 open_covered test (Some lit) h = absurd (true≢false (sym h))
 
-true_covered : (test : Test) (found : Option Lit) → is_of test Choice.True found ≡ true → Covers (passing_span test) (kind_of found) (value_of found)
+pub true_covered : (test : Test) (found : Option Lit) → is_of test Choice.True found ≡ true → Covers (passing_span test) (kind_of found) (value_of found)
 true_covered test None h = absurd (true≢false (sym h))
 true_covered test (Some lit) h = passing_covered test lit h
 
@@ -180,7 +180,7 @@ module _ (test : Test) (m : BTreeMap Place Entry) (slots : BTreeSet ℕ) (rows :
   pub passing-found : holds_with test Lit.Undefined ≡ false → IsPermutation (chosen Choice.Open open_span ++ chosen Choice.True (passing_span test)) (passing_slots test rows)
   passing-found undefined =
       IsPermutation-trans _ _ _
-      (IsPermutation-append _ _ _ _ (slots_in_span test Choice.Open open_span m slots rows index ordered (open_covered test)) (slots_in_span test Choice.True (passing_span test) m slots rows index ordered (true_covered test)))
+      (IsPermutation-append _ _ _ _ (slots_in_span test Choice.Open open_span (open_covered test) m slots rows index ordered) (slots_in_span test Choice.True (passing_span test) (true_covered test) m slots rows index ordered))
       (passing_chosen test rows undefined index.ads)
 
   -- what is found, put in order, is what passes
@@ -195,7 +195,7 @@ module _ (test : Test) (m : BTreeMap Place Entry) (slots : BTreeSet ℕ) (rows :
   failing-found : holds_with test Lit.Undefined ≡ true → IsPermutation (chosen Choice.Untrue (failing_span test)) (sorted_out test false rows)
   failing-found undefined =
       let P : List ℕ → Type 0 = λ ys. IsPermutation (chosen Choice.Untrue (failing_span test)) ys in
-      subst P (failing_chosen test rows undefined index.ads) (slots_in_span test Choice.Untrue (failing_span test) m slots rows index ordered (untrue_covered test))
+      subst P (failing_chosen test rows undefined index.ads) (slots_in_span test Choice.Untrue (failing_span test) (untrue_covered test) m slots rows index ordered)
 
   pub distinct-passing : IsDistinct nat_eq (passing_slots test rows)
   distinct-passing = distinct-chosen (passes test) rows index.apart

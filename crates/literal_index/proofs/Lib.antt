@@ -5,6 +5,7 @@ mod HitLemmas
 mod ListedLemmas
 mod NamedLemmas
 mod Orders
+mod PairLemmas
 mod RowLemmas
 mod SearchLemmas
 mod SpanLemmas

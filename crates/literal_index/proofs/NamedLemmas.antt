@@ -1,7 +1,6 @@
 -- The attribute of a name, and what a test says of an ad by it.
 use Rattle.std.proofs.Common.{refl, arith, ◌≡◌, ◌∙◌, ap, sym, true≢false, ℕ, suc, ◌+◌, Bool, true, false, not, ◌&&◌, ◌||◌, cond, List, [], ◌∷◌, map, filter, length, Option, None, Some, option_map, slice_get, nat_lt, one-add}
 use Rattle.std.specs.Prelude.{position, bytes_eq}
-use Rattle.std.specs.Bool.{beq}
 use Rattle.std.specs.List.{position_or_len}
 use Rattle.std.specs.Option.{option_and_then, option_map_or, option_or}
 use Rattle.std.proofs.lemmas.Slice.Eq.{bytes_eq-Decides}
@@ -107,14 +106,14 @@ abbrev pub entries_onto : ℕ → ℕ → List (List ℕ × Tree) → List (Plac
 entries_onto slot k [] rest = rest
 entries_onto slot k (a ∷ attrs) rest = (place_of slot k a, entry_of a) ∷ entries_onto slot (suc k) attrs rest
 
--- the attribute is the one that the test asks for, and keeps its ad or not
-abbrev pub is_kept : Test → Bool → Entry → Bool
-is_kept test wanted entry = beq (keeps test entry.literal) wanted && same_name (asked test) entry.name
+-- the attribute is the one of this name, and its literal keeps its ad
+abbrev pub is_kept : List ℕ → (Option Lit → Bool) → Entry → Bool
+is_kept n keep entry = keep entry.literal && same_name n entry.name
 
-abbrev pub kept_slots : Test → Bool → List (Place × Entry) → List ℕ
-kept_slots test wanted entries = map (λ e. e.0.slot) (filter (λ e. is_kept test wanted e.1) entries)
+abbrev pub kept_slots : List ℕ → (Option Lit → Bool) → List (Place × Entry) → List ℕ
+kept_slots n keep entries = map (λ e. e.0.slot) (filter (λ e. is_kept n keep e.1) entries)
 
-module _ (test : Test) (wanted : Bool) (slot : ℕ) (rest : List (Place × Entry)) where
+module _ (n : List ℕ) (keep : Option Lit → Bool) (slot : ℕ) (rest : List (Place × Entry)) where
   no_and : (b : Bool) → (b && false) ≡ false
   no_and true = refl
   no_and false = refl
@@ -131,46 +130,46 @@ module _ (test : Test) (wanted : Bool) (slot : ℕ) (rest : List (Place × Entry
       by true h = absurd (true≢false (sym ((bytes_eq-Decides a b).1 (sym (bytes_same b a h))) ∙ e))
 
   -- none of the attributes has the name
-  kept-none : (k : ℕ) (attrs : List (List ℕ × Tree)) → has_name (asked test) (names_of attrs) ≡ false → kept_slots test wanted (entries_onto slot k attrs rest) ≡ kept_slots test wanted rest
+  kept-none : (k : ℕ) (attrs : List (List ℕ × Tree)) → has_name n (names_of attrs) ≡ false → kept_slots n keep (entries_onto slot k attrs rest) ≡ kept_slots n keep rest
   kept-none k [] none = refl
-  kept-none k (a ∷ attrs) none = by (kept-none (suc k) attrs) (same_name a.0 (asked test)) refl
+  kept-none k (a ∷ attrs) none = by (kept-none (suc k) attrs) (same_name a.0 (n)) refl
     where
-      by : (has_name (asked test) (names_of attrs) ≡ false → kept_slots test wanted (entries_onto slot (suc k) attrs rest) ≡ kept_slots test wanted rest) → (b : Bool) → same_name a.0 (asked test) ≡ b
-          → kept_slots test wanted (entries_onto slot k (a ∷ attrs) rest) ≡ kept_slots test wanted rest
-      by others true e = absurd (true≢false (sym (ap (λ b. b || has_name (asked test) (names_of attrs)) e) ∙ none))
+      by : (has_name n (names_of attrs) ≡ false → kept_slots n keep (entries_onto slot (suc k) attrs rest) ≡ kept_slots n keep rest) → (b : Bool) → same_name a.0 (n) ≡ b
+          → kept_slots n keep (entries_onto slot k (a ∷ attrs) rest) ≡ kept_slots n keep rest
+      by others true e = absurd (true≢false (sym (ap (λ b. b || has_name n (names_of attrs)) e) ∙ none))
       by others false e =
-          ap (λ b. map (λ x. x.0.slot) (cond b ((place_of slot k a, entry_of a) ∷ filter (λ x. is_kept test wanted x.1) (entries_onto slot (suc k) attrs rest)) (filter (λ x. is_kept test wanted x.1) (entries_onto slot (suc k) attrs rest))))
-          (ap (λ b. beq (keeps test (literal_of a.1)) wanted && b) (flip (folded a.0) (folded (asked test)) e) ∙ no_and (beq (keeps test (literal_of a.1)) wanted))
-          ∙ others (sym (ap (λ b. b || has_name (asked test) (names_of attrs)) e) ∙ none)
+          ap (λ b. map (λ x. x.0.slot) (cond b ((place_of slot k a, entry_of a) ∷ filter (λ x. is_kept n keep x.1) (entries_onto slot (suc k) attrs rest)) (filter (λ x. is_kept n keep x.1) (entries_onto slot (suc k) attrs rest))))
+          (ap (λ b. keep (literal_of a.1) && b) (flip (folded a.0) (folded n) e) ∙ no_and (keep (literal_of a.1)))
+          ∙ others (sym (ap (λ b. b || has_name n (names_of attrs)) e) ∙ none)
 
   -- one at most has it
   pub kept-apart : (k : ℕ) (attrs : List (List ℕ × Tree)) → are_apart (names_of attrs) ≡ true
-      → kept_slots test wanted (entries_onto slot k attrs rest)
-      ≡ cond (option_map_or (λ t. beq (keeps test (literal_of t)) wanted) (first_named (asked test) attrs) false) (slot ∷ kept_slots test wanted rest) (kept_slots test wanted rest)
+      → kept_slots n keep (entries_onto slot k attrs rest)
+      ≡ cond (option_map_or (λ t. keep (literal_of t)) (first_named n attrs) false) (slot ∷ kept_slots n keep rest) (kept_slots n keep rest)
   kept-apart k [] apart = refl
-  kept-apart k (a ∷ attrs) apart = by (kept-apart (suc k) attrs) (same_name (asked test) a.0) refl (has_name a.0 (names_of attrs)) refl
+  kept-apart k (a ∷ attrs) apart = by (kept-apart (suc k) attrs) (same_name n a.0) refl (has_name a.0 (names_of attrs)) refl
     where
       shown : Bool → List ℕ
-      shown b = map (λ x. x.0.slot) (cond b ((place_of slot k a, entry_of a) ∷ filter (λ x. is_kept test wanted x.1) (entries_onto slot (suc k) attrs rest)) (filter (λ x. is_kept test wanted x.1) (entries_onto slot (suc k) attrs rest)))
+      shown b = map (λ x. x.0.slot) (cond b ((place_of slot k a, entry_of a) ∷ filter (λ x. is_kept n keep x.1) (entries_onto slot (suc k) attrs rest)) (filter (λ x. is_kept n keep x.1) (entries_onto slot (suc k) attrs rest)))
 
-      chosen : (c : Bool) → kept_slots test wanted (entries_onto slot (suc k) attrs rest) ≡ kept_slots test wanted rest → shown c ≡ cond c (slot ∷ kept_slots test wanted rest) (kept_slots test wanted rest)
+      chosen : (c : Bool) → kept_slots n keep (entries_onto slot (suc k) attrs rest) ≡ kept_slots n keep rest → shown c ≡ cond c (slot ∷ kept_slots n keep rest) (kept_slots n keep rest)
       chosen true e = ap (λ slots. slot ∷ slots) e
       chosen false e = e
 
       by : (are_apart (names_of attrs) ≡ true
-          → kept_slots test wanted (entries_onto slot (suc k) attrs rest)
-          ≡ cond (option_map_or (λ t. beq (keeps test (literal_of t)) wanted) (first_named (asked test) attrs) false) (slot ∷ kept_slots test wanted rest) (kept_slots test wanted rest))
-          → (b : Bool) → same_name (asked test) a.0 ≡ b → (c : Bool) → has_name a.0 (names_of attrs) ≡ c
-          → shown (beq (keeps test (literal_of a.1)) wanted && same_name (asked test) a.0)
-          ≡ cond (option_map_or (λ t. beq (keeps test (literal_of t)) wanted) (cond (same_name (asked test) a.0) (Some a.1) (first_named (asked test) attrs)) false) (slot ∷ kept_slots test wanted rest) (kept_slots test wanted rest)
+          → kept_slots n keep (entries_onto slot (suc k) attrs rest)
+          ≡ cond (option_map_or (λ t. keep (literal_of t)) (first_named n attrs) false) (slot ∷ kept_slots n keep rest) (kept_slots n keep rest))
+          → (b : Bool) → same_name n a.0 ≡ b → (c : Bool) → has_name a.0 (names_of attrs) ≡ c
+          → shown (keep (literal_of a.1) && same_name n a.0)
+          ≡ cond (option_map_or (λ t. keep (literal_of t)) (cond (same_name n a.0) (Some a.1) (first_named n attrs)) false) (slot ∷ kept_slots n keep rest) (kept_slots n keep rest)
       by others b e true h = absurd (true≢false (sym apart ∙ ap (λ c. not c && are_apart (names_of attrs)) h))
       by others true e false h =
-          ap (λ b. shown (beq (keeps test (literal_of a.1)) wanted && b)) e
-          ∙ ap shown (yes_and (beq (keeps test (literal_of a.1)) wanted))
-          ∙ chosen (beq (keeps test (literal_of a.1)) wanted) (kept-none (suc k) attrs (has-along (asked test) a.0 (names_of attrs) (bytes_same (folded (asked test)) (folded a.0) e) ∙ h))
-          ∙ sym (ap (λ b. cond (option_map_or (λ t. beq (keeps test (literal_of t)) wanted) (cond b (Some a.1) (first_named (asked test) attrs)) false) (slot ∷ kept_slots test wanted rest) (kept_slots test wanted rest)) e)
+          ap (λ b. shown (keep (literal_of a.1) && b)) e
+          ∙ ap shown (yes_and (keep (literal_of a.1)))
+          ∙ chosen (keep (literal_of a.1)) (kept-none (suc k) attrs (has-along n a.0 (names_of attrs) (bytes_same (folded n) (folded a.0) e) ∙ h))
+          ∙ sym (ap (λ b. cond (option_map_or (λ t. keep (literal_of t)) (cond b (Some a.1) (first_named n attrs)) false) (slot ∷ kept_slots n keep rest) (kept_slots n keep rest)) e)
       by others false e false h =
-          ap (λ b. shown (beq (keeps test (literal_of a.1)) wanted && b)) e
-          ∙ ap shown (no_and (beq (keeps test (literal_of a.1)) wanted))
+          ap (λ b. shown (keep (literal_of a.1) && b)) e
+          ∙ ap shown (no_and (keep (literal_of a.1)))
           ∙ others (sym (ap (λ c. not c && are_apart (names_of attrs)) h) ∙ apart)
-          ∙ sym (ap (λ b. cond (option_map_or (λ t. beq (keeps test (literal_of t)) wanted) (cond b (Some a.1) (first_named (asked test) attrs)) false) (slot ∷ kept_slots test wanted rest) (kept_slots test wanted rest)) e)
+          ∙ sym (ap (λ b. cond (option_map_or (λ t. keep (literal_of t)) (cond b (Some a.1) (first_named n attrs)) false) (slot ∷ kept_slots n keep rest) (kept_slots n keep rest)) e)

@@ -80,6 +80,20 @@ is_chosen test choice entry = is_of test choice entry.literal && same_name (aske
 abbrev pub chosen_slots : Test → Choice → List (Place × Entry) → List ℕ
 chosen_slots test choice entries = map (λ e. e.0.slot) (filter (λ e. is_chosen test choice e.1) entries)
 
+-- ---- pairs of tests
+
+-- the tests ask for one attribute, and its absence makes neither of them true
+abbrev pub is_pair : Test → Test → Bool
+is_pair first second = same_name (asked first) (asked second) && not (holds_with first Lit.Undefined) && not (holds_with second Lit.Undefined)
+
+-- the attribute is the one that both tests ask for, and its literal makes both true
+abbrev pub is_chosen_by_both : Test → Test → Entry → Bool
+is_chosen_by_both first second entry = is_chosen first Choice.True entry && is_chosen second Choice.True entry
+
+-- the slots of the attributes that are so
+abbrev pub slots_of_both : Test → Test → List (Place × Entry) → List ℕ
+slots_of_both first second entries = map (λ e. e.0.slot) (filter (λ e. is_chosen_by_both first second e.1) entries)
+
 -- ---- what stands at a place
 
 -- the place is that of one of these attributes of the ad under a slot

@@ -1,6 +1,6 @@
 -- Parts of the order of places: those that have to be looked through for a test.
 use Rattle.std.specs.Prelude.{ℕ, ◌≡◌, ◌-◌, ◌^◌, ℤ, pos, Bool, true, false, Some, ⊤}
-use Rattle.std.specs.Ordering.{int_cmp, is_le}
+use Rattle.std.specs.Ordering.{int_cmp, is_le, ord_max, ord_min}
 use Rattle.pool_text.specs.declared.language.BinOp.{BinOp}
 use Rattle.pool_text.specs.declared.language.Lit.{Lit}
 use Rattle.conjunct_plan.specs.declared.test.Test.{Test}
@@ -8,6 +8,7 @@ use Rattle.literal_index.specs.declared.place.Kind.{Kind}
 use Rattle.literal_index.specs.declared.place.Place.{Place}
 use Rattle.literal_index.specs.declared.span.Span.{Span}
 use Rattle.literal_index.specs.Entries.{kind_of, value_of}
+use Rattle.literal_index.specs.Order.{place_order}
 
 -- the first and the last place that an attribute of a name can have in a span
 abbrev pub first_place : ℕ → Span → Place
@@ -21,6 +22,14 @@ last_place name (Span.At kind value) = record { name = name; kind = kind; value 
 last_place name (Span.UpTo value) = record { name = name; kind = Kind.Number; value = value; slot = 2 ^ 64 - 1; attr = 2 ^ 32 - 1 }
 last_place name (Span.From value) = record { name = name; kind = Kind.Str; value = pos 0; slot = 2 ^ 64 - 1; attr = 2 ^ 32 - 1 }
 last_place name Span.Literals = record { name = name; kind = Kind.Str; value = pos (2 ^ 63 - 1); slot = 2 ^ 64 - 1; attr = 2 ^ 32 - 1 }
+
+-- the first place that an attribute of a name can have in both of two spans
+unfoldable pub first_in_both : ℕ → Span → Span → Place
+first_in_both name a b = ord_max place_order (first_place name a) (first_place name b)
+
+-- the last one; the first, where no place is in both
+unfoldable pub last_in_both : ℕ → Span → Span → Place
+last_in_both name a b = ord_max place_order (ord_min place_order (last_place name a) (last_place name b)) (first_in_both name a b)
 
 -- the attributes that are no literals
 abbrev pub open_span : Span

@@ -4,7 +4,7 @@ ghost use Rattle.std.specs.Option.{option_copied};
 ghost use Rattle.ad_tree.specs.Tree.{tree};
 ghost use Rattle.ad_value.specs.Plain.{plain_of_lit};
 ghost use Rattle.conjunct_plan.specs.Decided.{asked, value_with};
-ghost use Rattle.literal_index.specs.Entries.{entry_of, holds_with, is_chosen, is_of, kind_of, literal_of, place_of, value_of};
+ghost use Rattle.literal_index.specs.Entries.{entry_of, holds_with, is_chosen, is_chosen_by_both, is_of, is_pair, kind_of, literal_of, place_of, value_of};
 
 use crate::digest::{digest, number_of_text};
 use crate::place::{Kind, Place};
@@ -41,6 +41,13 @@ impl Entry {
         ensures { result ≡ is_chosen test.now choice self.now }
     {
         self.is_of(test, choice) && same_folded(asked(test).bytes(), self.name.bytes())
+    }
+
+    /// Whether the attribute is the one that both tests ask for, with a literal that makes both true.
+    pub fn is_chosen_by_both(&self, first: &Test, second: &Test) -> bool
+        ensures { result ≡ is_chosen_by_both first.now second.now self.now }
+    {
+        self.is_chosen(first, Choice::True) && self.is_chosen(second, Choice::True)
     }
 
     fn is_of(&self, test: &Test, choice: Choice) -> bool
@@ -106,6 +113,15 @@ pub fn holds(test: &Test, found: &Lit) -> bool
             ..
         } => is_true_of_literals(*op, lit, found),
     }
+}
+
+/// Whether two tests ask for one attribute, and its absence makes neither of them true. It takes no memory.
+pub fn is_pair(first: &Test, second: &Test) -> bool
+    ensures { result ≡ is_pair first.now second.now }
+{
+    same_folded(asked(first).bytes(), asked(second).bytes())
+        && !holds(first, &Lit::Undefined)
+        && !holds(second, &Lit::Undefined)
 }
 
 // The literal that an expression is, if it is one.

@@ -1,13 +1,17 @@
 // The index of the ads of a pool.
-ghost use Rattle.std.specs.Prelude.{◌≡◌, ◌∷◌, ◌++◌, ◌<◌, [], ℕ, length, min, IfOk, OnOk, OnErr, None, List};
+ghost use Rattle.std.specs.Prelude.{◌≡◌, ◌∷◌, ◌++◌, ◌<◌, [], ℕ, length, min, IfOk, IsTrue, OnOk, OnErr, None, List};
 ghost use Rattle.std.specs.List.Sorted.{IsPermutation, IsStrictlyIncreasing};
 ghost use Rattle.ad_tree.specs.Ad.{ad_frames};
-ghost use Rattle.literal_index.specs.Rows.{Row, ad_under, passing_slots, row_of};
+ghost use Rattle.literal_index.specs.Entries.{is_pair};
+ghost use Rattle.literal_index.specs.Rows.{Row, ad_under, passing_both, passing_slots, row_of};
 
 use crate::attributes::{put_attributes, take_attributes};
 use crate::entry::{Choice, Entry, holds};
 use crate::place::{Kind, Place};
-use crate::selection::{count_chosen, count_chosen_within, in_order, listed, others, push_chosen};
+use crate::selection::{
+    count_chosen, count_chosen_by_both_within, count_chosen_within, in_order, listed, others,
+    push_chosen, push_chosen_by_both,
+};
 use crate::span::Span;
 use ad_tree::Ad;
 use conjunct_plan::Test;
@@ -125,5 +129,32 @@ impl Index {
         let open = count_chosen_within(&self.entries, test, Choice::Open, OPEN, most);
         let passing = Span::passing(test);
         open + count_chosen_within(&self.entries, test, Choice::True, passing, most - open)
+    }
+
+    /// The slots of the ads that both tests of a pair (`is_pair`) leave, in rising order and without repeats.
+    ///
+    /// Both tests, such as the two ends of a range, are true only of literals that stand in the spans of both, so what
+    /// these have in common is all that is looked through.
+    pub fn hits_of_both(&self, first: &Test, second: &Test) -> Result<Slots, OutOfMemory>
+        requires { IsTrue (is_pair first.now second.now) }
+        ensures hits { IfOk result (λ slots. (rows : List Row) → IsIndex self.now rows
+            → IsPermutation (passing_both first.now second.now rows) slots) }
+        ensures rising { IfOk result (λ slots. (rows : List Row) → IsIndex self.now rows
+            → IsStrictlyIncreasing slots) }
+    {
+        let mut chosen = Vec::new(self.alloc);
+        push_chosen(&self.entries, first, Choice::Open, OPEN, &mut chosen)?;
+        push_chosen_by_both(&self.entries, first, second, &mut chosen)?;
+        listed(self.alloc, &in_order(chosen)?)
+    }
+
+    /// How many slots `hits_of_both` has to answer, or the most that is asked for where it is more. No memory is taken.
+    pub fn count_both_within(&self, first: &Test, second: &Test, most: usize) -> usize
+        requires { IsTrue (is_pair first.now second.now) }
+        ensures { (rows : List Row) → IsIndex self.now rows
+            → result ≡ min (length (passing_both first.now second.now rows)) most }
+    {
+        let open = count_chosen_within(&self.entries, first, Choice::Open, OPEN, most);
+        open + count_chosen_by_both_within(&self.entries, first, second, most - open)
     }
 }

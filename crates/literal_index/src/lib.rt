@@ -9,4 +9,5 @@ mod place;
 mod selection;
 mod span;
 
+pub use entry::is_pair;
 pub use index::Index;

@@ -5,9 +5,9 @@ ghost use Rattle.std.specs.BTreeSet.{IsOrdered as IsSetOrdered};
 ghost use Rattle.std.specs.Ordering.{nat_cmp};
 ghost use Rattle.std.specs.List.{list_any};
 ghost use Rattle.std.specs.List.Sorted.{IsNonDecreasing, IsPermutation};
-ghost use Rattle.literal_index.specs.Entries.{chosen_slots, is_chosen};
+ghost use Rattle.literal_index.specs.Entries.{chosen_slots, is_chosen, is_chosen_by_both, slots_of_both};
 ghost use Rattle.literal_index.specs.Order.{place_order};
-ghost use Rattle.literal_index.specs.Selections.{spanned};
+ghost use Rattle.literal_index.specs.Selections.{spanned, spanned_by_both};
 
 use crate::digest::digest;
 use crate::entry::{Choice, Entry, asked};
@@ -85,6 +85,54 @@ pub fn count_chosen_within(
     entries
         .range(bounds)
         .filter(|(_, entry)| entry.is_chosen(test, choice))
+        .take(most)
+        .count()
+}
+
+/// Adds the slots of the attributes that both tests ask for with a literal that makes both true.
+pub fn push_chosen_by_both(
+    entries: &BTreeMap<Place, Entry>,
+    first: &Test,
+    second: &Test,
+    slots: &mut Vec<usize>,
+) -> Result<(), OutOfMemory>
+    ensures ordered { IsOrdered place_order entries.now }
+    ensures slots { OnOk result (slots.new.items
+        ≡ slots.old.items ++ slots_of_both first.now second.now (spanned_by_both first.now second.now entries.now)) }
+{
+    let name = digest(asked(first).bytes());
+    let (one, other) = (Span::passing(first), Span::passing(second));
+    let bounds = (
+        Bound::Included(one.first_in_both(other, name)),
+        Bound::Included(one.last_in_both(other, name)),
+    );
+    for (place, entry) in entries.range(bounds) {
+        if entry.is_chosen_by_both(first, second) {
+            slots.push(place.slot)?;
+        }
+    }
+    Ok(())
+}
+
+/// How many slots that would add, or the most that is asked for where it is more. No memory is taken.
+pub fn count_chosen_by_both_within(
+    entries: &BTreeMap<Place, Entry>,
+    first: &Test,
+    second: &Test,
+    most: usize,
+) -> usize
+    ensures ordered { IsOrdered place_order entries.now }
+    ensures count { result ≡ min (count_by (λ e. is_chosen_by_both first.now second.now e.1) (spanned_by_both first.now second.now entries.now)) most }
+{
+    let name = digest(asked(first).bytes());
+    let (one, other) = (Span::passing(first), Span::passing(second));
+    let bounds = (
+        Bound::Included(one.first_in_both(other, name)),
+        Bound::Included(one.last_in_both(other, name)),
+    );
+    entries
+        .range(bounds)
+        .filter(|(_, entry)| entry.is_chosen_by_both(first, second))
         .take(most)
         .count()
 }

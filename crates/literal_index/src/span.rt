@@ -1,6 +1,6 @@
 // Parts of the order of places.
 ghost use Rattle.std.specs.Prelude.{◌≡◌};
-ghost use Rattle.literal_index.specs.Spans.{failing_span, first_place, last_place, passing_span, span_at, span_from, span_up_to};
+ghost use Rattle.literal_index.specs.Spans.{failing_span, first_in_both, first_place, last_in_both, last_place, passing_span, span_at, span_from, span_up_to};
 
 use crate::entry::{kind_of, value_of};
 use crate::place::{Kind, Place};
@@ -93,6 +93,23 @@ impl Span {
             slot: usize::MAX,
             attr: u32::MAX,
         }
+    }
+
+    /// The first place that an attribute of this name can have in both spans.
+    #[tactic(auto, unfolding(crate::specs::Spans::first_in_both))]
+    pub fn first_in_both(self, other: Span, name: u64) -> Place
+        ensures { result ≡ first_in_both name self other }
+    {
+        self.first(name).max(other.first(name))
+    }
+
+    /// The last one. Where no place is in both it is the first, since a range must not end before it begins.
+    #[tactic(auto, unfolding(crate::specs::Spans::last_in_both))]
+    pub fn last_in_both(self, other: Span, name: u64) -> Place
+        ensures { result ≡ last_in_both name self other }
+    {
+        let last = self.last(name).min(other.last(name));
+        last.max(self.first_in_both(other, name))
     }
 }
 

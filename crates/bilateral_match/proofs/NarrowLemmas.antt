@@ -1,69 +1,98 @@
--- The narrowest of some tests, test by test.
-use Rattle.std.proofs.Common.{◌≡◌, ◌<◌, ◌≤◌, ◌+◌, ℕ, min, List, [], ◌∷◌, length, take, get_or, Option, None, Some, Contains, IfNone, IfSome, Bor, refl, ap, sym, ◌∙◌, subst, arith}
+-- The narrowest of some look-ups, test by test.
+use Rattle.std.proofs.Common.{◌≡◌, ◌<◌, ◌≤◌, ◌+◌, ℕ, min, Bool, true, false, List, [], ◌∷◌, length, take, get_or, nat_lt, cond, Option, None, Some, Contains, IfNone, IfSome, IsTrue, Bor, refl, ap, sym, ◌∙◌, subst, arith}
+use Rattle.std.proofs.lemmas.List.{take_all}
 use Rattle.std.proofs.lemmas.List.Sums.{fold_more}
 use Rattle.ad_store.specs.Stock.{Advert}
 use Rattle.conjunct_plan.specs.declared.test.Test.{Test}
+use Rattle.literal_index.specs.Entries.{is_pair}
+use Rattle.literal_index.specs.Rows.{Row}
+use Rattle.bilateral_match.specs.declared.candidates.Best.{Best}
+use Rattle.bilateral_match.specs.declared.candidates.Lookup.{Lookup}
+use Rattle.bilateral_match.specs.Candidates.{AreAmong, better, better_pair, is_left, is_paired, slots_left}
 use Rattle.bilateral_match.specs.Counts.{least_left, least_within, left_by}
-
--- the least that the first tests leave, and one of the tests that leaves it; none where no test leaves fewer than the most
-pub record IsNarrowest (most : ℕ) (ads : List Advert) (tests : List Test) (i least : ℕ) (best : Option (Bor Test)) : Type 0 where
-  pub least_is : least ≡ least_within most ads (take i tests)
-  pub one : IfSome best (λ test. Contains tests test.now)
-  pub left : IfSome best (λ test. left_by ads test.now ≡ least)
-  pub fewer : IfSome best (λ test. left_by ads test.now < most)
-  pub all : IfNone best (most ≡ least)
+use Rattle.bilateral_match.specs.Rows.{rows_beside}
+use Rattle.bilateral_match.proofs.PlaceLemmas.{length-judged}
 
 within-le : (most : ℕ) (ads : List Advert) (tests : List Test) → least_within most ads tests ≤ most
 within-le most ads [] = omega arith
 within-le most ads (t ∷ tests) = omega (arith, within-le (min most (left_by ads t)) ads tests)
 
 -- the least within a smaller number is that number, or the least within a greater one
-pub within-lower : (m n : ℕ) (ads : List Advert) (tests : List Test) → m ≤ n → least_within m ads tests ≡ min m (least_within n ads tests)
+within-lower : (m n : ℕ) (ads : List Advert) (tests : List Test) → m ≤ n → least_within m ads tests ≡ min m (least_within n ads tests)
 within-lower m n ads [] below = omega (arith, below)
 within-lower m n ads (t ∷ tests) below =
     omega (arith, within-lower (min m (left_by ads t)) (min n (left_by ads t)) ads tests (omega (arith, below)), within-le (min n (left_by ads t)) ads tests)
 
--- a test that leaves the least within some number, and fewer than that, leaves the least of all
-pub least-of-all : (most : ℕ) (ads : List Advert) (tests : List Test) (n : ℕ) → most ≤ length ads → n ≡ least_within most ads tests → n < most → n ≡ least_left ads tests
-least-of-all most ads tests n below is fewer = omega (arith, is, fewer, within-lower most (length ads) ads tests below)
+-- what leaves no more than the least within some number leaves no more than the least of all
+pub few-of-all : (most : ℕ) (rows : List Row) (ads : List Advert) (tests : List Test) (best : Option Lookup) → most ≤ length ads
+    → IfSome best (λ lookup. length (slots_left lookup rows) ≤ least_within most ads tests) → IfSome best (λ lookup. length (slots_left lookup rows) ≤ least_left ads tests)
+few-of-all most rows ads tests None below few = tt
+few-of-all most rows ads tests (Some lookup) below few = omega (arith, few, within-lower most (length ads) ads tests below)
 
-pub some-of-all : (most : ℕ) (ads : List Advert) (tests : List Test) (best : Option (Bor Test)) → most ≤ length ads → IfSome best (λ test. left_by ads test.now ≡ least_within most ads tests) → IfSome best (λ test. left_by ads test.now < most) → IfSome best (λ test. left_by ads test.now ≡ least_left ads tests)
-some-of-all most ads tests None below is fewer = tt
-some-of-all most ads tests (Some test) below is fewer = least-of-all most ads tests (left_by ads test.now) below is fewer
+-- ---- the best so far
 
-module _ (most : ℕ) (ads : List Advert) (tests : List Test) (i least : ℕ) (best : Option (Bor Test)) (so_far : IsNarrowest most ads tests i least best) (within : i < length tests) (item : Test) (is : item ≡ get_or tests i item) (count : ℕ) (leaves : count ≡ min (left_by ads item) least) where
-  next : least_within most ads (take (i + 1) tests) ≡ min (least_within most ads (take i tests)) (left_by ads item)
-  next =
-      fold_more (λ least test. min least (left_by ads test)) most tests i item within
-      ∙ subst (λ (t : Test). min (least_within most ads (take i tests)) (left_by ads t) ≡ min (least_within most ads (take i tests)) (left_by ads item)) is refl
+-- a look-up of these tests, and how many ads it leaves; none where that is the most that counts
+pub record IsBest (most : ℕ) (rows : List Row) (tests : List Test) (best : Best) : Type 0 where
+  pub among : IfSome best.lookup (AreAmong tests)
+  pub paired : IfSome best.lookup (λ lookup. IsTrue (is_paired lookup))
+  pub leaves : IfSome best.lookup (λ lookup. length (slots_left lookup rows) ≡ best.left)
+  pub all : IfNone best.lookup (best.left ≡ most)
 
-  pub narrower : count < least → (test : Bor Test) → test.now ≡ item → IsNarrowest most ads tests (i + 1) count (Some test)
-  narrower fewer test here = record {
-    least_is = omega (arith, next, so_far.least_is, leaves, fewer);
-    one = (i, within, at);
-    left = ap (left_by ads) here ∙ sym exact;
-    fewer = omega (arith, ap (left_by ads) here, exact, fewer, least-le);
-    all = tt;
-  }
+module _ (most : ℕ) (rows : List Row) (tests : List Test) where
+  better-best : (best : Best) (lookup : Lookup) → IsBest most rows tests best → AreAmong tests lookup → IsTrue (is_paired lookup)
+      → IsBest most rows tests (better rows best lookup) × ((better rows best lookup).left ≤ best.left) × ((better rows best lookup).left ≤ length (slots_left lookup rows))
+  better-best best lookup so_far among paired = by (nat_lt (length (slots_left lookup rows)) best.left) refl
     where
-      exact : count ≡ left_by ads item
-      exact = omega (arith, leaves, fewer)
+      IsBetter : Best → Type 0
+      IsBetter it = IsBest most rows tests it × (it.left ≤ best.left) × (it.left ≤ length (slots_left lookup rows))
 
-      least-le : least ≤ most
-      least-le = omega (arith, so_far.least_is, within-le most ads (take i tests))
+      made : Best
+      made = record { lookup = Some lookup; left = length (slots_left lookup rows) }
 
-      at : get_or tests i test.now ≡ test.now
-      at = ap (get_or tests i) here ∙ sym is ∙ sym here
+      by : (b : Bool) → nat_lt (length (slots_left lookup rows)) best.left ≡ b → IsBetter (cond b made best)
+      by true e = (record { among = among; paired = paired; leaves = refl; all = tt }, grind arith, omega arith)
+      by false e = (so_far, omega arith, grind arith)
 
-  pub no-narrower : least ≤ count → IsNarrowest most ads tests (i + 1) least best
-  no-narrower more = record {
-    least_is = omega (arith, next, so_far.least_is, leaves, more);
-    one = so_far.one;
-    left = so_far.left;
-    fewer = so_far.fewer;
-    all = so_far.all;
-  }
+  pair-best : (best : Best) (before : Option (Bor Test)) (test : Bor Test) → IsBest most rows tests best → IfSome before (λ other. Contains tests other.now) → Contains tests test.now
+      → IsBest most rows tests (better_pair rows best before test) × ((better_pair rows best before test).left ≤ best.left)
+  pair-best best None test so_far behind here = (so_far, omega arith)
+  pair-best best (Some before) test so_far behind here = by (is_pair before.now test.now) refl
+    where
+      by : (b : Bool) → is_pair before.now test.now ≡ b
+          → IsBest most rows tests (cond b (better rows best (Lookup.Both before test)) best) × ((cond b (better rows best (Lookup.Both before test)) best).left ≤ best.left)
+      by true e = let it = better-best best (Lookup.Both before test) so_far (behind, here) e in (it.0, it.1)
+      by false e = (so_far, omega arith)
 
-pub the-same : (most : ℕ) (ads : List Advert) (tests : List Test) (i least least' : ℕ) (best best' : Option (Bor Test)) → least ≡ least' → best ≡ best' → IsNarrowest most ads tests i least' best' → IsNarrowest most ads tests i least best
-the-same most ads tests i least least' best best' p q h =
-    subst (λ (n : ℕ). IsNarrowest most ads tests i n best) (sym p) (subst (λ (b : Option (Bor Test)). IsNarrowest most ads tests i least' b) (sym q) h)
+-- one more test
+module _ (most : ℕ) (ads : List Advert) (slots : List ℕ) (same : length ads ≡ length slots) (tests : List Test) (i : ℕ) (within : i < length tests) (test : Bor Test) (is : test.now ≡ get_or tests i test.now) where
+  abbrev rows : List Row
+  rows = rows_beside ads slots
+
+  here : Contains tests test.now
+  here = (i, within, sym is)
+
+  next : least_within most ads (take (i + 1) tests) ≡ min (least_within most ads (take i tests)) (left_by ads test.now)
+  next =
+      fold_more (λ least t. min least (left_by ads t)) most tests i test.now within
+      ∙ subst (λ (t : Test). min (least_within most ads (take i tests)) (left_by ads t) ≡ min (least_within most ads (take i tests)) (left_by ads test.now)) is refl
+
+  pub next-best : (best second third : Best) (before : Option (Bor Test)) → IsBest most rows tests best → best.left ≤ least_within most ads (take i tests) → IfSome before (λ other. Contains tests other.now)
+      → second ≡ better rows best (Lookup.One test) → third ≡ better_pair rows second before test
+      → IsBest most rows tests third × (third.left ≤ least_within most ads (take (i + 1) tests))
+  next-best best second third before so_far few behind one two =
+      let it = better-best most rows tests best (Lookup.One test) so_far here refl in
+      let second_best : IsBest most rows tests second = subst (IsBest most rows tests) (sym one) it.0 in
+      let pair = pair-best most rows tests second before test second_best behind here in
+      let low : second.left ≤ best.left = subst (λ (b : Best). b.left ≤ best.left) (sym one) it.1 in
+      let own : second.left ≤ length (slots_left (Lookup.One test) rows) = subst (λ (b : Best). b.left ≤ length (slots_left (Lookup.One test) rows)) (sym one) it.2 in
+      let last : third.left ≤ second.left = subst (λ (b : Best). b.left ≤ second.left) (sym two) pair.1 in
+      (subst (IsBest most rows tests) (sym two) pair.0, omega (arith, next, low, own, last, few, length-judged (is_left (Lookup.One test)) ads slots same))
+
+-- where no look-up is the best of all tests, none of them leaves fewer than the most
+pub best-all : (most : ℕ) (rows : List Row) (ads : List Advert) (tests : List Test) (i : ℕ) (best : Best) → IsBest most rows tests best → best.left ≤ least_within most ads (take i tests) → length tests ≤ i
+    → IfNone best.lookup (most ≡ least_within most ads tests)
+best-all most rows ads tests i best it few whole = by best.lookup it.all
+  where
+    by : (found : Option Lookup) → IfNone found (best.left ≡ most) → IfNone found (most ≡ least_within most ads tests)
+    by None all = omega (arith, all, few, ap (least_within most ads) (take_all i tests whole), within-le most ads tests)
+    by (Some lookup) all = tt

@@ -1,5 +1,5 @@
 -- The places of the ads that a test leaves, and those of the slots that an index gives for it.
-use Rattle.std.proofs.Common.{◌≡◌, ◌<◌, ◌≤◌, ◌+◌, ℕ, zero, suc, Bool, true, false, not, ◌||◌, refl, List, [], ◌∷◌, ◌++◌, length, map, filter, get_or, Some, slice_get, count_by, cond, if◌then◌else◌, nat_eq, All, Contains, ap, sym, ◌∙◌, subst, arith, add-zero, zero-add, add-one, eq-eqb}
+use Rattle.std.proofs.Common.{◌≡◌, ◌<◌, ◌≤◌, ◌+◌, ℕ, zero, suc, Bool, true, false, not, ◌||◌, ◌&&◌, refl, List, [], ◌∷◌, ◌++◌, length, map, filter, get_or, Some, slice_get, count_by, cond, if◌then◌else◌, nat_eq, All, Contains, ap, sym, ◌∙◌, subst, arith, add-zero, zero-add, add-one, eq-eqb}
 use Rattle.std.proofs.lemmas.Bool.{eqb-true}
 use Rattle.std.specs.List.{list_any, range_with_len}
 use Rattle.std.specs.List.Sorted.{IsPermutation}
@@ -12,14 +12,11 @@ use Rattle.ad_store.specs.Stock.{Advert}
 use Rattle.conjunct_plan.specs.declared.test.Test.{Test}
 use Rattle.conjunct_plan.specs.Decided.{is_decided, is_dock_decided, rules_out}
 use Rattle.conjunct_plan.specs.Tests.{tests_of}
-use Rattle.literal_index.specs.Rows.{passes, passing_slots, row_of}
-use Rattle.bilateral_match.specs.Candidates.{AreCandidatesAt, places_where}
-use Rattle.bilateral_match.specs.Counts.{least_left, left_by}
+use Rattle.literal_index.specs.Rows.{Row, row_of}
+use Rattle.bilateral_match.specs.declared.candidates.Lookup.{Lookup}
+use Rattle.bilateral_match.specs.Candidates.{AreAmong, AreCandidatesAt, is_left, places_where, slots_left}
+use Rattle.bilateral_match.specs.Counts.{least_left}
 use Rattle.bilateral_match.specs.Rows.{rows_beside}
-
--- a test doesn't decide against the ad
-abbrev pub leaves : Test → Advert → Bool
-leaves test advert = not (is_decided test advert.ad 0)
 
 -- ---- places
 
@@ -80,47 +77,56 @@ places-are all apart (p ∷ places) (s ∷ slots) e =
 
 -- ---- rows
 
-module _ (test : Test) where
+-- ads are judged by their frames
+module _ (judge : List Frame → Bool) where
+  abbrev judged : Advert → Bool
+  judged advert = judge advert.ad
+
+  -- the slots of those that are judged well
+  abbrev judged_slots : List Row → List ℕ
+  judged_slots rows = map (λ row. row.slot) (filter (λ row. judge row.ad) rows)
+
   rows-places : (all : List ℕ) (k : ℕ) (ads : List Advert) (slots : List ℕ) → length ads ≡ length slots → ((i slot : ℕ) → slice_get slots i ≡ Some slot → place_in all slot ≡ k + i)
-      → map (place_in all) (passing_slots test (rows_beside ads slots)) ≡ places_where (leaves test) k ads
+      → map (place_in all) (judged_slots (rows_beside ads slots)) ≡ places_where judged k ads
   rows-places all k [] [] same at = refl
   rows-places all k [] (s ∷ slots) same at = absurd (omega (arith, same))
   rows-places all k (a ∷ ads) [] same at = absurd (omega (arith, same))
   rows-places all k (a ∷ ads) (s ∷ slots) same at =
-      by (rows-places all (suc k) ads slots (omega (arith, same)) (λ i slot is. let moved : k + suc i ≡ suc k + i = omega arith in at (suc i) slot is ∙ moved)) (leaves test a)
+      by (rows-places all (suc k) ads slots (omega (arith, same)) (λ i slot is. let moved : k + suc i ≡ suc k + i = omega arith in at (suc i) slot is ∙ moved)) (judged a)
     where
       here : place_in all s ≡ k
       here = at 0 s refl ∙ add-zero k
 
-      by : map (place_in all) (passing_slots test (rows_beside ads slots)) ≡ places_where (leaves test) (suc k) ads → (b : Bool) → map (place_in all) (map (λ row. row.slot) (cond b (row_of s a.ad ∷ filter (passes test) (rows_beside ads slots)) (filter (passes test) (rows_beside ads slots)))) ≡ (if b then k ∷ places_where (leaves test) (suc k) ads else places_where (leaves test) (suc k) ads)
+      by : map (place_in all) (judged_slots (rows_beside ads slots)) ≡ places_where judged (suc k) ads → (b : Bool) → map (place_in all) (map (λ row. row.slot) (cond b (row_of s a.ad ∷ filter (λ row. judge row.ad) (rows_beside ads slots)) (filter (λ row. judge row.ad) (rows_beside ads slots)))) ≡ (if b then k ∷ places_where judged (suc k) ads else places_where judged (suc k) ads)
       by rest true = let first = here in cc
       by rest false = rest
 
-  pub length-passing : (ads : List Advert) (slots : List ℕ) → length ads ≡ length slots → length (passing_slots test (rows_beside ads slots)) ≡ left_by ads test
-  length-passing [] [] same = refl
-  length-passing [] (s ∷ slots) same = absurd (omega (arith, same))
-  length-passing (a ∷ ads) [] same = absurd (omega (arith, same))
-  length-passing (a ∷ ads) (s ∷ slots) same = by (length-passing ads slots (omega (arith, same))) (leaves test a) ∙ sym (sum_by-cons (λ (advert : Advert). cond (leaves test advert) 1 0) a ads)
+  pub length-judged : (ads : List Advert) (slots : List ℕ) → length ads ≡ length slots → length (judged_slots (rows_beside ads slots)) ≡ count_by judged ads
+  length-judged [] [] same = refl
+  length-judged [] (s ∷ slots) same = absurd (omega (arith, same))
+  length-judged (a ∷ ads) [] same = absurd (omega (arith, same))
+  length-judged (a ∷ ads) (s ∷ slots) same = by (length-judged ads slots (omega (arith, same))) (judged a) ∙ sym (sum_by-cons (λ (advert : Advert). cond (judged advert) 1 0) a ads)
     where
-      by : length (passing_slots test (rows_beside ads slots)) ≡ left_by ads test → (b : Bool) → length (map (λ row. row.slot) (cond b (row_of s a.ad ∷ filter (passes test) (rows_beside ads slots)) (filter (passes test) (rows_beside ads slots)))) ≡ cond b 1 0 + left_by ads test
+      by : length (judged_slots (rows_beside ads slots)) ≡ count_by judged ads → (b : Bool) → length (map (λ row. row.slot) (cond b (row_of s a.ad ∷ filter (λ row. judge row.ad) (rows_beside ads slots)) (filter (λ row. judge row.ad) (rows_beside ads slots)))) ≡ cond b 1 0 + count_by judged ads
       by rest true = omega (arith, rest)
       by rest false = omega (arith, rest)
 
   -- the slots are slots of ads
-  passing-held : (all : List ℕ) (ads : List Advert) (slots : List ℕ) → ((i slot : ℕ) → slice_get slots i ≡ Some slot → Contains all slot) → All (Contains all) (passing_slots test (rows_beside ads slots))
-  passing-held all [] slots at = All-nil (Contains all)
-  passing-held all (a ∷ ads) [] at = All-nil (Contains all)
-  passing-held all (a ∷ ads) (s ∷ slots) at = by (passing-held all ads slots (λ i slot is. at (suc i) slot is)) (leaves test a)
+  judged-held : (all : List ℕ) (ads : List Advert) (slots : List ℕ) → ((i slot : ℕ) → slice_get slots i ≡ Some slot → Contains all slot) → All (Contains all) (judged_slots (rows_beside ads slots))
+  judged-held all [] slots at = All-nil (Contains all)
+  judged-held all (a ∷ ads) [] at = All-nil (Contains all)
+  judged-held all (a ∷ ads) (s ∷ slots) at = by (judged-held all ads slots (λ i slot is. at (suc i) slot is)) (judged a)
     where
-      by : All (Contains all) (passing_slots test (rows_beside ads slots)) → (b : Bool) → All (Contains all) (map (λ row. row.slot) (cond b (row_of s a.ad ∷ filter (passes test) (rows_beside ads slots)) (filter (passes test) (rows_beside ads slots))))
-      by rest true = All-cons (Contains all) s (passing_slots test (rows_beside ads slots)) (at 0 s refl) rest
+      by : All (Contains all) (judged_slots (rows_beside ads slots)) → (b : Bool) → All (Contains all) (map (λ row. row.slot) (cond b (row_of s a.ad ∷ filter (λ row. judge row.ad) (rows_beside ads slots)) (filter (λ row. judge row.ad) (rows_beside ads slots))))
+      by rest true = All-cons (Contains all) s (judged_slots (rows_beside ads slots)) (at 0 s refl) rest
       by rest false = rest
 
 contains-at : (all : List ℕ) (i slot : ℕ) → slice_get all i ≡ Some slot → Contains all slot
 contains-at all i slot is = (i, slice_get_within all i slot is, get_or_from_slice_get all i slot slot is)
 
-pub hits-held : (test : Test) (ads : List Advert) (all slots : List ℕ) → IsPermutation (passing_slots test (rows_beside ads all)) slots → All (Contains all) slots
-hits-held test ads all slots moved = All-permutation (Contains all) (passing_slots test (rows_beside ads all)) slots moved (passing-held test all ads all (λ i slot is. contains-at all i slot is))
+pub hits-held : (lookup : Lookup) (ads : List Advert) (all slots : List ℕ) → IsPermutation (slots_left lookup (rows_beside ads all)) slots → All (Contains all) slots
+hits-held lookup ads all slots moved =
+    All-permutation (Contains all) (slots_left lookup (rows_beside ads all)) slots moved (judged-held (is_left lookup) all ads all (λ i slot is. contains-at all i slot is))
 
 -- ---- candidates
 
@@ -134,13 +140,22 @@ any-at p (t ∷ tests) (suc k) test within is passed = by (p t) (any-at p tests 
     by false e = e
 
 -- an ad that a test of the request doesn't leave has a decided dock
-not-left : (request : List Frame) (frame : ℕ) (labels : List (List ℕ)) (test : Test) → Contains (tests_of request frame labels) test → (advert : Advert) → leaves test advert ≡ false → not (is_dock_decided request frame labels advert.ad) ≡ false
+not-left : (request : List Frame) (frame : ℕ) (labels : List (List ℕ)) (test : Test) → Contains (tests_of request frame labels) test → (advert : Advert) → not (is_decided test advert.ad 0) ≡ false → not (is_dock_decided request frame labels advert.ad) ≡ false
 not-left request frame labels test one advert e =
     ap (λ (b : Bool). not (b || rules_out advert.ad 0 [] request frame)) (any-at (λ t. is_decided t advert.ad 0) (tests_of request frame labels) one.0 test one.1 one.2 (not-false (is_decided test advert.ad 0) e))
   where
     not-false : (b : Bool) → not b ≡ false → b ≡ true
     not-false true e = refl
     not-false false e = absurd (cc)
+
+-- nor one that a look-up doesn't leave
+none-left : (request : List Frame) (frame : ℕ) (labels : List (List ℕ)) (lookup : Lookup) → AreAmong (tests_of request frame labels) lookup → (advert : Advert) → is_left lookup advert.ad ≡ false → not (is_dock_decided request frame labels advert.ad) ≡ false
+none-left request frame labels (Lookup.One test) among advert e = not-left request frame labels test.now among advert e
+none-left request frame labels (Lookup.Both first second) among advert e = by (not (is_decided first.now advert.ad 0)) refl
+  where
+    by : (b : Bool) → not (is_decided first.now advert.ad 0) ≡ b → not (is_dock_decided request frame labels advert.ad) ≡ false
+    by true h = not-left request frame labels second.now among.1 advert (sym (ap (λ (b : Bool). b && not (is_decided second.now advert.ad 0)) h) ∙ e)
+    by false h = not-left request frame labels first.now among.0 advert h
 
 -- one more number
 pub range-next : (a n : ℕ) → range_with_len a (suc n) ≡ range_with_len a n ++ (a + n) ∷ []
@@ -150,19 +165,22 @@ range-next a (suc n) =
     ap (λ (l : List ℕ). a ∷ l) (range-next (a + 1) n ∙ ap (λ (k : ℕ). range_with_len (a + 1) n ++ k ∷ []) same)
 
 module _ (request : List Frame) (frame : ℕ) (labels : List (List ℕ)) (ads : List Advert) (all : List ℕ) (same : length ads ≡ length all) where
-  -- the places of the slots that a test of the request leaves
-  pub left-candidates : (test : Test) (slots places : List ℕ) → AreApart all → Contains (tests_of request frame labels) test → left_by ads test ≡ least_left ads (tests_of request frame labels)
-      → IsPermutation (passing_slots test (rows_beside ads all)) slots → map (slice_get all) places ≡ map Some slots → AreCandidatesAt request frame labels ads places
-  left-candidates test slots places apart one least moved spelled =
+  -- the places of the slots that a look-up leaves
+  pub left-candidates : (lookup : Lookup) (slots places : List ℕ) → AreApart all → AreAmong (tests_of request frame labels) lookup
+      → length (slots_left lookup (rows_beside ads all)) ≤ least_left ads (tests_of request frame labels)
+      → IsPermutation (slots_left lookup (rows_beside ads all)) slots → map (slice_get all) places ≡ map Some slots → AreCandidatesAt request frame labels ads places
+  left-candidates lookup slots places apart among least moved spelled =
+      let passes : Advert → Bool = λ advert. is_left lookup advert.ad in
+      let left : List ℕ = slots_left lookup (rows_beside ads all) in
       let are : places ≡ map (place_in all) slots = places-are all apart places slots spelled in
-      let where_left : map (place_in all) (passing_slots test (rows_beside ads all)) ≡ places_where (leaves test) 0 ads = rows-places test all 0 ads all same (λ i slot is. place_in-is all apart i slot is ∙ sym (zero-add i)) in
-      let step : IsPermutation (map (place_in all) (passing_slots test (rows_beside ads all))) (map (place_in all) slots) = IsPermutation-map (place_in all) (passing_slots test (rows_beside ads all)) slots moved in
-      let permuted : IsPermutation (places_where (leaves test) 0 ads) places = subst (λ (xs : List ℕ). IsPermutation xs places) where_left (subst (λ (ys : List ℕ). IsPermutation (map (place_in all) (passing_slots test (rows_beside ads all))) ys) (sym are) step) in
+      let where_left : map (place_in all) left ≡ places_where passes 0 ads = rows-places (is_left lookup) all 0 ads all same (λ i slot is. place_in-is all apart i slot is ∙ sym (zero-add i)) in
+      let step : IsPermutation (map (place_in all) left) (map (place_in all) slots) = IsPermutation-map (place_in all) left slots moved in
+      let permuted : IsPermutation (places_where passes 0 ads) places = subst (λ (xs : List ℕ). IsPermutation xs places) where_left (subst (λ (ys : List ℕ). IsPermutation (map (place_in all) left) ys) (sym are) step) in
       record {
-        passes = leaves test;
+        passes = passes;
         all = permuted;
-        others = λ advert e. not-left request frame labels test one advert e;
-        few = omega (arith, length_permutation (places_where (leaves test) 0 ads) places permuted, length-places (leaves test) 0 ads, least);
+        others = λ advert e. none-left request frame labels lookup among advert e;
+        few = omega (arith, length_permutation (places_where passes 0 ads) places permuted, length-places passes 0 ads, length-judged (is_left lookup) ads all same, least);
       }
 
   -- all places

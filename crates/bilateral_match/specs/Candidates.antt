@@ -1,10 +1,16 @@
 -- Which ads a query looks at.
-use Rattle.std.specs.Prelude.{ℕ, ◌≡◌, ◌≤◌, Bool, false, not, suc, List, [], ◌∷◌, length, if◌then◌else◌}
+use Rattle.std.specs.Prelude.{ℕ, ◌≡◌, ◌≤◌, Bool, true, false, not, ◌&&◌, suc, List, [], ◌∷◌, length, map, filter, nat_lt, Option, None, Some, if◌then◌else◌, Contains}
+use Rattle.std.specs.Borrow.{Bor}
 use Rattle.std.specs.List.Sorted.{IsPermutation}
 use Rattle.ad_tree.specs.Frames.{Frame}
 use Rattle.ad_store.specs.Stock.{Advert}
-use Rattle.conjunct_plan.specs.Decided.{is_dock_decided}
+use Rattle.conjunct_plan.specs.declared.test.Test.{Test}
+use Rattle.conjunct_plan.specs.Decided.{is_decided, is_dock_decided}
 use Rattle.conjunct_plan.specs.Tests.{tests_of}
+use Rattle.literal_index.specs.Entries.{is_pair}
+use Rattle.literal_index.specs.Rows.{Row}
+use Rattle.bilateral_match.specs.declared.candidates.Best.{Best}
+use Rattle.bilateral_match.specs.declared.candidates.Lookup.{Lookup}
 use Rattle.bilateral_match.specs.Counts.{least_left}
 
 -- the places of the ads that pass, which stand from place k on
@@ -22,3 +28,35 @@ pub record AreCandidatesAt (request : List Frame) (frame : ℕ) (labels : List (
 -- the same for the root of a request without ports
 abbrev pub AreCandidates : List Frame → List Advert → List ℕ → Type 0
 AreCandidates request ads places = AreCandidatesAt request 0 [] ads places
+
+-- ---- what the index is asked for
+
+-- the ad's root decides against no test of a look-up
+abbrev pub is_left : Lookup → List Frame → Bool
+is_left (Lookup.One test) ad = not (is_decided test.now ad 0)
+is_left (Lookup.Both first second) ad = not (is_decided first.now ad 0) && not (is_decided second.now ad 0)
+
+-- the slots of such ads
+abbrev pub slots_left : Lookup → List Row → List ℕ
+slots_left lookup rows = map (λ row. row.slot) (filter (λ row. is_left lookup row.ad) rows)
+
+-- two tests of a look-up are a pair
+abbrev pub is_paired : Lookup → Bool
+is_paired (Lookup.One test) = true
+is_paired (Lookup.Both first second) = is_pair first.now second.now
+
+-- the tests of a look-up are among these
+abbrev pub AreAmong : List Test → Lookup → Type 0
+AreAmong tests (Lookup.One test) = Contains tests test.now
+AreAmong tests (Lookup.Both first second) = Contains tests first.now × Contains tests second.now
+
+-- the better of the best look-up so far and another: that which leaves fewer ads
+abbrev pub better : List Row → Best → Lookup → Best
+better rows best lookup =
+    let left = length (slots_left lookup rows) in
+    if nat_lt left best.left then record { lookup = Some lookup; left = left } else best
+
+-- the better of the best so far and a test with the one before it, where the two are a pair
+abbrev pub better_pair : List Row → Best → Option (Bor Test) → Bor Test → Best
+better_pair rows best None test = best
+better_pair rows best (Some before) test = if is_pair before.now test.now then better rows best (Lookup.Both before test) else best

@@ -1,19 +1,20 @@
-// Which ads a query looks at: those that its narrowest test leaves.
-ghost use Rattle.std.specs.Prelude.{◌≡◌, ◌<◌, [], length, slice_get, map, All, IfOk, IfNone, IfSome, Some, Contains};
+// Which ads a query looks at: those that its narrowest test leaves, or two tests of one attribute together.
+ghost use Rattle.std.specs.Prelude.{◌≡◌, ◌<◌, ◌≤◌, [], List, length, min, slice_get, map, All, IfOk, IfNone, IfSome, IsTrue, Some, Contains};
 ghost use Rattle.std.specs.List.{range_with_len};
+ghost use Rattle.std.specs.List.Sorted.{IsPermutation};
 ghost use Rattle.ad_tree.specs.Ad.{ad_frames};
 ghost use Rattle.ad_store.specs.Store.{stock_of};
-ghost use Rattle.literal_index.specs.Rows.{passing_slots};
+ghost use Rattle.literal_index.specs.Rows.{Row};
 ghost use Rattle.literal_index.specs.Shown.{IsIndex};
 ghost use Rattle.conjunct_plan.specs.Tests.{labels_of};
-ghost use Rattle.bilateral_match.specs.Candidates.{AreCandidates, AreCandidatesAt};
-ghost use Rattle.bilateral_match.specs.Counts.{least_left, least_within, left_by};
+ghost use Rattle.bilateral_match.specs.Candidates.{AreAmong, AreCandidates, AreCandidatesAt, better, better_pair, is_paired, slots_left};
+ghost use Rattle.bilateral_match.specs.Counts.{least_left, least_within};
 ghost use Rattle.bilateral_match.specs.Rows.{rows_of};
 
 use ad_store::Store;
 use ad_tree::Request;
 use conjunct_plan::{Test, Tests, plan};
-use literal_index::Index;
+use literal_index::{Index, is_pair};
 use pool_text::{OutOfMemory, Slots};
 use std::alloc::Global;
 use std::convert::AsSlice;
@@ -54,18 +55,84 @@ pub fn candidates_at(
     let count = store.len();
     store.slots_are_apart();
     let tests = plan(alloc, &request.ad, frame, &request.ports)?;
-    let Some(test) = narrowest(store, index, &tests) else {
+    let Some(lookup) = narrowest(store, index, &tests) else {
         return Ok(all_places(alloc, count)?);
     };
-    let slots = index.hits(test)?;
+    let slots = lookup.hits(index)?;
     Ok(places_of(alloc, store, &slots)?)
 }
 
-// The test that leaves the fewest ads, where some test leaves fewer than all.
-fn narrowest<'a>(store: &Store, index: &Index, tests: &'a Tests) -> Option<&'a Test>
+// What the index is asked for: the ads that one test leaves, or that both tests of a pair leave.
+#[derive(Drop)]
+enum Lookup<'a> {
+    One(&'a Test),
+    Both(&'a Test, &'a Test),
+}
+
+impl Lookup<'_> {
+    // The slots of the ads that are left.
+    fn hits(self, index: &Index) -> Result<Slots, OutOfMemory>
+        requires { IsTrue (is_paired self) }
+        ensures { IfOk result (λ slots. (rows : List Row) → IsIndex index.now rows → IsPermutation (slots_left self.entry rows) slots) }
+    {
+        match self {
+            Lookup::One(test) => index.hits(test),
+            Lookup::Both(first, second) => index.hits_of_both(first, second),
+        }
+    }
+
+    // How many they are, or the most that is asked for where it is more.
+    fn count_within(&self, index: &Index, most: usize) -> usize
+        requires { IsTrue (is_paired self.now) }
+        ensures { (rows : List Row) → IsIndex index.now rows → result ≡ min (length (slots_left self.now rows)) most }
+    {
+        match self {
+            Lookup::One(test) => index.count_within(test, most),
+            Lookup::Both(first, second) => index.count_both_within(first, second, most),
+        }
+    }
+}
+
+// The look-up that leaves the fewest ads so far, and how many it leaves; none where each leaves the most that counts.
+#[derive(Drop)]
+struct Best<'a> {
+    lookup: Option<Lookup<'a>>,
+    left: usize,
+}
+
+impl<'a> Best<'a> {
+    // Another look-up in its place, where that leaves fewer ads.
+    fn or(self, index: &Index, lookup: Lookup<'a>) -> Best<'a>
+        requires { IsTrue (is_paired lookup) }
+        ensures { (rows : List Row) → IsIndex index.now rows → result ≡ better rows self.entry lookup.entry }
+    {
+        let left = lookup.count_within(index, self.left);
+        if left < self.left {
+            return Best {
+                lookup: Some(lookup),
+                left,
+            };
+        }
+        self
+    }
+
+    // A test and the one before it in its place, where they are a pair and leave fewer ads.
+    fn or_pair(self, index: &Index, before: Option<&'a Test>, test: &'a Test) -> Best<'a>
+        ensures { (rows : List Row) → IsIndex index.now rows → result ≡ better_pair rows self.entry before.entry test.entry }
+    {
+        match before {
+            Some(before) if is_pair(before, test) => self.or(index, Lookup::Both(before, test)),
+            _ => self,
+        }
+    }
+}
+
+// A look-up that leaves no more ads than the narrowest test, where that leaves fewer than all.
+fn narrowest<'a>(store: &Store, index: &Index, tests: &'a Tests) -> Option<Lookup<'a>>
     requires { IsIndex index.now (rows_of (stock_of store.now)) }
-    ensures one { IfSome result (λ test. Contains tests.now test.now) }
-    ensures least { IfSome result (λ test. left_by (stock_of store.now).ads test.now ≡ least_left (stock_of store.now).ads tests.now) }
+    ensures among { IfSome result (AreAmong tests.now) }
+    ensures paired { IfSome result (λ lookup. IsTrue (is_paired lookup)) }
+    ensures few { IfSome result (λ lookup. length (slots_left lookup (rows_of (stock_of store.now))) ≤ least_left (stock_of store.now).ads tests.now) }
     ensures all { IfNone result (length (stock_of store.now).ads ≡ least_left (stock_of store.now).ads tests.now) }
 {
     let all = store.len();
@@ -80,31 +147,34 @@ fn narrowest<'a>(store: &Store, index: &Index, tests: &'a Tests) -> Option<&'a T
     narrowest_within(store, index, tests, all)
 }
 
-// The test that leaves the fewest ads, where some test leaves fewer than so many.
+// The look-up that leaves the fewest ads, where some leaves fewer than so many: one test, or two neighbours that are a
+// pair. The two ends of a range are most often written side by side, and so the work stays linear in the tests.
 fn narrowest_within<'a>(
     store: &Store,
     index: &Index,
     tests: &'a Tests,
     most: usize,
-) -> Option<&'a Test>
+) -> Option<Lookup<'a>>
     requires { IsIndex index.now (rows_of (stock_of store.now)) }
-    ensures one { IfSome result (λ test. Contains tests.now test.now) }
-    ensures least { IfSome result (λ test. left_by (stock_of store.now).ads test.now ≡ least_within most (stock_of store.now).ads tests.now) }
-    ensures fewer { IfSome result (λ test. left_by (stock_of store.now).ads test.now < most) }
+    ensures among { IfSome result (AreAmong tests.now) }
+    ensures paired { IfSome result (λ lookup. IsTrue (is_paired lookup)) }
+    ensures few { IfSome result (λ lookup. length (slots_left lookup (rows_of (stock_of store.now))) ≤ least_within most (stock_of store.now).ads tests.now) }
     ensures all { IfNone result (most ≡ least_within most (stock_of store.now).ads tests.now) }
 {
     // The length comes with the fact that each ad has a slot.
     let _len = store.len();
-    let mut least = most;
-    let mut best = None;
+    let mut best = Best {
+        lookup: None,
+        left: most,
+    };
+    let mut before = None;
     for test in tests.as_slice() {
-        let count = index.count_within(test, least);
-        if count < least {
-            least = count;
-            best = Some(test);
-        }
+        best = best
+            .or(index, Lookup::One(test))
+            .or_pair(index, before, test);
+        before = Some(test);
     }
-    best
+    best.lookup
 }
 
 // The places of the ads in these slots. No two ads have one slot.

@@ -1,9 +1,10 @@
-use Rattle.std.proofs.Common.{◌≡◌, List, length, Contains, ap, arith, subst, sym, ◌∙◌}
+use Rattle.std.proofs.Common.{◌≡◌, ◌≤◌, List, length, ap, arith, subst, sym, ◌∙◌}
 use Rattle.std.specs.List.{range_with_len}
 use Rattle.ad_tree.specs.Ad.{ad_frames}
 use Rattle.ad_store.specs.Store.{stock_of}
 use Rattle.conjunct_plan.specs.declared.test.Test.{Test}
 use Rattle.conjunct_plan.specs.Tests.{labels_of, tests_of}
+use Rattle.bilateral_match.specs.Candidates.{AreAmong, slots_left}
 use Rattle.bilateral_match.specs.Counts.{least_left}
 use Rattle.bilateral_match.specs.Rows.{rows_of}
 use Rattle.bilateral_match.proofs.PlaceLemmas.{all-candidates, candidates-within, hits-held, left-candidates}
@@ -33,7 +34,7 @@ returns-in_default-clause-held c =
 pub places_of-requires : goal.places_of-requires
 places_of-requires c =
     let stock = stock_of c.args.store.now in
-    hits-held c.in-Some.test.now stock.ads stock.slots c.in_ok-slots.slots (c.in_ok-slots.ensures.hits (rows_of stock) c.requires.index)
+    hits-held c.in-Some.lookup stock.ads stock.slots c.in_ok-slots.slots (c.in_ok-slots.ensures (rows_of stock) c.requires.index)
 
 pub returns-clause-places : goal.returns-clause-places
 returns-clause-places c =
@@ -41,9 +42,10 @@ returns-clause-places c =
     let labels = labels_of c.args.request.now.ports in
     let stock = stock_of c.args.store.now in
     let tests : c.in_ok-tests.tests ≡ tests_of r c.args.frame labels = c.in_ok-tests.ensures in
-    left-candidates r c.args.frame labels stock.ads stock.slots (sym c.len-count.ensures.ads ∙ c.len-count.ensures.slots) c.in-Some.test.now c.in_ok-slots.slots c.in_ok-places_of.field-0 c.slots_are_apart.ensures
-    (subst (λ (ts : List Test). Contains ts c.in-Some.test.now) tests c.in-Some.ensures.one) (c.in-Some.ensures.least ∙ ap (least_left stock.ads) tests)
-    (c.in_ok-slots.ensures.hits (rows_of stock) c.requires.index) c.in_ok-places_of.ensures
+    left-candidates r c.args.frame labels stock.ads stock.slots (sym c.len-count.ensures.ads ∙ c.len-count.ensures.slots) c.in-Some.lookup c.in_ok-slots.slots c.in_ok-places_of.field-0 c.slots_are_apart.ensures
+    (subst (λ (ts : List Test). AreAmong ts c.in-Some.lookup) tests c.in-Some.ensures.among)
+    (subst (λ (ts : List Test). length (slots_left c.in-Some.lookup (rows_of stock)) ≤ least_left stock.ads ts) tests c.in-Some.ensures.few)
+    (c.in_ok-slots.ensures (rows_of stock) c.requires.index) c.in_ok-places_of.ensures
 
 pub returns-clause-held : goal.returns-clause-held
 returns-clause-held c =

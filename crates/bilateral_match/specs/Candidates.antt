@@ -1,5 +1,5 @@
 -- Which ads a query looks at.
-use Rattle.std.specs.Prelude.{ℕ, ◌≡◌, ◌≤◌, Bool, true, false, not, ◌&&◌, suc, List, [], ◌∷◌, length, map, filter, nat_lt, Option, None, Some, if◌then◌else◌, Contains}
+use Rattle.std.specs.Prelude.{ℕ, ◌≡◌, ◌≤◌, ◌+◌, Bool, true, false, not, ◌&&◌, suc, List, [], ◌∷◌, length, map, filter, nat_lt, Option, None, Some, if◌then◌else◌, slice_get, Contains, IsTrue}
 use Rattle.std.specs.Borrow.{Bor}
 use Rattle.std.specs.List.Sorted.{IsPermutation}
 use Rattle.ad_tree.specs.Frames.{Frame}
@@ -8,7 +8,7 @@ use Rattle.conjunct_plan.specs.declared.test.Test.{Test}
 use Rattle.conjunct_plan.specs.Decided.{is_decided, is_dock_decided}
 use Rattle.conjunct_plan.specs.Tests.{tests_of}
 use Rattle.literal_index.specs.Entries.{is_pair}
-use Rattle.literal_index.specs.Rows.{Row}
+use Rattle.literal_index.specs.Rows.{Row, passing_both}
 use Rattle.bilateral_match.specs.declared.candidates.Best.{Best}
 use Rattle.bilateral_match.specs.declared.candidates.Lookup.{Lookup}
 use Rattle.bilateral_match.specs.Counts.{least_left}
@@ -49,6 +49,11 @@ is_paired (Lookup.Both first second) = is_pair first.now second.now
 abbrev pub AreAmong : List Test → Lookup → Type 0
 AreAmong tests (Lookup.One test) = Contains tests test.now
 AreAmong tests (Lookup.Both first second) = Contains tests first.now × Contains tests second.now
+
+-- so many slots are no more than any two neighbours among these tests leave that are a pair
+abbrev pub AreFewForPairs : List Row → List Test → ℕ → Type 0
+AreFewForPairs rows tests n =
+    (k : ℕ) (first second : Test) → slice_get tests k ≡ Some first → slice_get tests (k + 1) ≡ Some second → IsTrue (is_pair first second) → n ≤ length (passing_both first second rows)
 
 -- the better of the best look-up so far and another: that which leaves fewer ads
 abbrev pub better : List Row → Best → Lookup → Best

@@ -1,5 +1,5 @@
 // Which ads a query looks at: those that its narrowest test leaves, or two tests of one attribute together.
-ghost use Rattle.std.specs.Prelude.{◌≡◌, ◌<◌, ◌≤◌, [], List, length, min, slice_get, map, All, IfOk, IfNone, IfSome, IsTrue, Some, Contains};
+ghost use Rattle.std.specs.Prelude.{◌≡◌, ◌<◌, ◌≤◌, [], List, length, min, slice_get, map, All, IfOk, IfNone, IfSome, IsTrue, MatchOption, Some, Contains};
 ghost use Rattle.std.specs.List.{range_with_len};
 ghost use Rattle.std.specs.List.Sorted.{IsPermutation};
 ghost use Rattle.ad_tree.specs.Ad.{ad_frames};
@@ -7,7 +7,7 @@ ghost use Rattle.ad_store.specs.Store.{stock_of};
 ghost use Rattle.literal_index.specs.Rows.{Row};
 ghost use Rattle.literal_index.specs.Shown.{IsIndex};
 ghost use Rattle.conjunct_plan.specs.Tests.{labels_of};
-ghost use Rattle.bilateral_match.specs.Candidates.{AreAmong, AreCandidates, AreCandidatesAt, better, better_pair, is_paired, slots_left};
+ghost use Rattle.bilateral_match.specs.Candidates.{AreAmong, AreCandidates, AreCandidatesAt, AreFewForPairs, better, better_pair, is_paired, slots_left};
 ghost use Rattle.bilateral_match.specs.Counts.{least_left, least_within};
 ghost use Rattle.bilateral_match.specs.Rows.{rows_of};
 
@@ -127,12 +127,14 @@ impl<'a> Best<'a> {
     }
 }
 
-// A look-up that leaves no more ads than the narrowest test, where that leaves fewer than all.
+// A look-up that leaves no more ads than any test, and than any two neighbours that are a pair; none where none leaves
+// fewer than all.
 fn narrowest<'a>(store: &Store, index: &Index, tests: &'a Tests) -> Option<Lookup<'a>>
     requires { IsIndex index.now (rows_of (stock_of store.now)) }
     ensures among { IfSome result (AreAmong tests.now) }
     ensures paired { IfSome result (λ lookup. IsTrue (is_paired lookup)) }
     ensures few { IfSome result (λ lookup. length (slots_left lookup (rows_of (stock_of store.now))) ≤ least_left (stock_of store.now).ads tests.now) }
+    ensures pairs { IfSome result (λ lookup. AreFewForPairs (rows_of (stock_of store.now)) tests.now (length (slots_left lookup (rows_of (stock_of store.now))))) }
     ensures all { IfNone result (length (stock_of store.now).ads ≡ least_left (stock_of store.now).ads tests.now) }
 {
     let all = store.len();
@@ -159,6 +161,8 @@ fn narrowest_within<'a>(
     ensures among { IfSome result (AreAmong tests.now) }
     ensures paired { IfSome result (λ lookup. IsTrue (is_paired lookup)) }
     ensures few { IfSome result (λ lookup. length (slots_left lookup (rows_of (stock_of store.now))) ≤ least_within most (stock_of store.now).ads tests.now) }
+    ensures pairs { MatchOption result (AreFewForPairs (rows_of (stock_of store.now)) tests.now most)
+        (λ lookup. AreFewForPairs (rows_of (stock_of store.now)) tests.now (length (slots_left lookup (rows_of (stock_of store.now))))) }
     ensures all { IfNone result (most ≡ least_within most (stock_of store.now).ads tests.now) }
 {
     // The length comes with the fact that each ad has a slot.

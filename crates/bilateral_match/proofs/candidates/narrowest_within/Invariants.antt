@@ -2,7 +2,7 @@ use Rattle.std.proofs.Common.{◌≤◌, take, Contains, IfSome}
 use Rattle.ad_store.specs.Store.{stock_of}
 use Rattle.bilateral_match.specs.Counts.{least_within}
 use Rattle.bilateral_match.specs.Rows.{rows_of}
-use Rattle.bilateral_match.proofs.NarrowLemmas.{IsBest}
+use Rattle.bilateral_match.proofs.NarrowLemmas.{IsBefore, IsBest, IsFewSoFar}
 use Rattle.bilateral_match.proofs.candidates.narrowest_within.Given as goal
 
 -- no more than the least among the tests so far
@@ -10,5 +10,7 @@ abbrev pub invariant-loop-test : goal.invariant-loop-test
 invariant-loop-test l = record {
   best : IsBest l.most (rows_of (stock_of l.store)) l.test-items l.best;
   few : l.best.left ≤ least_within l.most (stock_of l.store).ads (take l.test-index l.test-items);
-  before : IfSome l.before (λ test. Contains l.test-items test.now);
+  pairs : IsFewSoFar (rows_of (stock_of l.store)) l.test-items l.test-index l.best.left;
+  among : IfSome l.before (λ test. Contains l.test-items test.now);
+  before : IsBefore l.test-items l.test-index l.before;
 }

@@ -55,6 +55,24 @@ fn assert_hits(
     Ok(())
 }
 
+fn assert_hits_of_both(
+    rt: &impl Abort,
+    index: &Index,
+    first: &Test,
+    second: &Test,
+    wanted: &[usize],
+) -> Result<(), OutOfMemory> {
+    assert!(rt; is_pair(first, second));
+    let hits = index.hits_of_both(first, second)?;
+    assert_eq!(rt; hits.as_slice(), wanted);
+    assert_eq!(rt;
+        index.count_both_within(first, second, 1),
+        wanted.len().min(1)
+    );
+    assert_eq!(rt; index.count_both_within(first, second, 9), wanted.len());
+    Ok(())
+}
+
 // What is no literal may pass, and so may an absent attribute where the test is true of Undefined.
 #[test]
 fn literals_that_fail_are_left_out(rt: HostRuntime) -> Result<(), Fail> {
@@ -65,6 +83,20 @@ fn literals_that_fail_are_left_out(rt: HostRuntime) -> Result<(), Fail> {
     assert_hits(&rt, &index, tests.at(0), &[0, 6, 14])?;
     assert_hits(&rt, &index, tests.at(1), &[2, 4, 6, 8, 10, 12, 14])?;
     assert_hits(&rt, &index, tests.at(2), &[6, 10])?;
+    Ok(())
+}
+
+#[test]
+fn a_range_leaves_what_both_its_ends_leave(rt: HostRuntime) -> Result<(), Fail> {
+    let index = indexed(rt.alloc())?;
+    let request =
+        b"[ Requirements = TARGET.A > 6 && 7 >= TARGET.a && TARGET.A < 6 && TARGET.A isnt 7 ]";
+    let tests = tests(&rt, rt.alloc(), request)?;
+    assert!(rt; tests.len() == 4);
+    assert_hits_of_both(&rt, &index, tests.at(0), tests.at(1), &[0, 6])?;
+    assert_hits_of_both(&rt, &index, tests.at(1), tests.at(2), &[6, 10])?;
+    assert_hits_of_both(&rt, &index, tests.at(0), tests.at(2), &[6])?;
+    assert!(rt; !is_pair(tests.at(2), tests.at(3)));
     Ok(())
 }
 

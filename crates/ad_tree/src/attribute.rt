@@ -1,5 +1,5 @@
 // The attributes of a frame, which are equal where their names are, so that a set of them has each name once.
-ghost use Rattle.std.specs.Prelude.{◌≡◌};
+ghost use Rattle.std.specs.Prelude.{◌≡◌, IfOk};
 ghost use Rattle.std.specs.Cmp.{partial_equiv_from_equiv};
 ghost use Rattle.std.specs.Cmp.Lexicographic.{on_texts_equal};
 ghost use Rattle.pool_text.specs.Folding.{folded};
@@ -7,8 +7,8 @@ ghost use Rattle.ad_tree.specs.Names.{same_name};
 ghost use Rattle.ad_tree.specs.Digests.{name_digest, hashed_name, equal_names};
 
 use crate::Expr;
-use indexmap::Equivalent;
-use pool_text::{Text, same_folded};
+use pool_text::{OutOfMemory, Text, same_folded};
+use std::alloc::Global;
 use std::hash::{Hash, Hasher};
 
 /// With a small multiplier, names of one digest are found by hand, as `an` and `c0` with 31.
@@ -19,6 +19,18 @@ const MULTIPLIER: u64 = 6_364_136_223_846_793_005;
 pub struct Attribute {
     pub name: Text,
     pub expr: Expr,
+}
+
+impl Attribute {
+    /// An attribute that is equal to those of this name.
+    pub fn named(alloc: Global, name: &[u8]) -> Result<Attribute, OutOfMemory>
+        ensures { IfOk result (λ attribute. attribute.name ≡ name.now) }
+    {
+        Ok(Attribute {
+            name: Text::from_bytes(alloc, name)?,
+            expr: Expr::Frame(0),
+        })
+    }
 }
 
 impl PartialEq for Attribute {
@@ -42,46 +54,6 @@ impl Hash for Attribute {
 
     fn hash<H: Hasher>(&self, state: &mut H) {
         state.write_u64(name_digest(self.name.bytes()));
-    }
-}
-
-/// A name that is looked up, in any spelling.
-#[derive(Clone, Copy)]
-pub struct Spelled<'a>(pub &'a [u8]);
-
-impl PartialEq for Spelled<'_> {
-    ghost eq = { λ a b. same_name a.0.now b.0.now };
-
-    ghost laws = { partial_equiv_from_equiv (on_texts_equal (λ a. folded a.0.now)) };
-
-    fn eq(&self, other: &Self) -> bool {
-        same_folded(self.0, other.0)
-    }
-}
-
-impl Eq for Spelled<'_> {
-    ghost laws = { on_texts_equal (λ a. folded a.0.now) };
-}
-
-impl Hash for Spelled<'_> {
-    ghost hash_input = { λ a. hashed_name a.0.now };
-
-    ghost respects_eq = { λ a b. equal_names.fed a.0.now b.0.now };
-
-    fn hash<H: Hasher>(&self, state: &mut H) {
-        state.write_u64(name_digest(self.0));
-    }
-}
-
-impl Equivalent<Attribute> for Spelled<'_> {
-    ghost equivalent = { λ q a. same_name q.0.now a.name };
-
-    ghost respects_hash = { λ q a. equal_names.fed q.0.now a.name };
-
-    ghost respects_eq = { λ q a b. (on_texts_equal folded).congr q.0.now a.name b.name };
-
-    fn equivalent(&self, attribute: &Attribute) -> bool {
-        is_named(attribute, self.0)
     }
 }
 

@@ -6,13 +6,16 @@ ghost use Rattle.ad_tree.specs.Frames.{defined_in, names_of};
 ghost use Rattle.ad_tree.specs.Attributes.{attributes_of};
 
 use crate::Expr;
-use crate::attribute::{Attribute, Spelled, is_named};
+use crate::attribute::{Attribute, is_named};
 use indexmap::IndexSet;
 use pool_text::{OutOfMemory, Text};
 use std::alloc::Global;
 
 /// So many names are gone through in less time than a name is hashed.
-const FEW_NAMES: usize = 16;
+const FEW_NAMES: usize = 32;
+
+/// A text of so many bytes takes no memory, so that to look for such a name takes none.
+const SHORT_NAME: usize = 16;
 
 #[derive(Drop)]
 pub struct AdFrame {
@@ -87,10 +90,31 @@ impl AdFrame {
     fn place(&self, name: &[u8]) -> Option<usize>
         ensures { result ≡ position (same_name name.now) (names_of (frame_of self.now).attributes) }
     {
-        if self.attributes.len() <= FEW_NAMES {
-            return place_of(self.attributes.as_slice(), name);
+        if self.attributes.len() > FEW_NAMES && name.len() <= SHORT_NAME {
+            return self.look_up(name);
         }
-        self.attributes.get_index_of(Spelled(name))
+        self.scan(name)
+    }
+
+    // By the hash of the name.
+    fn look_up(&self, name: &[u8]) -> Option<usize>
+        ensures { result ≡ position (same_name name.now) (names_of (frame_of self.now).attributes) }
+    {
+        match Attribute::named(*self.attributes.allocator(), name) {
+            Ok(wanted) => {
+                let place = self.attributes.get_index_of(&wanted);
+                drop(wanted);
+                place
+            }
+            Err(OutOfMemory) => self.scan(name),
+        }
+    }
+
+    // Name by name.
+    fn scan(&self, name: &[u8]) -> Option<usize>
+        ensures { result ≡ position (same_name name.now) (names_of (frame_of self.now).attributes) }
+    {
+        place_of(self.attributes.as_slice(), name)
     }
 }
 

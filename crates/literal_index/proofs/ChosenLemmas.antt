@@ -66,6 +66,7 @@ pub and_right : (a b : Bool) → (a && b) ≡ true → b ≡ true
 and_right true b h = h
 and_right false b h = absurd (true≢false (sym h))
 
+-- entries are picked between two places, and what is picked of an ad stands there
 module _ (picks : Entry → Bool) (from to : Place) (m : BTreeMap Place Entry) (slots : BTreeSet ℕ) (rows : List Row) (index : AreIndexed m slots rows) (ordered : IsOrdered place_order m)
     (covered : (slot k : ℕ) (a : List ℕ × Tree) → slot < 2 ^ 64 → k < 2 ^ 32 → picks (entry_of a) ≡ true
     → range_contains place_order (Bound.Included from) (Bound.Included to) (place_of slot k a) ≡ true) where
@@ -100,9 +101,9 @@ module _ (picks : Entry → Bool) (from to : Place) (m : BTreeMap Place Entry) (
   abbrev all_entries : List (Place × Entry)
   all_entries = rows_entries rows
 
-  kept_in_map : (q : Place) → lookup (at q) (filter (λ e. picks e.1) (between)) ≡ option_filter picks (cond (in_range q) (get place_order m q) None)
+  kept_in_map : (q : Place) → lookup (at q) (filter (λ e. picks e.1) between) ≡ option_filter picks (cond (in_range q) (get place_order m q) None)
   kept_in_map q =
-      lookup-filter-values place_equal picks q (between) (IsDistinct-keys_filter (eq_by_cmp place_order) (λ e. in_range e.0) m.entries (IsDistinct-from_sorted place_order (keys_of m.entries) ordered))
+      lookup-filter-values place_equal picks q between (IsDistinct-keys_filter (eq_by_cmp place_order) (λ e. in_range e.0) m.entries (IsDistinct-from_sorted place_order (keys_of m.entries) ordered))
       ∙ ap (option_filter picks) (lookup-filter-keys (at q) in_range (in_range q) (λ k e. sym (ap in_range (at_place q k e))) m.entries)
 
   kept_in_list : (q : Place) → lookup (at q) (filter (λ e. picks e.1) all_entries) ≡ option_filter picks (entry_at rows q)
@@ -127,8 +128,8 @@ module _ (picks : Entry → Bool) (from to : Place) (m : BTreeMap Place Entry) (
   -- what is picked between them is what is picked of all
   pub picked_between : IsPermutation (filter (λ e. picks e.1) between) (filter (λ e. picks e.1) all_entries)
   picked_between =
-      same-entries (eq_by_cmp place_order) place_equal at_place (filter (λ e. picks e.1) (between)) (filter (λ e. picks e.1) all_entries)
-      (IsDistinct-keys_filter (eq_by_cmp place_order) (λ e. picks e.1) (between) (IsDistinct-keys_filter (eq_by_cmp place_order) (λ e. in_range e.0) m.entries (IsDistinct-from_sorted place_order (keys_of m.entries) ordered)))
+      same-entries (eq_by_cmp place_order) place_equal at_place (filter (λ e. picks e.1) between) (filter (λ e. picks e.1) all_entries)
+      (IsDistinct-keys_filter (eq_by_cmp place_order) (λ e. picks e.1) between (IsDistinct-keys_filter (eq_by_cmp place_order) (λ e. in_range e.0) m.entries (IsDistinct-from_sorted place_order (keys_of m.entries) ordered)))
       (IsDistinct-keys_filter (eq_by_cmp place_order) (λ e. picks e.1) all_entries (distinct-rows rows index.apart))
       (λ q. kept_in_map q ∙ same_found q ∙ sym (kept_in_list q))
 

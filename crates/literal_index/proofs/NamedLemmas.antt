@@ -132,9 +132,9 @@ module _ (n : List ℕ) (keep : Option Lit → Bool) (slot : ℕ) (rest : List (
   -- none of the attributes has the name
   kept-none : (k : ℕ) (attrs : List (List ℕ × Tree)) → has_name n (names_of attrs) ≡ false → kept_slots n keep (entries_onto slot k attrs rest) ≡ kept_slots n keep rest
   kept-none k [] none = refl
-  kept-none k (a ∷ attrs) none = by (kept-none (suc k) attrs) (same_name a.0 (n)) refl
+  kept-none k (a ∷ attrs) none = by (kept-none (suc k) attrs) (same_name a.0 n) refl
     where
-      by : (has_name n (names_of attrs) ≡ false → kept_slots n keep (entries_onto slot (suc k) attrs rest) ≡ kept_slots n keep rest) → (b : Bool) → same_name a.0 (n) ≡ b
+      by : (has_name n (names_of attrs) ≡ false → kept_slots n keep (entries_onto slot (suc k) attrs rest) ≡ kept_slots n keep rest) → (b : Bool) → same_name a.0 n ≡ b
           → kept_slots n keep (entries_onto slot k (a ∷ attrs) rest) ≡ kept_slots n keep rest
       by others true e = absurd (true≢false (sym (ap (λ b. b || has_name n (names_of attrs)) e) ∙ none))
       by others false e =

@@ -38,6 +38,9 @@ read-Cond a b c {e} {x} {y} {z} is x_is y_is z_is =
     ∙ ap (λ (y : Expr). node choice (three (tree x) (tree y) (tree c.value))) (sym y_is)
     ∙ ap (λ (z : Expr). node choice (three (tree x) (tree y) (tree z))) (sym z_is)
 
+pub read-Call : (text : List ℕ) (items : Box Exprs Global) {e : Expr} {x : Exprs} → e ≡ expr.Call text items → x ≡ items.value → tree e ≡ node (call text) (pack (trees x))
+read-Call text items is x_is = ap tree is ∙ tree-Call text items ∙ ap (λ (x : Exprs). node (call text) (pack (trees x))) (sym x_is)
+
 -- a tree is a node over these trees
 pub record IsNode (t : Tree) (ts : Trees) : Type 0 where
   pub label : Label
@@ -64,15 +67,11 @@ node_of_two a b kind x_is y_is = elim kind [
   | inr is ↦ record { label = subscript; read = read-Subscript a b is x_is y_is }
 ]
 
-pub node_of_list : (items : Exprs) {e : Expr} → (e ≡ expr.And items) ⊎ ((e ≡ expr.Or items) ⊎ (((text : List ℕ) × (e ≡ expr.Call text items)) ⊎ (e ≡ expr.List items)))
-    → IsNode (tree e) (pack (trees items))
+pub node_of_list : (items : Exprs) {e : Expr} → (e ≡ expr.And items) ⊎ ((e ≡ expr.Or items) ⊎ (e ≡ expr.List items)) → IsNode (tree e) (pack (trees items))
 node_of_list items kind = elim kind [
   | inl is ↦ record { label = all; read = ap tree is ∙ tree-And items }
   | inr kind ↦ elim kind [
     | inl is ↦ record { label = any; read = ap tree is ∙ tree-Or items }
-    | inr kind ↦ elim kind [
-      | inl is ↦ record { label = call is.0; read = ap tree is.1 ∙ tree-Call is.0 items }
-      | inr is ↦ record { label = list; read = ap tree is ∙ tree-List items }
-    ]
+    | inr is ↦ record { label = list; read = ap tree is ∙ tree-List items }
   ]
 ]

@@ -73,7 +73,7 @@ tree-Select a text = ap tree (sym (expr.rolls-Select a text)) ∙ fold-roll-Expr
 pub tree-Subscript : (a b : Box Expr Global) → tree (expr.Subscript a b) ≡ node subscript (two (tree a.value) (tree b.value))
 tree-Subscript a b = ap tree (sym (expr.rolls-Subscript a b)) ∙ fold-roll-Expr Tree (List Tree) layer (λ l. l.items.items) _
 
-pub tree-Call : (text : List ℕ) (items : Exprs) → tree (expr.Call text items) ≡ node (call text) (pack (trees items))
+pub tree-Call : (text : List ℕ) (items : Box Exprs Global) → tree (expr.Call text items) ≡ node (call text) (pack (trees items.value))
 tree-Call text items = ap tree (sym (expr.rolls-Call text items)) ∙ fold-roll-Expr Tree (List Tree) layer (λ l. l.items.items) _
 
 pub tree-List : (items : Exprs) → tree (expr.List items) ≡ node list (pack (trees items))

@@ -59,7 +59,7 @@ layer (Expr-F.Or ts) = node any (pack ts)
 layer (Expr-F.Cond a b c) = node choice (three a.value b.value c.value)
 layer (Expr-F.Select a text) = node (select text) (one a.value)
 layer (Expr-F.Subscript a b) = node subscript (two a.value b.value)
-layer (Expr-F.Call text ts) = node (call text) (pack ts)
+layer (Expr-F.Call text ts) = node (call text) (pack ts.value)
 layer (Expr-F.List ts) = node list (pack ts)
 layer (Expr-F.Frame f) = frame f
 

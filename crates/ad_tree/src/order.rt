@@ -52,9 +52,10 @@ fn follow(draft: &Draft, turns: usize, parent: u32, expr: &Expr, next: u32) -> O
         Expr::Binary(_, a, b) | Expr::Subscript(a, b) => {
             follow_two(draft, turns, parent, a, b, next)
         }
-        Expr::And(list) | Expr::Or(list) | Expr::Call(_, list) | Expr::List(list) => {
+        Expr::And(list) | Expr::Or(list) | Expr::List(list) => {
             follow_all(draft, turns, parent, list, next)
         }
+        Expr::Call(_, list) => follow_all(draft, turns, parent, list, next),
         Expr::Cond(a, b, c) => follow_three(draft, turns, parent, (a, b, c), next),
         Expr::Frame(frame) => follow_frame(draft, turns, parent, *frame, next),
     }

@@ -48,7 +48,7 @@ pub fn place(
         }
         Expr::Call(name, list) => {
             let list = place_all(draft, turns, parent, list, out)?;
-            Ok(Expr::Call(name.copy()?, list))
+            Ok(Expr::Call(name.copy()?, Box::new(out.alloc, list)?))
         }
         Expr::List(list) => Ok(Expr::List(place_all(draft, turns, parent, list, out)?)),
         Expr::Frame(frame) => Ok(Expr::Frame(open(draft, turns, parent, *frame, out)?)),

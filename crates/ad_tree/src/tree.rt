@@ -29,7 +29,8 @@ pub enum Expr {
     Select(Box<Expr>, Text),
     /// `base[place]`
     Subscript(Box<Expr>, Box<Expr>),
-    Call(Text, Exprs),
+    /// `name(first, second)`. The list is in a box, as it would make every expression larger.
+    Call(Text, Box<Exprs>),
     List(Exprs),
     Frame(u32),
 }

@@ -8,7 +8,7 @@ use Rattle.ad_tree.specs.Draft.{draft_frames}
 use Rattle.ad_tree.proofs.Measures.{attributes_size-at, weight-at, levels-down}
 use Rattle.ad_tree.proofs.OrderLemmas.{if_some, list-in_order, defs-in_order, frame-in_order}
 use Rattle.ad_tree.proofs.PlacedLemmas.{next-placed, none-placed, one-placed, read-placed, frame_read-placed}
-use Rattle.ad_tree.proofs.ReadLemmas.{node_of_none, node_of_one, node_of_two, node_of_list, read-Cond}
+use Rattle.ad_tree.proofs.ReadLemmas.{node_of_none, node_of_one, node_of_two, node_of_list, read-Call, read-Cond}
 use Rattle.ad_tree.proofs.TreeLemmas.{size-at, tree-Frame}
 use Rattle.ad_tree.proofs.order.+ordering.Goals as goal
 
@@ -76,20 +76,28 @@ follow-returns-in-Binary t c =
     let is = node_of_two c.in-Binary.a c.in-Binary.b c.in-Binary.is c.deref-in-Binary.ensures c.deref-in-Binary-2.ensures in
     if_some c.follow_two.result (λ after h. read-placed (inside (draft_frames c.args.draft.now) c.args.turns) is.read is.read h) c.follow_two.ensures
 
-pub follow-follow_all-requires : goal.follow-follow_all-requires
-follow-follow_all-requires t c = (omega (arith, c.decreases, ap size (node_of_list c.in-And.list c.in-And.is).read), tt)
+pub follow-follow_all-requires-in-And : goal.follow-follow_all-requires-in-And
+follow-follow_all-requires-in-And t c = (omega (arith, c.decreases, ap size (node_of_list c.in-And.list c.in-And.is).read), tt)
 
 pub follow-returns-in-And : goal.follow-returns-in-And
 follow-returns-in-And t c =
     let is = node_of_list c.in-And.list c.in-And.is in
-    if_some c.follow_all.result (λ after h. read-placed (inside (draft_frames c.args.draft.now) c.args.turns) is.read is.read h) c.follow_all.ensures
+    if_some c.follow_all-in-And.result (λ after h. read-placed (inside (draft_frames c.args.draft.now) c.args.turns) is.read is.read h) c.follow_all-in-And.ensures
+
+pub follow-follow_all-requires : goal.follow-follow_all-requires
+follow-follow_all-requires t c = (omega (arith, c.decreases, ap size (read-Call c.in-Call.field-0 c.in-Call.list c.in-Call.is c.deref.ensures)), tt)
+
+pub follow-returns-in-Call : goal.follow-returns-in-Call
+follow-returns-in-Call t c =
+    let is = read-Call c.in-Call.field-0 c.in-Call.list c.in-Call.is c.deref.ensures in
+    if_some c.follow_all.result (λ after h. read-placed (inside (draft_frames c.args.draft.now) c.args.turns) is is h) c.follow_all.ensures
 
 pub follow-follow_three-requires : goal.follow-follow_three-requires
-follow-follow_three-requires t c = (omega (arith, c.decreases, ap size (read-Cond c.in-Cond.a c.in-Cond.b c.in-Cond.c c.in-Cond.is c.deref.ensures c.deref-in-Cond.ensures c.deref-in-Cond-2.ensures)), tt)
+follow-follow_three-requires t c = (omega (arith, c.decreases, ap size (read-Cond c.in-Cond.a c.in-Cond.b c.in-Cond.c c.in-Cond.is c.deref-in-Cond.ensures c.deref-in-Cond-2.ensures c.deref-in-Cond-3.ensures)), tt)
 
 pub follow-returns-in-Cond : goal.follow-returns-in-Cond
 follow-returns-in-Cond t c =
-    let is = read-Cond c.in-Cond.a c.in-Cond.b c.in-Cond.c c.in-Cond.is c.deref.ensures c.deref-in-Cond.ensures c.deref-in-Cond-2.ensures in
+    let is = read-Cond c.in-Cond.a c.in-Cond.b c.in-Cond.c c.in-Cond.is c.deref-in-Cond.ensures c.deref-in-Cond-2.ensures c.deref-in-Cond-3.ensures in
     if_some c.follow_three.result (λ after h. read-placed (inside (draft_frames c.args.draft.now) c.args.turns) is is h) c.follow_three.ensures
 
 pub follow-follow_frame-requires : goal.follow-follow_frame-requires

@@ -8,7 +8,7 @@ use Rattle.ad_tree.specs.Table.{frame_of}
 use Rattle.ad_tree.specs.Draft.{draft_frames}
 use Rattle.ad_tree.proofs.Measures.{attributes_size-at, weight-at, levels-down}
 use Rattle.ad_tree.proofs.PlacedLemmas.{next-placed, none-placed, one-placed, new-defined, longer-placed, read-placed, frame_read-placed}
-use Rattle.ad_tree.proofs.ReadLemmas.{read-Unary, read-Binary, read-Cond, read-Select, read-Subscript}
+use Rattle.ad_tree.proofs.ReadLemmas.{read-Unary, read-Binary, read-Cond, read-Select, read-Subscript, read-Call}
 use Rattle.ad_tree.proofs.TreeLemmas.{size-at, tree-Literal, tree-Name, tree-Unary, tree-Binary, tree-And, tree-Or, tree-Cond, tree-Select, tree-Subscript, tree-Call, tree-List, tree-Frame}
 use Rattle.ad_tree.proofs.WalkLemmas.{list-placed, defs-defined, closed-placed, missing-placed, new-within, frame_opened}
 use Rattle.ad_tree.proofs.placing.+placing.Goals as goal
@@ -123,13 +123,16 @@ place-returns-in_ok-a-in-Subscript t c =
     (c.in_ok-a-in-Subscript.ensures)
 
 pub place-place_all-requires-in-Call : goal.place-place_all-requires-in-Call
-place-place_all-requires-in-Call t c = (omega (arith, c.decreases, ap size (ap tree c.in-Call.is ∙ tree-Call c.in-Call.name c.in-Call.list)), tt)
+place-place_all-requires-in-Call t c = (omega (arith, c.decreases, ap size (read-Call c.in-Call.name c.in-Call.list c.in-Call.is c.deref-in-Call.ensures)), tt)
 
-pub place-returns-in_ok-copy-in-Call : goal.place-returns-in_ok-copy-in-Call
-place-returns-in_ok-copy-in-Call t c =
+pub place-returns-in_ok-new-in-Call : goal.place-returns-in_ok-new-in-Call
+place-returns-in_ok-new-in-Call t c =
+    let made = c.in_ok-new-in-Call.field-0 in
     read-placed (inside (draft_frames c.args.draft.now) c.args.turns)
-    (ap tree c.in-Call.is ∙ tree-Call c.in-Call.name c.in-Call.list)
-    (tree-Call c.in_ok-copy-in-Call.field-0 c.in_ok-list-in-Call.list ∙ ap (λ n. node (call n) (pack (trees c.in_ok-list-in-Call.list))) c.in_ok-copy-in-Call.ensures)
+    (read-Call c.in-Call.name c.in-Call.list c.in-Call.is c.deref-in-Call.ensures)
+    (tree-Call c.in_ok-copy-in-Call.field-0 made
+    ∙ ap (λ n. node (call n) (pack (trees made.value))) c.in_ok-copy-in-Call.ensures
+    ∙ ap (λ list. node (call c.in-Call.name) (pack (trees list))) c.in_ok-new-in-Call.ensures.ok)
     (c.in_ok-list-in-Call.ensures)
 
 pub place-open-requires : goal.place-open-requires

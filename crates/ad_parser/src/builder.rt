@@ -237,7 +237,7 @@ impl Builder {
     fn call(&mut self, name: Text, room: usize) -> Result<(), OutOfMemory>
         ensures { Carries (instructions.Call name room) self.old self.new result }
     {
-        match Exprs::with_capacity(self.alloc, room) {
+        match boxed_list(self.alloc, room) {
             Ok(arguments) => self.put(Expr::Call(name, arguments)),
             Err(error) => {
                 drop(name);
@@ -402,6 +402,14 @@ fn boxed(alloc: Global, expr: Expr) -> Result<Box<Expr>, OutOfMemory>
     Ok(Box::new(alloc, expr)?)
 }
 
+/// The empty list in a box, with room for so many expressions.
+fn boxed_list(alloc: Global, room: usize) -> Result<Box<Exprs>, OutOfMemory>
+    ensures { IfOk result (λ made. trees made.value ≡ []) }
+{
+    let list = Exprs::with_capacity(alloc, room)?;
+    Ok(Box::new(alloc, list)?)
+}
+
 fn conjuncts(alloc: Global, first: Expr, second: Expr) -> Result<Exprs, OutOfMemory>
     ensures { IfOk result (λ list. node all (pack (trees list)) ≡ joined_tree infixes.And (tree first) (tree second)) }
 {
@@ -475,14 +483,15 @@ fn list_with(list: Exprs, element: Expr) -> Result<Expr, OutOfMemory>
     Ok(Expr::List(with_last(list, element)?))
 }
 
-/// A call with one argument more.
-fn call_with(name: Text, list: Exprs, element: Expr) -> Result<Expr, OutOfMemory>
-    ensures { IfOk result (λ expr. tree expr ≡ node (call name) (pack (trees list ++ tree element ∷ []))) }
+/// A call with one argument more, in the box that it has.
+fn call_with(name: Text, mut list: Box<Exprs>, element: Expr) -> Result<Expr, OutOfMemory>
+    ensures { IfOk result (λ expr. tree expr ≡ node (call name) (pack (trees list.value ++ tree element ∷ []))) }
 {
-    match with_last(list, element) {
-        Ok(list) => Ok(Expr::Call(name, list)),
+    match list.push(element) {
+        Ok(()) => Ok(Expr::Call(name, list)),
         Err(error) => {
             drop(name);
+            drop(list);
             Err(error)
         }
     }

@@ -12,6 +12,6 @@ returns-in-List c =
 
 pub returns-in-Call : goal.returns-in-Call
 returns-in-Call c =
-    let before = trees c.in-Call.list in
+    let before = trees c.in-Call.list.value in
     let element = tree c.args.element in
     if_ok c.call_with.result (λ expr made. element-taken (call c.in-Call.name) before (before ++ element ∷ []) element refl (ap tree c.in-Call.is ∙ tree-Call c.in-Call.name c.in-Call.list) made) c.call_with.ensures

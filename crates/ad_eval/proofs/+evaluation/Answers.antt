@@ -160,8 +160,9 @@ evaluation::evaluate-call_function-requires g t c κs within =
     let n0 = c.args.entry.now in
     let e = tree c.args.expr.now in
     let x = c.bytes-in-Call.result.now in
-    let ts = pack (trees c.in-Call.items) in
-    let is = shape-Call c.args.expr.now c.in-Call.name c.in-Call.items x c.in-Call.is c.bytes-in-Call.ensures in
+    let items = c.deref-in-Call.result.now in
+    let ts = pack (trees items) in
+    let is = shape-Call c.args.expr.now c.in-Call.name c.in-Call.items x items c.in-Call.is c.bytes-in-Call.ensures c.deref-in-Call.ensures in
     let same = λ (n : ℕ). in_call s e n x ts is in
     (omega (arith, c.decreases, ap size is), (within, ready_as w (values_in s e) (λ n. called w x (results_in s ts n)) g0 same c.requires))
 
@@ -173,8 +174,9 @@ evaluation::evaluate-returns-in-Call g t c =
     let n0 = c.args.entry.now in
     let e = tree c.args.expr.now in
     let x = c.bytes-in-Call.result.now in
-    let ts = pack (trees c.in-Call.items) in
-    let is = shape-Call c.args.expr.now c.in-Call.name c.in-Call.items x c.in-Call.is c.bytes-in-Call.ensures in
+    let items = c.deref-in-Call.result.now in
+    let ts = pack (trees items) in
+    let is = shape-Call c.args.expr.now c.in-Call.name c.in-Call.items x items c.in-Call.is c.bytes-in-Call.ensures c.deref-in-Call.ensures in
     let same = λ (n : ℕ). in_call s e n x ts is in
     record { answer = answers_of w s.left (values_in s e) (λ n. called w x (results_in s ts n)) g0 c.call_function.new.guard c.call_function.result same c.call_function.ensures.answer; counted = c.call_function.ensures.counted }
 

@@ -26,7 +26,7 @@ IsOf (node any ts) e = (items0 : Exprs) × (e ≡ expr.Or items0)
 IsOf (node choice ts) e = (a0 : Box Expr Global) × (b0 : Box Expr Global) × (d0 : Box Expr Global) × (e ≡ expr.Cond a0 b0 d0)
 IsOf (node (select text) ts) e = (a0 : Box Expr Global) × (text0 : List ℕ) × (e ≡ expr.Select a0 text0)
 IsOf (node subscript ts) e = (a0 : Box Expr Global) × (b0 : Box Expr Global) × (e ≡ expr.Subscript a0 b0)
-IsOf (node (call text) ts) e = (text0 : List ℕ) × (items0 : Exprs) × (e ≡ expr.Call text0 items0)
+IsOf (node (call text) ts) e = (text0 : List ℕ) × (items0 : Box Exprs Global) × (e ≡ expr.Call text0 items0)
 IsOf (node list ts) e = (items0 : Exprs) × (e ≡ expr.List items0)
 IsOf (frame f) e = (f0 : ℕ) × (e ≡ expr.Frame f0)
 

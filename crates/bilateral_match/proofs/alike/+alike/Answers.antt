@@ -28,7 +28,10 @@ pub same_expr-returns-then-same_text-2 : goal.same_expr-returns-then-same_text-2
 same_expr-returns-then-same_text-2 t c =
     let both = c.in-Call-Call in
     let called = c.same_text-in-Call-Call.ensures.0 c.if-same_text-2.true in
-    rw (both.is-0, both.is-1, tree-Call both.x both.v, tree-Call both.y both.w, called) (same-nodes (call both.y) (trees both.v) (trees both.w) c.same_all-then-same_text-2.result c.same_all-then-same_text-2.ensures)
+    let here = c.deref-then-same_text-2-2 in
+    let there = c.deref-then-same_text-2-3 in
+    rw (both.is-0, both.is-1, tree-Call both.x both.v, tree-Call both.y both.w, called, ← here.ensures, ← there.ensures)
+    (same-nodes (call both.y) (trees here.result.now) (trees there.result.now) c.same_all-then-same_text-2.result c.same_all-then-same_text-2.ensures)
 
 pub same_expr-returns-in-List-List : goal.same_expr-returns-in-List-List
 same_expr-returns-in-List-List t c =
@@ -73,7 +76,7 @@ same_expr-returns-in_default-9 t c =
 
 pub same_expr-returns-in_default-10 : goal.same_expr-returns-in_default-10
 same_expr-returns-in_default-10 t c =
-    differ c.args.a.now c.args.b.now (node (call c.in_default.field-0-0) (pack (trees c.in_default.field-1-0))) (ap tree c.in_default.is-0 ∙ tree-Call c.in_default.field-0-0 c.in_default.field-1-0) (λ of. c.in_default.not-Call-1 of.0 of.1 of.2)
+    differ c.args.a.now c.args.b.now (node (call c.in_default.field-0-0) (pack (trees c.in_default.field-1-0.value))) (ap tree c.in_default.is-0 ∙ tree-Call c.in_default.field-0-0 c.in_default.field-1-0) (λ of. c.in_default.not-Call-1 of.0 of.1 of.2)
 
 pub same_expr-returns-in_default-11 : goal.same_expr-returns-in_default-11
 same_expr-returns-in_default-11 t c =

@@ -1,5 +1,5 @@
 -- Members and ranks that reach a bar.
-use Rattle.std.proofs.Common.{◌≡◌, ℕ, ℤ, pos, negsuc, Bool, true, false, true≢false, not, ◌&&◌, int_lt, cond, List, Option, None, Some, Less, Equal, Greater, Ordering, option_map, is_some, if◌then◌else◌, refl, ap, sym, ◌∙◌, arith}
+use Rattle.std.proofs.Common.{◌≡◌, ℕ, ℤ, pos, negsuc, Bool, true, false, true≢false, not, ◌&&◌, int_lt, cond, List, Option, None, Some, Less, Equal, Greater, Ordering, option_map, if◌then◌else◌, refl, ap, sym, ◌∙◌, arith}
 use Rattle.std.specs.Option.{option_and_then}
 use Rattle.std.specs.Ordering.{bool_cmp, int_cmp, is_lt, nat_cmp, ordering_then}
 use Rattle.ad_tree.specs.Frames.{Frame}
@@ -7,7 +7,7 @@ use Rattle.ad_store.specs.Stock.{Advert, is_live}
 use Rattle.bilateral_match.specs.declared.member.Member.{Member}
 use Rattle.bilateral_match.specs.declared.member.Ranks.{Ranks}
 use Rattle.bilateral_match.specs.Docks.{docks, rank_of_dock}
-use Rattle.bilateral_match.specs.Members.{as_member, earlier, is_member, is_won, member_order, member_with, regard}
+use Rattle.bilateral_match.specs.Members.{as_member, earlier, is_won, member_with, regard}
 use Rattle.bilateral_match.specs.Pool.{Pool}
 use Rattle.bilateral_match.specs.Scan.{member_above, ranks_above, ranks_of_dock, reaches, where_won}
 

@@ -64,9 +64,8 @@ fn refers(label: &[u8], expr: &Expr) -> bool
         Expr::Unary(_, a) | Expr::Select(a, _) => refers(label, a),
         Expr::Binary(_, a, b) | Expr::Subscript(a, b) => refers(label, a) || refers(label, b),
         Expr::Cond(a, b, c) => refers(label, a) || refers(label, b) || refers(label, c),
-        Expr::And(list) | Expr::Or(list) | Expr::Call(_, list) | Expr::List(list) => {
-            any_refers(label, list)
-        }
+        Expr::And(list) | Expr::Or(list) | Expr::List(list) => any_refers(label, list),
+        Expr::Call(_, list) => any_refers(label, list),
     }
 }
 

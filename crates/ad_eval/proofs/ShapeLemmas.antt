@@ -50,9 +50,12 @@ module _ (e : Expr) where
   shape-Subscript a b x y is base index =
       ap tree is ∙ tree-Subscript a b ∙ ap (λ (z : Expr). node subscript (two (tree z) (tree b.value))) (sym base) ∙ ap (λ (z : Expr). node subscript (two (tree x) (tree z))) (sym index)
 
-  pub shape-Call : (text : List ℕ) (items : Box Exprs Global) (x : List ℕ) (y : Exprs) → e ≡ expr.Call text items → x ≡ text → y ≡ items.value → tree e ≡ node (call x) (pack (trees y))
+  pub shape-Call : (text : List ℕ) (items : Box Exprs Global) (x : List ℕ) (y : Exprs) → e ≡ expr.Call text items → x ≡ text → y ≡ items.value
+      → tree e ≡ node (call x) (pack (trees y))
   shape-Call text items x y is named same =
-      ap tree is ∙ tree-Call text items ∙ ap (λ (z : List ℕ). node (call z) (pack (trees items.value))) (sym named) ∙ ap (λ (z : Exprs). node (call x) (pack (trees z))) (sym same)
+      ap tree is ∙ tree-Call text items
+      ∙ ap (λ (z : List ℕ). node (call z) (pack (trees items.value))) (sym named)
+      ∙ ap (λ (z : Exprs). node (call x) (pack (trees z))) (sym same)
 
   pub shape-List : (items : Exprs) → e ≡ expr.List items → tree e ≡ node list (pack (trees items))
   shape-List items is = ap tree is ∙ tree-List items

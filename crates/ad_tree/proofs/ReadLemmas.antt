@@ -38,7 +38,8 @@ read-Cond a b c {e} {x} {y} {z} is x_is y_is z_is =
     ∙ ap (λ (y : Expr). node choice (three (tree x) (tree y) (tree c.value))) (sym y_is)
     ∙ ap (λ (z : Expr). node choice (three (tree x) (tree y) (tree z))) (sym z_is)
 
-pub read-Call : (text : List ℕ) (items : Box Exprs Global) {e : Expr} {x : Exprs} → e ≡ expr.Call text items → x ≡ items.value → tree e ≡ node (call text) (pack (trees x))
+pub read-Call : (text : List ℕ) (items : Box Exprs Global) {e : Expr} {x : Exprs} → e ≡ expr.Call text items → x ≡ items.value
+    → tree e ≡ node (call text) (pack (trees x))
 read-Call text items is x_is = ap tree is ∙ tree-Call text items ∙ ap (λ (x : Exprs). node (call text) (pack (trees x))) (sym x_is)
 
 -- a tree is a node over these trees

@@ -2,4 +2,5 @@ pub mod Folding
 pub mod Lines
 pub mod Number
 pub mod Reading
+pub mod Texts
 pub mod Words

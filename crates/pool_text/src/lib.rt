@@ -7,6 +7,7 @@ mod laws;
 mod lists;
 mod memory;
 mod number;
+mod short_text;
 mod text;
 mod words;
 
@@ -18,5 +19,6 @@ pub use laws::{lines_at_a_cut, lines_hold_no_feed, lines_join_again, number_is_i
 pub use lists::{Items, Names, Slots};
 pub use memory::OutOfMemory;
 pub use number::{append_count, append_number, read_number};
+pub use short_text::IN_PLACE;
 pub use text::Text;
 pub use words::{LONGEST_LINE, past_blanks, without_return, word_of, words_behind};

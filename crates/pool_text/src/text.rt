@@ -2,25 +2,40 @@
 ghost use Rattle.std.specs.Prelude.{◌≡◌, ◌++◌, [], IfOk, OnOk, OnErr};
 
 use crate::OutOfMemory;
-use smallvec::SmallVec;
+use crate::short_text::ShortText;
 use std::alloc::Global;
+use std::fmt;
 use std::marker::Model;
 
-/// Texts of up to so many bytes take no memory of their own.
-const INLINE: usize = 16;
-
 /// A growing list of bytes, which contracts see as that list. It needs not be UTF-8.
-#[derive(Debug, Drop)]
+///
+/// It is 24 bytes in size, and a text of up to 22 bytes, as most names are, takes no memory beside them: an ad holds some
+/// hundred texts, and its expressions are as large as the texts in them.
+#[derive(Drop)]
 pub struct Text {
-    bytes: SmallVec<u8, INLINE>,
+    alloc: Global,
+    bytes: Bytes,
+}
+
+#[derive(Drop)]
+enum Bytes {
+    Short(ShortText),
+    Long(Box<Vec<u8>>),
 }
 
 impl Model for Text {
     ghost use Rattle.std.specs.Prelude.{List, ℕ};
+    ghost use Rattle.pool_text.specs.Texts.{bytes_of};
 
     ghost Value = { List ℕ };
 
-    ghost view = { λ t. t.bytes.items };
+    ghost view = { λ t. bytes_of t.bytes };
+}
+
+impl fmt::Debug for Text {
+    fn fmt<W: fmt::Write>(&self, f: &mut fmt::Formatter<W>) -> fmt::Result {
+        self.bytes().fmt(f)
+    }
 }
 
 impl Text {
@@ -29,7 +44,8 @@ impl Text {
         ensures { result ≡ [] }
     {
         Text {
-            bytes: SmallVec::new(alloc),
+            alloc,
+            bytes: Bytes::Short(ShortText::new()),
         }
     }
 
@@ -37,25 +53,26 @@ impl Text {
     pub fn from_bytes(alloc: Global, bytes: &[u8]) -> Result<Text, OutOfMemory>
         ensures { IfOk result (λ t. t ≡ bytes.now) }
     {
-        Ok(Text {
-            bytes: SmallVec::from_slice(alloc, bytes)?,
-        })
+        let mut text = Text::new(alloc);
+        text.append(bytes)?;
+        Ok(text)
     }
 
     /// A second text with the same bytes.
     pub fn copy(&self) -> Result<Text, OutOfMemory>
         ensures { IfOk result (λ t. t ≡ self.now) }
     {
-        Ok(Text {
-            bytes: self.bytes.clone()?,
-        })
+        Text::from_bytes(self.alloc, self.bytes())
     }
 
     /// The bytes.
     pub fn bytes(&self) -> &[u8]
         ensures { result.now ≡ self.now }
     {
-        self.bytes.as_slice()
+        match &self.bytes {
+            Bytes::Short(short) => short.bytes(),
+            Bytes::Long(long) => long.as_slice(),
+        }
     }
 
     /// Adds bytes at the end, all of them or none.
@@ -63,7 +80,27 @@ impl Text {
         ensures ok { OnOk result (self.new ≡ self.old ++ bytes.now) }
         ensures err { OnErr result (self.new ≡ self.old) }
     {
-        self.bytes.extend_from_slice(bytes)?;
+        match &mut self.bytes {
+            Bytes::Long(long) => long.extend_from_slice(bytes)?,
+            Bytes::Short(short) => {
+                if short.has_room(bytes.len()) {
+                    short.append(bytes);
+                } else {
+                    self.bytes = Bytes::Long(joined(self.alloc, short.bytes(), bytes)?);
+                }
+            }
+        }
         Ok(())
     }
+}
+
+// The bytes of both in a place of their own.
+fn joined(alloc: Global, first: &[u8], second: &[u8]) -> Result<Box<Vec<u8>>, OutOfMemory>
+    ensures { IfOk result (λ long. long.value.items ≡ first.now ++ second.now) }
+{
+    let mut long = Vec::new(alloc);
+    long.reserve_exact(first.len() + second.len())?;
+    long.extend_from_slice(first)?;
+    long.extend_from_slice(second)?;
+    Ok(Box::new(alloc, long)?)
 }

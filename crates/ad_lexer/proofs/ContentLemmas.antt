@@ -1,20 +1,20 @@
 -- What a string or a quoted name means, letter by letter.
-use Rattle.std.proofs.Common.{◌≡◌, ℕ, zero, suc, ◌-◌, ◌<◌, Bool, true, false, cond, eqb, List, [], ◌∷◌, ◌++◌, length, map, drop, slice_index, is_some, refl, sym, ◌∙◌, ap, arith, length-append, append_assoc, inl, inr, take, ◌==◌, subst}
-use Rattle.std.proofs.lemmas.Bool.{or_parts, not-true, eq-eqb}
+use Rattle.std.proofs.Common.{◌≡◌, ℕ, zero, suc, ◌-◌, ◌<◌, Bool, true, false, cond, eqb, List, [], ◌∷◌, ◌++◌, length, map, drop, slice_index, is_some, refl, sym, ◌∙◌, ap, arith, length-append, append_assoc, inl, inr, take, subst}
+use Rattle.std.proofs.lemmas.Bool.{cases_Bool, or_parts, not-true, eq-eqb}
 use Rattle.std.proofs.lemmas.Bool.Decides.{nat_tests}
 use Rattle.std.proofs.lemmas.List.{drop_at, append-nil}
-use Rattle.std.specs.List.{list_any}
-use Rattle.std.proofs.Math.Seq.{take-append_seam}
-use Rattle.std.proofs.lemmas.List.Folds.{list_any-append}
+use Rattle.std.specs.List.{prefix_len}
 use Rattle.std.proofs.Math.Logic.{∥∥₁_elim}
 use Rattle.std.proofs.Math.Bridge.{le_prop}
 use Rattle.std.proofs.Math.Nat.{ℕ_set}
 use Rattle.ad_lexer.specs.Content.{octal_value, octal_len, or_octal, meaning_at, letter_len, content_from, content}
 use Rattle.ad_lexer.specs.Quoted.{Letter, plain, escape, octal, spelling, spellings, meaning, is_plain, escaped, IsLetter, AreLetters, IsQuoted, IsQuotation}
-use Rattle.ad_lexer.specs.Reading.{front}
+use Rattle.ad_lexer.specs.Reading.{front, is_in}
+use Rattle.ad_lexer.specs.declared.bytes.Class.TheVariants as class
 use Rattle.ad_lexer.specs.declared.quoted.Front.TheVariants as fronts
-use Rattle.ad_lexer.proofs.LetterLemmas.{is_quote, spelling_some, octal_unescaped, digits_told, octal_digits, letter_met}
-use Rattle.ad_lexer.proofs.QuotedLemmas.{letter_first, front_close}
+use Rattle.ad_lexer.proofs.LetterLemmas.{is_quote, spelling_some, octal_unescaped, digits_told, octal_digits, letter_met, plain_met}
+use Rattle.ad_lexer.proofs.QuotedLemmas.{letter_first, front_close, plain_in}
+use Rattle.ad_lexer.proofs.Runs.{run_step, run_stop}
 use mathlib.Core.List.{is_set}
 
 -- skipping bytes is going on behind them
@@ -135,6 +135,18 @@ unread_turn quote bytes text rest (letter ∷ letters) len meant is spelled are 
       means = ap (λ (b : ℕ). (text ++ b ∷ []) ++ map meaning letters) meaning_is ∙ append_assoc text (meaning letter ∷ []) (map meaning letters) ∙ means;
     }
 
+-- bytes that stand for themselves are read at once
+pub unread_run : (quote : ℕ) (bytes text rest : List ℕ) → Unread quote bytes text rest → Unread quote bytes (text ++ take (prefix_len (is_in class.Plain) rest) rest) (drop (prefix_len (is_in class.Plain) rest) rest)
+unread_run quote bytes text [] u = subst (λ t. Unread quote bytes t []) (sym (append-nil text)) u
+unread_run quote bytes text (byte ∷ more) u =
+    let p = is_in class.Plain in
+    elim (cases_Bool (p byte)) [
+      | inl stands ↦
+          let read = unread_turn quote bytes text (byte ∷ more) u.letters 1 byte u.quotes u.spelled u.are u.means (sym (plain_met quote byte more (plain_in quote byte u.quotes stands))) in
+          rw (run_step p byte more stands) (subst (λ t. Unread quote bytes t (drop (prefix_len p more) more)) (append_assoc text (byte ∷ []) (take (prefix_len p more) more)) (unread_run quote bytes (text ++ byte ∷ []) more read))
+      | inr other ↦ rw (run_stop p byte more other) (subst (λ t. Unread quote bytes t (byte ∷ more)) (sym (append-nil text)) u)
+    ]
+
 -- where no letter is left the text is the content
 pub unread_end : (quote : ℕ) (bytes text rest : List ℕ) (letters : List Letter) → is_quote quote ≡ true → rest ≡ spellings letters ++ quote ∷ [] → AreLetters quote letters (quote ∷ [])
     → text ++ map meaning letters ≡ content bytes → ((len meant : ℕ) → front quote rest ≡ fronts.Letter len meant → ⊥) → text ≡ content bytes
@@ -149,26 +161,6 @@ pub quotation_long : (bytes : List ℕ) → IsQuotation bytes → 1 < length byt
 quotation_long bytes quotation =
     let q = quotation_quote bytes quotation in
     omega (arith, ap (λ (l : List ℕ). length l) q.3.1, length-append (spellings q.3.0) (q.0 ∷ []))
-
--- ---- letters that mean themselves
-
--- without a backslash each letter means itself
-plain_spellings : (letters : List Letter) → list_any (λ byte. byte == 92) (spellings letters) ≡ false → spellings letters ≡ map meaning letters
-plain_spellings [] none = refl
-plain_spellings (plain byte ∷ letters) none = ap (λ bytes. byte ∷ bytes) (plain_spellings letters (or_parts (byte == 92) _ none).1)
-plain_spellings (escape byte meant ∷ letters) none = absurd (cc)
-plain_spellings (octal digits ∷ letters) none = absurd (cc)
-
-pub verbatim_content : (bytes : List ℕ) → IsQuotation bytes → list_any (λ byte. byte == 92) bytes ≡ false → take (length bytes - 1 - 1) (drop 1 bytes) ≡ content bytes
-verbatim_content bytes quotation none =
-    let q = quotation_quote bytes quotation in
-    let inner : List ℕ = spellings q.3.0 in
-    let last : List ℕ = q.0 ∷ [] in
-    let inside : drop 1 bytes ≡ inner ++ last = ap (λ (b : List ℕ). drop 1 b) q.3.1 in
-    let many : length bytes - 1 - 1 ≡ length inner = omega (arith, ap (λ (l : List ℕ). length l) q.3.1, length-append inner last) in
-    let plainly : list_any (λ byte. byte == 92) (inner ++ last) ≡ false = (or_parts (q.0 == 92) _ (ap (list_any (λ byte. byte == 92)) (sym q.3.1) ∙ none)).1 in
-    let first = or_parts (list_any (λ byte. byte == 92) inner) _ (sym (list_any-append (λ byte. byte == 92) inner last) ∙ plainly) in
-    ap (take (length bytes - 1 - 1)) inside ∙ ap (λ n. take n (inner ++ last)) many ∙ take-append_seam inner last ∙ plain_spellings q.3.0 first.0 ∙ sym q.3.3 ∙ sym (quoted_content q.0 bytes q.1 q.2 q.3)
 
 -- ---- what follows from a fact of which only that it holds is known
 

@@ -39,7 +39,7 @@ quoted_turn kind quote at (suc len) meant (byte ∷ bytes) is some fits =
     ∙ ap (λ (n : ℕ). reading.quoted kind quote n 0 (drop len bytes)) e
 
 -- bytes that stand for themselves are gone over at once
-plain_in : (quote byte : ℕ) → is_quote quote ≡ true → reading.is_in class.Plain byte ≡ true → is_plain quote byte ≡ true
+pub plain_in : (quote byte : ℕ) → is_quote quote ≡ true → reading.is_in class.Plain byte ≡ true → is_plain quote byte ≡ true
 plain_in quote byte is stands = grind (arith, nat_tests)
 
 pub plain_run : (kind : TokenKind) (quote at : ℕ) (text : List ℕ) → is_quote quote ≡ true → reading.quoted kind quote (at + prefix_len (reading.is_in class.Plain) text) 0 (drop (prefix_len (reading.is_in class.Plain) text) text) ≡ reading.quoted kind quote at 0 text
@@ -63,6 +63,10 @@ quoted_here kind quote at (byte ∷ bytes) = refl
 -- the same where that is known
 pub quoted_stop : (kind : TokenKind) (quote at : ℕ) (text : List ℕ) (f : Front) → f ≡ reading.front quote text → reading.quoted_by kind at f (λ n. reading.quoted kind quote (at + 1) (n - 1) (drop 1 text)) ≡ reading.quoted kind quote at 0 text
 quoted_stop kind quote at text f is = ap (λ g. reading.quoted_by kind at g (λ n. reading.quoted kind quote (at + 1) (n - 1) (drop 1 text))) is ∙ sym (quoted_here kind quote at text)
+
+-- behind a run of such bytes the rest of the string goes on
+pub run_over : (kind : TokenKind) (quote at n : ℕ) (text rest : List ℕ) → is_quote quote ≡ true → n ≡ prefix_len (reading.is_in class.Plain) text → rest ≡ drop n text → reading.quoted kind quote (at + n) 0 rest ≡ reading.quoted kind quote at 0 text
+run_over kind quote at n text rest is long behind = rw (behind, long) (plain_run kind quote at text is)
 
 -- letters are gone over
 pub quoted_over : (kind : TokenKind) (quote at : ℕ) (letters : List Letter) (rest : List ℕ) → is_quote quote ≡ true → AreLetters quote letters rest → reading.quoted kind quote at 0 (spellings letters ++ rest) ≡ reading.quoted kind quote (at + length (spellings letters)) 0 rest

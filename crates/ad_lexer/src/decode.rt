@@ -1,11 +1,11 @@
 // What strings, quoted names and integers mean.
-ghost use Rattle.std.specs.Prelude.{◌≡◌, ◌-◌, ◌<◌, ◌≤◌, ◌^◌, pos, drop, length, take, IfOk, IfSome};
+ghost use Rattle.std.specs.Prelude.{◌≡◌, ◌-◌, ◌<◌, ◌≤◌, ◌^◌, pos, IfOk};
 ghost use Rattle.std.specs.Str.Parse.{digits_value};
 ghost use Rattle.ad_lexer.specs.Content.{content};
 ghost use Rattle.ad_lexer.specs.Numbers.{value};
 ghost use Rattle.ad_lexer.specs.Quoted.{IsQuotation};
 
-use crate::bytes::{behind, byte_at};
+use crate::bytes::{Class, behind, byte_at, front, run_len};
 use crate::number::{digit_value, digits};
 use crate::quoted::{Front, front_of};
 use pool_text::{OutOfMemory, Text};
@@ -16,43 +16,19 @@ pub fn content(alloc: Global, spelling: &[u8]) -> Result<Text, OutOfMemory>
     requires { ∥ IsQuotation spelling.now ∥₁ }
     ensures { IfOk result (λ text. text ≡ content spelling.now) }
 {
-    match verbatim(spelling) {
-        Some(letters) => Text::from_bytes(alloc, letters),
-        None => unescaped(alloc, spelling),
-    }
-}
-
-/// What stands between the quotes, where it has no backslash and so means itself.
-fn verbatim(spelling: &[u8]) -> Option<&[u8]>
-    requires { ∥ IsQuotation spelling.now ∥₁ }
-    ensures { IfSome result (λ letters. letters.now ≡ content spelling.now) }
-{
-    if spelling.contains(&b'\\') {
-        return None;
-    }
-    Some(inside(spelling))
-}
-
-/// What stands between the first byte and the last.
-fn inside(spelling: &[u8]) -> &[u8]
-    requires { 2 ≤ length spelling.now }
-    ensures { result.now ≡ take (length spelling.now - 1 - 1) (drop 1 spelling.now) }
-{
-    &spelling[1..spelling.len() - 1]
-}
-
-fn unescaped(alloc: Global, spelling: &[u8]) -> Result<Text, OutOfMemory>
-    requires { ∥ IsQuotation spelling.now ∥₁ }
-    ensures { IfOk result (λ text. text ≡ content spelling.now) }
-{
     let quote = byte_at(spelling, 0);
     let mut rest = behind(spelling, 1);
     let mut text = Text::new(alloc);
-    while let Front::Letter(len, byte) = front_of(quote, rest) {
+    loop {
+        let plain = run_len(Class::Plain, rest);
+        text.append(front(rest, plain))?;
+        rest = behind(rest, plain);
+        let Front::Letter(len, byte) = front_of(quote, rest) else {
+            return Ok(text);
+        };
         text.append(&[byte])?;
         rest = behind(rest, len);
     }
-    Ok(text)
 }
 
 /// The value that the bytes of an integer spell, in one of the three bases.

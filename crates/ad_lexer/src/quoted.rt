@@ -52,10 +52,12 @@ fn quoted(kind: TokenKind, quote: u8, text: &[u8]) -> Step
     ensures value { result ≡ spec.quoted kind quote 1 0 text.now }
     ensures within { spec.IsWithin (1 + length text.now) result }
 {
-    let plain = run_len(Class::Plain, text);
-    let mut at = 1 + plain;
-    let mut rest = behind(text, plain);
+    let mut at = 1;
+    let mut rest = text;
     loop {
+        let plain = run_len(Class::Plain, rest);
+        at += plain;
+        rest = behind(rest, plain);
         match front_of(quote, rest) {
             Front::Letter(len, _) => {
                 at += len;

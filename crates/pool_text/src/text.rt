@@ -95,6 +95,8 @@ impl Text {
 }
 
 // The bytes of both in a place of their own.
+#[cold]
+#[inline(never)]
 fn joined(alloc: Global, first: &[u8], second: &[u8]) -> Result<Box<Vec<u8>>, OutOfMemory>
     ensures { IfOk result (λ long. long.value.items ≡ first.now ++ second.now) }
 {

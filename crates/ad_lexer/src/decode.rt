@@ -1,5 +1,5 @@
 // What strings, quoted names and integers mean.
-ghost use Rattle.std.specs.Prelude.{◌≡◌, ◌-◌, ◌<◌, ◌≤◌, ◌^◌, pos, IfOk};
+ghost use Rattle.std.specs.Prelude.{◌≡◌, ◌<◌, ◌≤◌, ◌^◌, pos, IfOk};
 ghost use Rattle.std.specs.Str.Parse.{digits_value};
 ghost use Rattle.ad_lexer.specs.Content.{content};
 ghost use Rattle.ad_lexer.specs.Numbers.{value};

@@ -24,6 +24,7 @@ pub fn content(alloc: Global, spelling: &[u8]) -> Result<Text, OutOfMemory>
         text.append(front(rest, plain))?;
         rest = behind(rest, plain);
         let Front::Letter(len, byte) = front_of(quote, rest) else {
+            text.shrink_to_fit();
             return Ok(text);
         };
         text.append(&[byte])?;

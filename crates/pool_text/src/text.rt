@@ -92,6 +92,15 @@ impl Text {
         }
         Ok(())
     }
+
+    /// Gives back the room that it doesn't need.
+    pub fn shrink_to_fit(&mut self)
+        ensures { self.new ≡ self.old }
+    {
+        if let Bytes::Long(long) = &mut self.bytes {
+            long.shrink_to_fit();
+        }
+    }
 }
 
 // The bytes of both in a place of their own.

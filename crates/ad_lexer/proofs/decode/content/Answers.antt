@@ -19,7 +19,7 @@ loop-text-preserved c =
 
 pub returns-in_default : goal.returns-in_default
 returns-in_default c =
-    equal_when _ _ c.loop-text.invariant (λ u.
+    c.shrink_to_fit.ensures ∙ equal_when _ _ c.loop-text.invariant (λ u.
     let ran = unread_run c.byte_at-quote.result c.args.spelling.now c.loop-text.text c.loop-text.rest.now u in
     rw (c.in_ok-append.ensures.ok, c.front.ensures, c.run_len-plain.ensures.value)
     (unread_end c.byte_at-quote.result c.args.spelling.now _ _ ran.letters ran.quotes ran.spelled ran.are ran.means

@@ -76,7 +76,7 @@ told_on_err (Ok a) h = tt
 told_on_err (Err e) h = h
 
 -- the attributes of a frame of an ad are read in the frame
-pub attributes-read : (fs : List AdFrame) (f : ℕ) (x : AdFrame) → f < length (frames_of fs) → x ≡ get_or fs f x → attributes_at (frames_of fs) f ≡ attributes_of x.attributes.keys
+pub attributes-read : (fs : List AdFrame) (f : ℕ) (x : AdFrame) → f < length (frames_of fs) → x ≡ get_or fs f x → attributes_at (frames_of fs) f ≡ attributes_of x.attributes
 attributes-read fs f x h e =
     ap attributes_in (slice_get-map frame_of fs f
     ∙ ap (option_map frame_of) (slice_get_read fs (length (frames_of fs)) f x (length-map fs frame_of) h e))

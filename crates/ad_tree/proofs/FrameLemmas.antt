@@ -1,21 +1,25 @@
 -- A frame's set of attributes: what the set does with equal attributes is done with equal names.
-use Rattle.std.proofs.Common.{refl, arith, ◌≡◌, ◌≤◌, ℕ, zero, suc, ◌+◌, List, [], ◌∷◌, ◌++◌, length, Bool, true, false, not, cond, if◌then◌else◌, ◌||◌, ap, ◌∙◌, Option, None, Some, is_some, position, nat_lt, Result, Ok, Err, IfOk, OnErr, IsTrue}
+use Rattle.std.proofs.Common.{refl, arith, ◌≡◌, ◌≤◌, ℕ, zero, suc, ◌+◌, List, [], ◌∷◌, ◌++◌, length, Bool, true, false, not, cond, ◌||◌, ap, ◌∙◌, None, Some, position, nat_lt, Result, Ok, Err, OnOk, OnErr, IsTrue, slice_set, get_or, sym, ◌<◌}
 use Rattle.std.specs.Cmp.Lexicographic.{on_texts_equal}
-use Rattle.std.specs.List.{prefix_len, list_any, IsDistinct, AllByRecursion}
+use Rattle.std.specs.List.{prefix_len, list_any, IsDistinct, AllByRecursion, position_or_len}
 use Rattle.std.specs.Set.{swap_key}
-use Rattle.indexmap.specs.IndexSet.{replace_key}
+use Rattle.std.proofs.lemmas.Grind.{common_steps}
+use Rattle.std.proofs.lemmas.List.{length-map}
+use Rattle.std.proofs.lemmas.List.Sums.{fails_before_first}
+use Rattle.indexmap.specs.IndexSet.{insert_key, replace_key}
 use Rattle.pool_text.specs.Folding.{folded}
 use Rattle.ad_tree.specs.declared.attribute.Attribute.{Attribute}
 use Rattle.ad_tree.specs.declared.frame.AdFrame.{AdFrame}
-use Rattle.ad_tree.specs.Tree.{tree}
+use Rattle.ad_tree.specs.Tree.{Tree, tree}
 use Rattle.ad_tree.specs.Names.{same_name, has_name, are_apart}
 use Rattle.ad_tree.specs.Frames.{put_attribute, names_of, names_in}
 use Rattle.ad_tree.specs.Attributes.{attribute_of, attributes_of}
 use Rattle.ad_tree.specs.Table.{frames_of}
-use Rattle.ad_tree.proofs.NameLemmas.{both, neither}
+use Rattle.ad_tree.proofs.AttributeLemmas.{put_name, apart-put_name}
+use Rattle.ad_tree.proofs.NameLemmas.{both, both_left, both_right, neither, neither_left, neither_right, not_true}
 
 -- attributes are equal where their names are
-abbrev same_attribute : Attribute → Attribute → Bool
+abbrev pub same_attribute : Attribute → Attribute → Bool
 same_attribute a b = same_name a.name b.name
 
 -- the set's replacement defines the attribute
@@ -30,12 +34,69 @@ attributes-replace a (b ∷ bs) = by (same_attribute a b) (list_any (same_attrib
     by false true h = ap (λ rest. attribute_of b ∷ rest) h
     by false false h = ap (λ rest. attribute_of b ∷ rest) h
 
--- with at most one attribute more
-pub length-replaced : {E : Type 0} (old new : List Attribute) (replaced : Result (Option Attribute) E)
-    → IfOk replaced (λ a. length new ≡ length old + (if is_some a then 0 else 1)) → OnErr replaced (new ≡ old) → length new ≤ suc (length old)
-length-replaced old new (Ok None) h k = omega (arith, h)
-length-replaced old new (Ok (Some a)) h k = omega (arith, h)
-length-replaced old new (Err e) h k = omega (arith, ap length k)
+-- an attribute whose name is apart from those before it is new to a set of them
+new_after : (a : Attribute) (before rest : List Attribute) → are_apart (names_of (attributes_of (before ++ a ∷ rest))) ≡ true → list_any (same_attribute a) before ≡ false
+new_after a [] rest h = refl
+new_after a (b ∷ before) rest h = neither _ _ (not_later b.name before rest a (not_true _ (both_left _ _ h))) (new_after a before rest (both_right _ _ h))
+  where
+    not_later : (m : List ℕ) (bs rest : List Attribute) (a : Attribute) → has_name m (names_of (attributes_of (bs ++ a ∷ rest))) ≡ false → same_name a.name m ≡ false
+    not_later m [] rest a h = neither_left _ _ h
+    not_later m (b ∷ bs) rest a h = not_later m bs rest a (neither_right _ _ h)
+
+pub insert_key-new : (a : Attribute) (before rest : List Attribute) → are_apart (names_of (attributes_of (before ++ a ∷ rest))) ≡ true → insert_key same_attribute before a ≡ before ++ a ∷ []
+insert_key-new a before rest h = ap (λ b. cond b before (before ++ a ∷ [])) (new_after a before rest h)
+
+-- an attribute takes the place of the first that is equal, and else goes last
+pub put-at : (a : Attribute) (bs : List Attribute) (i : ℕ) (d : Attribute) → i < length bs → same_attribute a (get_or bs i d) ≡ true → ((k : ℕ) → k < i → same_attribute a (get_or bs k d) ≡ false)
+    → attributes_of (slice_set bs i a) ≡ put_attribute a.name (tree a.expr) (attributes_of bs)
+put-at a [] i d less is before = absurd (omega arith)
+put-at a (b ∷ bs) zero d less is before = ap (λ here. cond here (attribute_of a ∷ attributes_of bs) (attribute_of b ∷ put_attribute a.name (tree a.expr) (attributes_of bs))) (sym is)
+put-at a (b ∷ bs) (suc i) d less is before =
+    ap (λ rest. attribute_of b ∷ rest) (put-at a bs i d (omega arith) is (λ k l. before (suc k) (omega arith)))
+    ∙ ap (λ here. cond here (attribute_of a ∷ attributes_of bs) (attribute_of b ∷ put_attribute a.name (tree a.expr) (attributes_of bs))) (sym (before 0 (omega arith)))
+
+pub put-last : (a : Attribute) (bs : List Attribute) (d : Attribute) → ((k : ℕ) → k < length bs → same_attribute a (get_or bs k d) ≡ false)
+    → attributes_of (bs ++ a ∷ []) ≡ put_attribute a.name (tree a.expr) (attributes_of bs)
+put-last a [] d away = refl
+put-last a (b ∷ bs) d away =
+    ap (λ rest. attribute_of b ∷ rest) (put-last a bs d (λ k l. away (suc k) (omega arith)))
+    ∙ ap (λ here. cond here (attribute_of a ∷ attributes_of bs) (attribute_of b ∷ put_attribute a.name (tree a.expr) (attributes_of bs))) (sym (away 0 (omega arith)))
+
+-- none is equal where none has a position
+pub away_from : (a : Attribute) (bs : List Attribute) (d : Attribute) → position (same_attribute a) bs ≡ None → (k : ℕ) → k < length bs → same_attribute a (get_or bs k d) ≡ false
+away_from a bs d none k less =
+    let all : length bs ≤ position_or_len (same_attribute a) bs = grind (arith, common_steps) in
+    fails_before_first (same_attribute a) bs k d (omega (arith, all, less))
+
+-- names stay apart
+names-put_attribute : (name : List ℕ) (t : Tree) (attributes : List (List ℕ × Tree)) → names_of (put_attribute name t attributes) ≡ put_name name (names_of attributes)
+names-put_attribute name t [] = refl
+names-put_attribute name t (a ∷ rest) = by (same_name name a.0) (names-put_attribute name t rest)
+  where
+    by : (here : Bool) → names_of (put_attribute name t rest) ≡ put_name name (names_of rest)
+        → names_of (cond here ((name, t) ∷ rest) (a ∷ put_attribute name t rest)) ≡ cond here (name ∷ names_of rest) (a.0 ∷ put_name name (names_of rest))
+    by true e = refl
+    by false e = ap (λ names. a.0 ∷ names) e
+
+pub apart-put : {E : Type 0} (r : Result (Unit {0}) E) (name : List ℕ) (t : Tree) (old new : List Attribute)
+    → OnOk r (attributes_of new ≡ put_attribute name t (attributes_of old)) → OnErr r (new ≡ old)
+    → are_apart (names_of (attributes_of old)) ≡ true → are_apart (names_of (attributes_of new)) ≡ true
+apart-put (Ok done) name t old new ok err h = ap (λ l. are_apart (names_of l)) ok ∙ ap are_apart (names-put_attribute name t (attributes_of old)) ∙ apart-put_name name (names_of (attributes_of old)) h
+apart-put (Err e) name t old new ok err h = ap (λ l. are_apart (names_of (attributes_of l))) err ∙ h
+
+-- and there is at most one attribute more
+length-put : (name : List ℕ) (t : Tree) (attributes : List (List ℕ × Tree)) → length (put_attribute name t attributes) ≤ suc (length attributes)
+length-put name t [] = omega arith
+length-put name t (a ∷ rest) = by (same_name name a.0) (length-put name t rest)
+  where
+    by : (here : Bool) → length (put_attribute name t rest) ≤ suc (length rest) → length (cond here ((name, t) ∷ rest) (a ∷ put_attribute name t rest)) ≤ suc (suc (length rest))
+    by true h = omega arith
+    by false h = omega (arith, h)
+
+pub few-put : {E : Type 0} (r : Result (Unit {0}) E) (name : List ℕ) (t : Tree) (old new : List Attribute)
+    → OnOk r (attributes_of new ≡ put_attribute name t (attributes_of old)) → OnErr r (new ≡ old) → length new ≤ suc (length old)
+few-put (Ok done) name t old new ok err = omega (arith, length-map new attribute_of, length-map old attribute_of, ap (λ l. length l) ok, length-put name t (attributes_of old))
+few-put (Err e) name t old new ok err = omega (arith, ap (λ l. length l) err)
 
 -- an attribute is found where its name is
 prefix_len-names : (name : List ℕ) (bs : List Attribute) → prefix_len (λ b. not (same_name name b.name)) bs ≡ prefix_len (λ n. not (same_name name n)) (names_of (attributes_of bs))

@@ -5,6 +5,7 @@ pub mod Draft
 pub mod Enclosing
 pub mod Frames
 pub mod Inline
+pub mod Kept
 pub mod Names
 pub mod Phrases
 pub mod Placed

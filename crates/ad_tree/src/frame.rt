@@ -6,23 +6,17 @@ ghost use Rattle.ad_tree.specs.Frames.{defined_in, names_of};
 ghost use Rattle.ad_tree.specs.Attributes.{attributes_of};
 
 use crate::Expr;
-use crate::attribute::{Attribute, is_named};
-use indexmap::IndexSet;
+use crate::attribute::Attribute;
+use crate::attributes::Attributes;
 use pool_text::{OutOfMemory, Text};
 use std::alloc::Global;
-
-/// So many names are gone through in less time than a name is hashed.
-const FEW_NAMES: usize = 32;
-
-/// A text of so many bytes takes no memory, so that to look for such a name takes none.
-const SHORT_NAME: usize = 16;
 
 #[derive(Drop)]
 pub struct AdFrame {
     pub parent: u32,
-    pub attributes: IndexSet<Attribute>,
-    ghost apart: { IsTrue (are_apart (names_of (attributes_of attributes.keys))) },
-    ghost few: { length attributes.keys < 2 ^ 32 },
+    attributes: Attributes,
+    ghost apart: { IsTrue (are_apart (names_of (attributes_of attributes))) },
+    ghost few: { length attributes < 2 ^ 32 },
 }
 
 impl AdFrame {
@@ -33,7 +27,7 @@ impl AdFrame {
     {
         AdFrame {
             parent,
-            attributes: IndexSet::new(alloc),
+            attributes: Attributes::new(alloc),
         }
     }
 
@@ -41,8 +35,7 @@ impl AdFrame {
     pub fn reserve(&mut self, more: usize) -> Result<(), OutOfMemory>
         ensures { frame_of self.new ≡ frame_of self.old }
     {
-        self.attributes.reserve_exact(more)?;
-        Ok(())
+        self.attributes.reserve(more)
     }
 
     /// Gives back the room that it doesn't need.
@@ -59,19 +52,18 @@ impl AdFrame {
         ensures err { OnErr result (frame_of self.new ≡ frame_of self.old) }
     {
         let attribute = Attribute { name, expr };
-        if self.attributes.len() >= u32::MAX as usize {
+        if self.attributes.as_slice().len() >= u32::MAX as usize {
             drop(attribute);
             return Err(OutOfMemory);
         }
-        let replaced = self.attributes.replace(attribute)?;
-        drop(replaced);
+        self.attributes.define(attribute)?;
         Ok(())
     }
 
     pub fn count(&self) -> u32
         ensures { result ≡ length (frame_of self.now).attributes }
     {
-        self.attributes.len() as u32
+        self.attributes.as_slice().len() as u32
     }
 
     pub fn at(&self, i: u32) -> &Attribute
@@ -84,44 +76,6 @@ impl AdFrame {
     pub fn position(&self, name: &[u8]) -> Option<u32>
         ensures { result ≡ position (same_name name.now) (names_of (frame_of self.now).attributes) }
     {
-        self.place(name).map(|i| i as u32)
+        self.attributes.position(name).map(|i| i as u32)
     }
-
-    fn place(&self, name: &[u8]) -> Option<usize>
-        ensures { result ≡ position (same_name name.now) (names_of (frame_of self.now).attributes) }
-    {
-        if self.attributes.len() > FEW_NAMES && name.len() <= SHORT_NAME {
-            return self.look_up(name);
-        }
-        self.scan(name)
-    }
-
-    // By the hash of the name.
-    fn look_up(&self, name: &[u8]) -> Option<usize>
-        ensures { result ≡ position (same_name name.now) (names_of (frame_of self.now).attributes) }
-    {
-        match Attribute::named(*self.attributes.allocator(), name) {
-            Ok(wanted) => {
-                let place = self.attributes.get_index_of(&wanted);
-                drop(wanted);
-                place
-            }
-            Err(OutOfMemory) => self.scan(name),
-        }
-    }
-
-    // Name by name.
-    fn scan(&self, name: &[u8]) -> Option<usize>
-        ensures { result ≡ position (same_name name.now) (names_of (frame_of self.now).attributes) }
-    {
-        place_of(self.attributes.as_slice(), name)
-    }
-}
-
-fn place_of(attributes: &[Attribute], name: &[u8]) -> Option<usize>
-    ensures { result ≡ position (λ a. same_name name.now a.name) attributes.now }
-{
-    attributes
-        .iter()
-        .position(|attribute| is_named(attribute, name))
 }

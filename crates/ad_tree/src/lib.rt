@@ -3,6 +3,7 @@
 
 mod ad;
 mod attribute;
+mod attributes;
 mod draft;
 mod frame;
 mod laws;

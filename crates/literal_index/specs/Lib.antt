@@ -2,6 +2,7 @@ pub mod Changes
 pub mod Digests
 pub mod Entries
 pub mod Order
+pub mod Packed
 pub mod Rows
 pub mod Selections
 pub mod Shown

@@ -9,6 +9,7 @@ ghost use Rattle.literal_index.specs.Order.{place_order};
 ghost use Rattle.literal_index.specs.Changes.{HasPut, HasPutOne, HasTaken, HasTakenOne, IsSame};
 
 use crate::entry::{Entry, place_of};
+use crate::name::NameCache;
 use crate::place::Place;
 use ad_tree::{Ad, Expr};
 use pool_text::{OutOfMemory, Text};
@@ -18,6 +19,7 @@ use std::collections::BTreeMap;
 /// Puts in the attributes of the root of the ad under a slot. At want of memory it takes out again what it put in.
 pub fn put_attributes(
     alloc: Global,
+    names: &mut NameCache,
     entries: &mut BTreeMap<Place, Entry>,
     slot: usize,
     ad: &Ad,
@@ -30,6 +32,7 @@ pub fn put_attributes(
     for attr in 0..ad.count(0) {
         if let Err(refused) = put_attribute(
             alloc,
+            names,
             entries,
             slot,
             attr,
@@ -45,6 +48,7 @@ pub fn put_attributes(
 
 fn put_attribute(
     alloc: Global,
+    names: &mut NameCache,
     entries: &mut BTreeMap<Place, Entry>,
     slot: usize,
     attr: u32,
@@ -54,7 +58,7 @@ fn put_attribute(
     ensures ok { OnOk result (HasPutOne slot attr (name.now, tree expr.now) entries.old entries.new) }
     ensures err { OnErr result (IsSame entries.old entries.new) }
 {
-    let entry = Entry::of(alloc, name, expr)?;
+    let entry = Entry::of(alloc, names, name, expr)?;
     entries.insert(place_of(slot, attr, name, expr), entry)?;
     Ok(())
 }

@@ -7,6 +7,8 @@ ghost use Rattle.conjunct_plan.specs.Decided.{asked, value_with};
 ghost use Rattle.literal_index.specs.Entries.{entry_of, holds_with, is_chosen, is_chosen_by_both, is_of, is_pair, kind_of, literal_of, place_of, value_of};
 
 use crate::digest::{digest, number_of_text};
+use crate::literal::Literal;
+use crate::name::{Name, NameCache};
 use crate::place::{Kind, Place};
 use ad_tree::Expr;
 use ad_value::is_true_of_literals;
@@ -17,22 +19,23 @@ use std::alloc::Global;
 /// The name of an attribute, and its literal where its expression is one.
 #[derive(Drop)]
 pub struct Entry {
-    pub name: Text,
-    pub literal: Option<Lit>,
+    pub name: Name,
+    pub literal: Literal,
 }
 
 impl Entry {
     /// What is kept of an attribute.
-    pub fn of(alloc: Global, name: &Text, expr: &Expr) -> Result<Entry, OutOfMemory>
+    pub fn of(
+        alloc: Global,
+        names: &mut NameCache,
+        name: &Text,
+        expr: &Expr,
+    ) -> Result<Entry, OutOfMemory>
         ensures { IfOk result (λ entry. entry ≡ entry_of (name.now, tree expr.now)) }
     {
-        let literal = match literal_of(expr) {
-            Some(lit) => Some(copy_of(alloc, lit)?),
-            None => None,
-        };
         Ok(Entry {
-            name: Text::from_bytes(alloc, name.bytes())?,
-            literal,
+            name: names.shared(name)?,
+            literal: Literal::of(alloc, literal_of(expr))?,
         })
     }
 
@@ -53,10 +56,10 @@ impl Entry {
     fn is_of(&self, test: &Test, choice: Choice) -> bool
         ensures { result ≡ is_of test.now choice self.now.literal }
     {
-        match (&self.literal, choice) {
+        match (self.literal.makes_true(test), choice) {
             (None, Choice::Open) => true,
-            (Some(lit), Choice::True) => holds(test, lit),
-            (Some(lit), Choice::Untrue) => !holds(test, lit),
+            (Some(holds), Choice::True) => holds,
+            (Some(holds), Choice::Untrue) => !holds,
             _ => false,
         }
     }
@@ -157,17 +160,4 @@ pub fn value_of(found: Option<&Lit>) -> i64
         Some(Lit::Str(text)) => number_of_text(text.bytes()),
         _ => 0,
     }
-}
-
-// A second literal of the same value.
-fn copy_of(alloc: Global, lit: &Lit) -> Result<Lit, OutOfMemory>
-    ensures { IfOk result (λ copy. copy ≡ lit.now) }
-{
-    Ok(match lit {
-        Lit::Undefined => Lit::Undefined,
-        Lit::Error => Lit::Error,
-        Lit::Boolean(b) => Lit::Boolean(*b),
-        Lit::Integer(n) => Lit::Integer(*n),
-        Lit::Str(text) => Lit::Str(Text::from_bytes(alloc, text.bytes())?),
-    })
 }

@@ -7,6 +7,7 @@ ghost use Rattle.literal_index.specs.Rows.{Row, ad_under, passing_both, passing_
 
 use crate::attributes::{put_attributes, take_attributes};
 use crate::entry::{Choice, Entry, holds};
+use crate::name::NameCache;
 use crate::place::{Kind, Place};
 use crate::selection::{
     count_chosen, count_chosen_by_both_within, count_chosen_within, in_order, listed, others,
@@ -31,6 +32,7 @@ pub struct Index {
     alloc: Global,
     entries: BTreeMap<Place, Entry>,
     slots: BTreeSet<usize>,
+    names: NameCache,
 }
 
 impl Index {
@@ -44,6 +46,7 @@ impl Index {
             alloc,
             entries: BTreeMap::new(alloc),
             slots: BTreeSet::new(alloc),
+            names: NameCache::new(alloc),
         }
     }
 
@@ -56,7 +59,13 @@ impl Index {
             → ad_under slot rows ≡ None → IsIndex self.new rows) }
     {
         self.slots.insert(slot)?;
-        if let Err(refused) = put_attributes(self.alloc, &mut self.entries, slot, ad) {
+        if let Err(refused) = put_attributes(
+            self.alloc,
+            &mut self.names,
+            &mut self.entries,
+            slot,
+            ad,
+        ) {
             self.slots.remove(&slot);
             return Err(refused);
         }

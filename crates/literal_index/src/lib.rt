@@ -5,6 +5,8 @@ mod attributes;
 mod digest;
 mod entry;
 mod index;
+mod literal;
+mod name;
 mod place;
 mod selection;
 mod span;

@@ -1,5 +1,5 @@
 -- An ad takes the place of another, or leaves.
-use Rattle.std.proofs.Common.{◌≡◌, ◌≢◌, ℕ, ◌+◌, ◌≤◌, Bool, true, false, not, ◌&&◌, ◌||◌, cond, eqb, List, [], ◌∷◌, ◌++◌, map, length, Option, None, Some, Vec, is_some, bytes_eq, sum_by, refl, sym, ◌∙◌, ap, subst, arith}
+use Rattle.std.proofs.Common.{◌≡◌, ◌≢◌, ℕ, ◌+◌, ◌≤◌, Bool, true, false, not, ◌&&◌, ◌||◌, cond, eqb, List, [], ◌∷◌, length, Option, None, Some, Vec, is_some, bytes_eq, refl, sym, ◌∙◌, ap, subst, arith}
 use Rattle.std.specs.declared.alloc.Global.{Global}
 use Rattle.std.specs.List.{list_any}
 use Rattle.std.specs.Option.{option_map_or}
@@ -9,9 +9,9 @@ use Rattle.std.proofs.lemmas.Slice.Eq.{bytes_eq-Decides}
 use Rattle.slab.specs.Slab.{Slab, Updates, get}
 use Rattle.indexmap.specs.IndexMap.{shift_remove_entry}
 use Rattle.ad_store.specs.declared.entry.Entry.{Entry}
-use Rattle.ad_store.specs.Held.{advert_of, adverts, are_held, holds, slots_of}
+use Rattle.ad_store.specs.Held.{advert_of, adverts, are_held, slots_of}
 use Rattle.ad_store.specs.Stock.{Advert, has, is_named, placed, slot_beside, slots_without, text_held, without}
-use Rattle.ad_store.proofs.HeldLemmas.{Name, Parts, both, different, neither, has-lookup, negated, others_held, others_stay, parts_of, slot_beside-lookup}
+use Rattle.ad_store.proofs.HeldLemmas.{Name, Parts, neither, has-lookup, others_held, others_stay, parts_of, slot_beside-lookup}
 use Rattle.ad_store.proofs.Lookups.{lookup}
 
 -- the names' test

@@ -1,5 +1,5 @@
 -- A new name goes last.
-use Rattle.std.proofs.Common.{◌≡◌, ℕ, ◌+◌, ◌≤◌, ◌<◌, Bool, true, false, not, ◌&&◌, cond, eqb, ltb, leb, List, [], ◌∷◌, ◌++◌, length, Option, None, Some, Vec, is_some, bytes_eq, sum_by, refl, sym, ◌∙◌, ap, arith}
+use Rattle.std.proofs.Common.{◌≡◌, ℕ, ◌+◌, ◌≤◌, ◌<◌, Bool, true, false, not, ◌&&◌, cond, eqb, ltb, leb, List, [], ◌∷◌, ◌++◌, length, None, Some, Vec, bytes_eq, refl, sym, ◌∙◌, ap, arith}
 use Rattle.std.specs.declared.alloc.Global.{Global}
 use Rattle.std.specs.List.{list_any}
 use Rattle.std.specs.Option.{option_map_or}
@@ -7,13 +7,13 @@ use Rattle.std.proofs.lemmas.Bool.Decides.{nat_tests}
 use Rattle.std.proofs.lemmas.List.{length-map}
 use Rattle.std.proofs.lemmas.List.Sums.{sum_by_push}
 use Rattle.std.proofs.lemmas.Slice.Eq.{bytes_eq-Decides}
-use Rattle.slab.specs.Slab.{Slab, Updates, get}
+use Rattle.slab.specs.Slab.{Slab, get}
 use Rattle.ad_store.specs.declared.answers.PutFault.{PutFault}
 use Rattle.ad_store.specs.declared.entry.Content.{Content}
 use Rattle.ad_store.specs.declared.entry.Entry.{Entry}
-use Rattle.ad_store.specs.Held.{IsEntered, advert_of, adverts, are_held, holds, named_content, slots_of}
-use Rattle.ad_store.specs.Stock.{Advert, has, is_named, lack, placed, slot_beside, text_held, without}
-use Rattle.ad_store.proofs.HeldLemmas.{Name, adverts-push, are_held-push, has-lookup, others_held, others_stay, placed-new, slot_beside-lookup, slots_of-push, vacant_apart, without-absent}
+use Rattle.ad_store.specs.Held.{IsEntered, advert_of, adverts, are_held, named_content, slots_of}
+use Rattle.ad_store.specs.Stock.{Advert, has, is_named, lack, slot_beside, text_held, without}
+use Rattle.ad_store.proofs.HeldLemmas.{Name, adverts-push, are_held-push, others_held, others_stay, slot_beside-lookup, slots_of-push, vacant_apart, without-absent}
 use Rattle.ad_store.proofs.ChangeLemmas.{named}
 use Rattle.ad_store.proofs.Lookups.{lookup}
 

@@ -1,15 +1,14 @@
 -- How the ads in order change with the names and the table of slots.
-use Rattle.std.proofs.Common.{◌≡◌, ◌≢◌, ℕ, ◌+◌, Bool, true, false, not, ◌&&◌, ◌||◌, cond, eqb, List, [], ◌∷◌, ◌++◌, map, length, Option, None, Some, Vec, is_some, bytes_eq, refl, sym, ◌∙◌, ap, subst, arith}
+use Rattle.std.proofs.Common.{◌≡◌, ◌≢◌, ℕ, Bool, true, false, not, ◌&&◌, ◌||◌, cond, eqb, List, [], ◌∷◌, ◌++◌, Option, None, Some, Vec, is_some, bytes_eq, refl, ◌∙◌, ap, subst, arith}
 use Rattle.std.specs.declared.alloc.Global.{Global}
 use Rattle.std.specs.List.{list_any}
 use Rattle.std.specs.Option.{option_map_or}
 use Rattle.std.proofs.lemmas.Bool.Decides.{nat_tests}
 use Rattle.std.proofs.lemmas.Slice.Eq.{bytes_eq-Decides}
 use Rattle.slab.specs.Slab.{Slab, Updates, get}
-use Rattle.indexmap.specs.IndexMap.{shift_remove_entry}
 use Rattle.ad_store.specs.declared.entry.Entry.{Entry}
 use Rattle.ad_store.specs.Held.{advert_of, adverts, are_held, holds, slots_of}
-use Rattle.ad_store.specs.Stock.{Advert, has, is_named, placed, slot_beside, slots_without, without}
+use Rattle.ad_store.specs.Stock.{Advert, has, is_named, placed, slot_beside, without}
 use Rattle.ad_store.proofs.Lookups.{lookup}
 
 -- a name with its slot

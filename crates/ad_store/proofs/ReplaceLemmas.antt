@@ -1,5 +1,5 @@
 -- An ad under a name that is held.
-use Rattle.std.proofs.Common.{◌≡◌, ℕ, ◌+◌, ◌-◌, ◌<◌, ◌≤◌, Bool, true, false, not, List, Option, None, Some, is_some, IfSome, sym, ◌∙◌, ap, arith}
+use Rattle.std.proofs.Common.{◌≡◌, ℕ, ◌+◌, ◌-◌, ◌<◌, ◌≤◌, true, false, not, List, None, Some, is_some, IfSome, sym, ◌∙◌, ap, arith}
 use Rattle.std.specs.Option.{option_map_or}
 use Rattle.slab.specs.Slab.{ContainsKey, Slab, Updates, get}
 use Rattle.ad_store.specs.declared.answers.PutFault.{PutFault}

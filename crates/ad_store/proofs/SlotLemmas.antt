@@ -1,5 +1,5 @@
 -- Slots, their places and what lies in them.
-use Rattle.std.proofs.Common.{◌≡◌, ◌≢◌, ℕ, zero, suc, ◌<◌, ◌⊎◌, inl, inr, Bool, true, false, not, cond, eqb, List, [], ◌∷◌, length, filter, slice_get, Option, None, Some, Vec, is_some, unwrap_or, IfNone, IfSome, Contains, bytes_eq, refl, sym, ◌∙◌, ap, subst, arith}
+use Rattle.std.proofs.Common.{◌≡◌, ◌≢◌, ℕ, zero, suc, ◌⊎◌, inl, inr, Bool, true, false, not, cond, eqb, List, [], ◌∷◌, filter, slice_get, Option, None, Some, Vec, is_some, unwrap_or, IfNone, IfSome, Contains, bytes_eq, refl, sym, ◌∙◌, ap, arith}
 use Rattle.std.specs.declared.alloc.Global.{Global}
 use Rattle.std.specs.List.{AllByRecursion, find, list_any, IsDistinct}
 use Rattle.std.specs.Map.{keys_of}

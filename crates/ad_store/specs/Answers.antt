@@ -2,7 +2,6 @@
 use Rattle.std.specs.Prelude.{◌≡◌, ℕ, Bool, true, false, List, [], ◌∷◌, ◌++◌, Option, None, Some}
 use Rattle.ad_store.specs.declared.answers.Put.{Put}
 use Rattle.ad_store.specs.declared.answers.PutFault.{PutFault}
-use Rattle.ad_store.specs.Stock.{Stock, has, slot_named}
 
 -- the answer is that an ad was added
 abbrev pub is_added : Put → Bool

@@ -173,10 +173,7 @@ impl Store {
         ensures { IsTrue result → slice_get (stock_of self.now).slots place ≡ Some slot }
     {
         let slots: &[usize] = self.names.values().as_slice();
-        match slots.get(place) {
-            Some(found) => *found == slot,
-            None => false,
-        }
+        slots.get(place) == Some(&slot)
     }
 
     // The place of the ad in this slot, by its name.

@@ -8,7 +8,7 @@ ghost use Rattle.std.specs.HashSet.{spare};
 
 use crate::attribute::{Attribute, is_named};
 use indexmap::IndexSet;
-use pool_text::{IN_PLACE, OutOfMemory};
+use pool_text::{LONGEST_SHORT_TEXT, OutOfMemory};
 use std::alloc::Global;
 use std::marker::Model;
 use std::mem;
@@ -78,7 +78,7 @@ impl Attributes {
                 if more <= FEW.saturating_sub(list.len()) {
                     list.reserve_exact(more)?;
                 } else {
-                    self.hash(more)?;
+                    self.make_set(more)?;
                 }
             }
             Kept::Many(set) => set.reserve_exact(more)?,
@@ -104,7 +104,7 @@ impl Attributes {
         ensures apart { IsTrue (are_apart (names_of (attributes_of self.new))) }
     {
         if self.is_full() {
-            if let Err(error) = self.hash(1) {
+            if let Err(error) = self.make_set(1) {
                 drop(attribute);
                 return Err(error);
             }
@@ -135,7 +135,7 @@ impl Attributes {
     // Makes a set of a list, with room for so many more names.
     #[cold]
     #[inline(never)]
-    fn hash(&mut self, more: usize) -> Result<(), OutOfMemory>
+    fn make_set(&mut self, more: usize) -> Result<(), OutOfMemory>
         ensures same { self.new ≡ self.old }
         ensures apart { IsTrue (are_apart (names_of (attributes_of self.new))) }
     {
@@ -200,7 +200,7 @@ fn hashed(list: Vec<Attribute>, set: IndexSet<Attribute>) -> IndexSet<Attribute>
 fn look_up(alloc: Global, set: &IndexSet<Attribute>, name: &[u8]) -> Option<usize>
     ensures { result ≡ position (same_name name.now) (names_of (attributes_of set.now.keys)) }
 {
-    if name.len() <= IN_PLACE {
+    if name.len() <= LONGEST_SHORT_TEXT {
         if let Ok(wanted) = Attribute::named(alloc, name) {
             let place = set.get_index_of(&wanted);
             drop(wanted);

@@ -63,7 +63,7 @@ pub fn candidates_at(
 }
 
 // What the index is asked for: the ads that one test leaves, or that both tests of a pair leave.
-#[derive(Drop)]
+#[derive(Clone, Copy)]
 enum Lookup<'a> {
     One(&'a Test),
     Both(&'a Test, &'a Test),
@@ -94,7 +94,7 @@ impl Lookup<'_> {
 }
 
 // The look-up that leaves the fewest ads so far, and how many it leaves; none where each leaves the most that counts.
-#[derive(Drop)]
+#[derive(Clone, Copy)]
 struct Best<'a> {
     lookup: Option<Lookup<'a>>,
     left: usize,

@@ -19,6 +19,6 @@ pub use laws::{lines_at_a_cut, lines_hold_no_feed, lines_join_again, number_is_i
 pub use lists::{Items, Names, Slots};
 pub use memory::OutOfMemory;
 pub use number::{append_count, append_number, read_number};
-pub use short_text::IN_PLACE;
+pub use short_text::LONGEST_SHORT_TEXT;
 pub use text::Text;
 pub use words::{LONGEST_LINE, past_blanks, without_return, word_of, words_behind};

@@ -4,13 +4,13 @@ ghost use Rattle.std.specs.Prelude.{◌≡◌, ◌+◌, ◌≤◌, ◌++◌, ◌
 use std::marker::Model;
 
 /// A text of so many bytes takes no memory. With their number, and the mark that tells short from long, they are 24 bytes.
-pub const IN_PLACE: usize = 22;
+pub const LONGEST_SHORT_TEXT: usize = 22;
 
-/// A list of up to `IN_PLACE` bytes, which contracts see as that list.
+/// A list of up to `LONGEST_SHORT_TEXT` bytes, which contracts see as that list.
 #[derive(Drop)]
 pub struct ShortText {
     len: u8,
-    bytes: [u8; IN_PLACE],
+    bytes: [u8; LONGEST_SHORT_TEXT],
 }
 
 impl Model for ShortText {
@@ -29,7 +29,7 @@ impl ShortText {
     {
         ShortText {
             len: 0,
-            bytes: [0; IN_PLACE],
+            bytes: [0; LONGEST_SHORT_TEXT],
         }
     }
 
@@ -43,7 +43,7 @@ impl ShortText {
     pub fn has_room(&self, more: usize) -> bool
         ensures { IsTrue result ↔ (length self.now + more ≤ 22) }
     {
-        more <= IN_PLACE - usize::from(self.len)
+        more <= LONGEST_SHORT_TEXT - usize::from(self.len)
     }
 
     /// Adds bytes at the end.

@@ -53,9 +53,14 @@ impl Text {
     pub fn from_bytes(alloc: Global, bytes: &[u8]) -> Result<Text, OutOfMemory>
         ensures { IfOk result (λ t. t ≡ bytes.now) }
     {
-        let mut text = Text::new(alloc);
-        text.append(bytes)?;
-        Ok(text)
+        let mut short = ShortText::new();
+        let bytes = if short.has_room(bytes.len()) {
+            short.append(bytes);
+            Bytes::Short(short)
+        } else {
+            Bytes::Long(joined(alloc, &[], bytes)?)
+        };
+        Ok(Text { alloc, bytes })
     }
 
     /// A second text with the same bytes.

@@ -1,8 +1,7 @@
-use Rattle.std.proofs.Common.{◌≡◌, ◌++◌, [], ◌∷◌, sym, ◌∙◌, ap, None, Some}
+use Rattle.std.proofs.Common.{◌++◌, [], ◌∷◌, sym, ◌∙◌, ap, Some}
 use Rattle.std.specs.Str.{bytes_eq}
 use Rattle.slab.specs.Slab.{get}
 use Rattle.indexmap.proofs.CallerLemmas.{insert_entry-new}
-use Rattle.ad_store.proofs.EnterLemmas.{lack-none}
 use Rattle.ad_store.proofs.Lookups.{lookup}
 use Rattle.ad_store.proofs.store.enter.Goals as goal
 

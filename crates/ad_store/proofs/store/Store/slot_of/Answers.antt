@@ -1,6 +1,5 @@
 use Rattle.std.proofs.Common.{◌∙◌}
 use Rattle.ad_store.proofs.HeldLemmas.{slot_beside-lookup}
-use Rattle.ad_store.proofs.ChangeLemmas.{text_held-placed}
 use Rattle.ad_store.proofs.store.Store.slot_of.Goals as goal
 
 pub returns-clause-slot : goal.returns-clause-slot

@@ -58,8 +58,9 @@ fn put_attribute(
     ensures ok { OnOk result (HasPutOne slot attr (name.now, tree expr.now) entries.old entries.new) }
     ensures err { OnErr result (IsSame entries.old entries.new) }
 {
-    let entry = Entry::of(alloc, names, name, expr)?;
-    entries.insert(place_of(slot, attr, name, expr), entry)?;
+    let place = place_of(slot, attr, name, expr);
+    let entry = Entry::of(alloc, names, place.name, name, expr)?;
+    entries.insert(place, entry)?;
     Ok(())
 }
 

@@ -24,17 +24,18 @@ pub struct Entry {
 }
 
 impl Entry {
-    /// What is kept of an attribute.
+    /// What is kept of an attribute whose name has this digest.
     pub fn of(
         alloc: Global,
         names: &mut NameCache,
+        digest: u64,
         name: &Text,
         expr: &Expr,
     ) -> Result<Entry, OutOfMemory>
         ensures { IfOk result (λ entry. entry ≡ entry_of (name.now, tree expr.now)) }
     {
         Ok(Entry {
-            name: names.shared(name)?,
+            name: names.shared(digest, name)?,
             literal: Literal::of(alloc, literal_of(expr))?,
         })
     }

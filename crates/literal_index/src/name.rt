@@ -4,7 +4,6 @@ ghost use Rattle.std.specs.Prelude.{◌≡◌, IfOk};
 use pool_text::{OutOfMemory, Text};
 use std::alloc::Global;
 use std::collections::HashMap;
-use std::hash::{FoldHasher, Hasher};
 use std::marker::Model;
 use std::rc::Rc;
 
@@ -55,8 +54,8 @@ impl Name {
 
 /// The names that were asked for of late, so that one that thousands of ads have is kept once.
 ///
-/// No more than a cache, of which contracts say nothing: a name is found by a hash, compared with what is sought, and may be
-/// forgotten at any time.
+/// No more than a cache, of which contracts say nothing: a name is found by its digest, compared with what is sought, and may
+/// be forgotten at any time.
 #[derive(Drop)]
 pub struct NameCache {
     alloc: Global,
@@ -72,33 +71,25 @@ impl NameCache {
         }
     }
 
-    /// This name, shared with those who asked for it before.
-    pub fn shared(&mut self, name: &Text) -> Result<Name, OutOfMemory>
+    /// This name of a digest, shared with those who asked for it before.
+    pub fn shared(&mut self, digest: u64, name: &Text) -> Result<Name, OutOfMemory>
         ensures { IfOk result (λ shared. shared ≡ name.now) }
     {
-        let hash = hash_of(name.bytes());
-        match self.names.get(&hash) {
+        match self.names.get(&digest) {
             Some(known) if known.bytes() == name.bytes() => known.share(),
-            _ => self.take_in(hash, name),
+            _ => self.take_in(digest, name),
         }
     }
 
     // This name, which is found from now on.
-    fn take_in(&mut self, hash: u64, name: &Text) -> Result<Name, OutOfMemory>
+    fn take_in(&mut self, digest: u64, name: &Text) -> Result<Name, OutOfMemory>
         ensures { IfOk result (λ shared. shared ≡ name.now) }
     {
         let own = Name::new(self.alloc, name)?;
         if self.names.len() >= MOST_NAMES {
             self.names.clear();
         }
-        self.names.insert(hash, own.share()?)?;
+        self.names.insert(digest, own.share()?)?;
         Ok(own)
     }
-}
-
-// A number by which bytes are found.
-fn hash_of(bytes: &[u8]) -> u64 {
-    let mut hasher = FoldHasher::default();
-    hasher.write(bytes);
-    hasher.finish()
 }

@@ -34,10 +34,11 @@ fn same_attributes(a: &Ad, b: &Ad, frame: u32) -> bool
         return false;
     }
     for k in 0..a.count(frame) {
-        if !same_text(a.name(frame, k), b.name(frame, k)) {
+        // Most ads that differ do in a number, which is compared in less time than a name.
+        if !same_expr(a.expr(frame, k), b.expr(frame, k)) {
             return false;
         }
-        if !same_expr(a.expr(frame, k), b.expr(frame, k)) {
+        if !same_text(a.name(frame, k), b.name(frame, k)) {
             return false;
         }
     }

@@ -68,6 +68,10 @@ quoted_stop kind quote at text f is = ap (λ g. reading.quoted_by kind at g (λ 
 pub run_over : (kind : TokenKind) (quote at n : ℕ) (text rest : List ℕ) → is_quote quote ≡ true → n ≡ prefix_len (reading.is_in class.Plain) text → rest ≡ drop n text → reading.quoted kind quote (at + n) 0 rest ≡ reading.quoted kind quote at 0 text
 run_over kind quote at n text rest is long behind = rw (behind, long) (plain_run kind quote at text is)
 
+-- and it goes by what stands there
+pub stop_behind : (kind : TokenKind) (quote at n : ℕ) (text rest : List ℕ) (f : Front) (whole : Step) → f ≡ reading.front quote rest → is_quote quote ≡ true → n ≡ prefix_len (reading.is_in class.Plain) text → rest ≡ drop n text → reading.quoted kind quote at 0 text ≡ whole → reading.quoted_by kind (at + n) f (λ k. reading.quoted kind quote (at + n + 1) (k - 1) (drop 1 rest)) ≡ whole
+stop_behind kind quote at n text rest f whole reads is long behind known = quoted_stop kind quote (at + n) rest f reads ∙ run_over kind quote at n text rest is long behind ∙ known
+
 -- letters are gone over
 pub quoted_over : (kind : TokenKind) (quote at : ℕ) (letters : List Letter) (rest : List ℕ) → is_quote quote ≡ true → AreLetters quote letters rest → reading.quoted kind quote at 0 (spellings letters ++ rest) ≡ reading.quoted kind quote (at + length (spellings letters)) 0 rest
 quoted_over kind quote at [] rest is are = let e : at ≡ at + 0 = omega arith in ap (λ (n : ℕ). reading.quoted kind quote n 0 rest) e

@@ -6,10 +6,15 @@ ghost use Rattle.ad_lexer.specs.Reading.{is_in};
 /// The bytes that runs are made of.
 #[derive(Clone, Copy)]
 pub enum Class {
+    /// Letters, digits and `_`.
     Word,
+    /// `0` to `9`.
     Decimal,
+    /// These and `a` to `f`, capital or small.
     Hexadecimal,
+    /// All but the line feed.
     Line,
+    /// What stands for itself between quotes of either kind.
     Plain,
 }
 
@@ -36,6 +41,7 @@ const WORD_BYTES: [bool; 256] = [
     false, false, false, false, false, false, false, false, false, false,
 ];
 
+/// Whether a byte is of the class.
 pub fn is_in(class: Class, byte: u8) -> bool
     ensures { result ≡ is_in class byte }
 {

@@ -18,6 +18,7 @@ pub fn escaped(byte: u8) -> Option<u8>
     }
 }
 
+/// Whether a byte is a digit from 0 to 7.
 pub fn is_octal_digit(byte: u8) -> bool
     ensures { result ≡ is_octal_digit byte }
 {

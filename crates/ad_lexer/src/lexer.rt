@@ -31,6 +31,7 @@ pub fn lex(alloc: Global, text: &[u8]) -> Result<Tokens<'_>, LexFault>
     }
 }
 
+/// The tokens of a text that is UTF-8, or its first fault from the left.
 fn divide(alloc: Global, text: &[u8]) -> Result<Tokens<'_>, LexFault>
     requires utf8 { IsUtf8 text.now }
     requires room { length text.now < 2 ^ 32 }
@@ -61,6 +62,7 @@ fn divide(alloc: Global, text: &[u8]) -> Result<Tokens<'_>, LexFault>
     }
 }
 
+/// A fault at a place of the text.
 fn fault_at(kind: LexKind, place: usize) -> LexFault
     requires { place < 2 ^ 32 }
     ensures { result ≡ LexFault.At kind place }

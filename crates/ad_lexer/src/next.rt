@@ -31,6 +31,7 @@ pub enum Begin {
     Symbol,
 }
 
+/// What a text begins with whose first byte is this.
 #[tactic(auto, unfolding(crate::specs::Reading::begin_of))]
 fn begin_of(byte: u8) -> Begin
     ensures { result ≡ spec.begin_of byte }
@@ -74,6 +75,7 @@ pub fn next(text: &[u8]) -> Step
     }
 }
 
+/// Whether a word is one of the six that are no names, in capital or small letters.
 fn is_reserved(word: &[u8]) -> bool
     ensures { result ≡ words.is_reserved word.now }
 {
@@ -85,6 +87,7 @@ fn is_reserved(word: &[u8]) -> bool
         || word.eq_ignore_ascii_case(b"isnt")
 }
 
+/// The word that the text begins with.
 fn word(text: &[u8]) -> Step
     requires some { 0 < length text.now }
     requires begins { spec.begin_of (slice_index text.now 0) ≡ Begin.Word }
@@ -100,6 +103,7 @@ fn word(text: &[u8]) -> Step
     Step::Token(kind, len)
 }
 
+/// What a slash at the front begins: a comment, or the operator.
 #[tactic(auto, unfolding(crate::specs::Reading::slash))]
 fn slash(text: &[u8]) -> Step
     requires some { 0 < length text.now }

@@ -14,6 +14,7 @@ use crate::token::TokenKind;
 /// Numbers of at most so many decimal digits are below 2^63.
 const SHORT_DIGITS: usize = 18;
 
+/// Whether the text begins with `0x` or `0X`.
 fn is_hexadecimal(text: &[u8]) -> bool
     ensures { result ≡ numbers.is_hexadecimal text.now }
 {
@@ -73,6 +74,7 @@ fn is_short(text: &[u8], len: usize) -> bool
     len <= SHORT_DIGITS && byte_at(text, 0) > b'0'
 }
 
+/// Whether a number has digits of its base alone, and a value below 2^63.
 fn is_integer(number: &[u8]) -> bool
     ensures { result ≡ numbers.is_integer number.now }
 {

@@ -71,6 +71,7 @@ fn quoted(kind: TokenKind, quote: u8, text: &[u8]) -> Step
     }
 }
 
+/// What stands at the front of the rest of a string that this quote closes.
 #[tactic(auto, unfolding(crate::specs::Reading::front))]
 pub fn front_of(quote: u8, text: &[u8]) -> Front
     ensures value { result ≡ spec.front quote text.now }
@@ -105,6 +106,7 @@ fn escape(text: &[u8]) -> Front
     }
 }
 
+/// The letter of an escape of up to three octal digits, whose value is 1 to 127.
 #[tactic(auto, unfolding(crate::specs::Reading::octal))]
 fn octal(first: u8, second: u8, third: u8) -> Front
     ensures value { result ≡ spec.octal first second third }

@@ -42,6 +42,7 @@ fn symbol_len(first: u8, second: u8, third: u8) -> usize
     }
 }
 
+/// The same of those that begin with `=`.
 #[tactic(auto, unfolding(crate::specs::Reading::symbol_len))]
 fn equals_len(second: u8, third: u8) -> usize
     ensures value { result ≡ spec.symbol_len 61 second third }
@@ -54,6 +55,7 @@ fn equals_len(second: u8, third: u8) -> usize
     }
 }
 
+/// The same of those that begin with `>`.
 #[tactic(auto, unfolding(crate::specs::Reading::symbol_len))]
 fn greater_len(second: u8, third: u8) -> usize
     ensures value { result ≡ spec.symbol_len 62 second third }
@@ -66,6 +68,7 @@ fn greater_len(second: u8, third: u8) -> usize
     }
 }
 
+/// Whether a byte is a symbol by itself.
 fn is_single(byte: u8) -> bool
     ensures { result ≡ is_symbol (byte ∷ []) }
 {

@@ -1,7 +1,7 @@
 use Rattle.std.proofs.Common.{◌≡◌, ℕ, ◌+◌, List, length, length-drop, ◌-◌, sym, ◌∙◌, ap, arith}
 use Rattle.ad_lexer.specs.declared.quoted.Front.TheVariants.{Close, LineEnd, Nul, Backslash}
 use Rattle.ad_lexer.specs.Reading.{quoted}
-use Rattle.ad_lexer.proofs.QuotedLemmas.{quoted_stop, quoted_turn, run_over}
+use Rattle.ad_lexer.proofs.QuotedLemmas.{quoted_turn, run_over, stop_behind}
 use Rattle.ad_lexer.proofs.quoted.quoted.Goals as goal
 
 pub loop-len-preserved : goal.loop-len-preserved
@@ -17,25 +17,13 @@ loop-len-preserved c =
     (ap (λ (l : List ℕ). quoted c.args.kind c.args.quote (at + len) 0 l) c.behind-rest-in-Letter.ensures ∙ sym turn ∙ over ∙ c.loop-len.invariant.0, omega (arith, within.1, behind, c.run_len-plain.ensures.within, c.loop-len.invariant.1))
 
 pub returns-in-Close-clause-value : goal.returns-in-Close-clause-value
-returns-in-Close-clause-value c =
-    quoted_stop c.args.kind c.args.quote (c.loop-len.at + c.run_len-plain.result) c.behind-rest.result.now Close c.in-Close.ensures.value
-    ∙ run_over c.args.kind c.args.quote c.loop-len.at c.run_len-plain.result c.loop-len.rest.now c.behind-rest.result.now c.requires.quoted c.run_len-plain.ensures.value c.behind-rest.ensures
-    ∙ c.loop-len.invariant.0
+returns-in-Close-clause-value c = stop_behind c.args.kind c.args.quote c.loop-len.at c.run_len-plain.result c.loop-len.rest.now c.behind-rest.result.now Close _ c.in-Close.ensures.value c.requires.quoted c.run_len-plain.ensures.value c.behind-rest.ensures c.loop-len.invariant.0
 
 pub returns-in-LineEnd-clause-value : goal.returns-in-LineEnd-clause-value
-returns-in-LineEnd-clause-value c =
-    quoted_stop c.args.kind c.args.quote (c.loop-len.at + c.run_len-plain.result) c.behind-rest.result.now LineEnd c.in-LineEnd.ensures.value
-    ∙ run_over c.args.kind c.args.quote c.loop-len.at c.run_len-plain.result c.loop-len.rest.now c.behind-rest.result.now c.requires.quoted c.run_len-plain.ensures.value c.behind-rest.ensures
-    ∙ c.loop-len.invariant.0
+returns-in-LineEnd-clause-value c = stop_behind c.args.kind c.args.quote c.loop-len.at c.run_len-plain.result c.loop-len.rest.now c.behind-rest.result.now LineEnd _ c.in-LineEnd.ensures.value c.requires.quoted c.run_len-plain.ensures.value c.behind-rest.ensures c.loop-len.invariant.0
 
 pub returns-in-Nul-clause-value : goal.returns-in-Nul-clause-value
-returns-in-Nul-clause-value c =
-    quoted_stop c.args.kind c.args.quote (c.loop-len.at + c.run_len-plain.result) c.behind-rest.result.now Nul c.in-Nul.ensures.value
-    ∙ run_over c.args.kind c.args.quote c.loop-len.at c.run_len-plain.result c.loop-len.rest.now c.behind-rest.result.now c.requires.quoted c.run_len-plain.ensures.value c.behind-rest.ensures
-    ∙ c.loop-len.invariant.0
+returns-in-Nul-clause-value c = stop_behind c.args.kind c.args.quote c.loop-len.at c.run_len-plain.result c.loop-len.rest.now c.behind-rest.result.now Nul _ c.in-Nul.ensures.value c.requires.quoted c.run_len-plain.ensures.value c.behind-rest.ensures c.loop-len.invariant.0
 
 pub returns-in-Backslash-clause-value : goal.returns-in-Backslash-clause-value
-returns-in-Backslash-clause-value c =
-    quoted_stop c.args.kind c.args.quote (c.loop-len.at + c.run_len-plain.result) c.behind-rest.result.now Backslash c.in-Backslash.ensures.value
-    ∙ run_over c.args.kind c.args.quote c.loop-len.at c.run_len-plain.result c.loop-len.rest.now c.behind-rest.result.now c.requires.quoted c.run_len-plain.ensures.value c.behind-rest.ensures
-    ∙ c.loop-len.invariant.0
+returns-in-Backslash-clause-value c = stop_behind c.args.kind c.args.quote c.loop-len.at c.run_len-plain.result c.loop-len.rest.now c.behind-rest.result.now Backslash _ c.in-Backslash.ensures.value c.requires.quoted c.run_len-plain.ensures.value c.behind-rest.ensures c.loop-len.invariant.0

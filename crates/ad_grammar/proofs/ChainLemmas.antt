@@ -4,7 +4,7 @@ use Rattle.pool_text.specs.declared.language.UnOp.{UnOp}
 use Rattle.ad_tree.specs.Inline.{Inline}
 use Rattle.ad_tree.specs.Tree.{unary}
 use Rattle.ad_grammar.specs.Rules.{Rule, Reading, and_then, prefixed_or, prefix_word, prefixes, postfix}
-use Rattle.ad_grammar.specs.Shapes.{over_one}
+use Rattle.ad_builder.specs.Shapes.{over_one}
 use Rattle.ad_grammar.specs.Steps.{prefix_at, applied, wrapped}
 use Rattle.ad_grammar.specs.Words.{Word}
 

@@ -7,7 +7,7 @@ use Rattle.ad_tree.specs.Tree.{name}
 use Rattle.pool_text.specs.declared.language.UnOp.{UnOp}
 use Rattle.ad_grammar.specs.declared.mark.Mark.{Mark}
 use Rattle.ad_grammar.specs.declared.mark.Mark.TheVariants.{OpenParen, CloseParen, OpenBracket, CloseBracket, OpenBrace, CloseBrace, Comma, Semicolon, Dot, Assign, Question, Colon}
-use Rattle.ad_grammar.specs.Shapes.{leaf}
+use Rattle.ad_builder.specs.Shapes.{leaf}
 use Rattle.ad_grammar.specs.Words.{Word, plain, mark}
 use Rattle.ad_grammar.specs.Grammar.{IsName, plain_name, quoted_name, IsExpr, conditional, level, IsLevel, operation, tighter, single, IsUnary, prefixed, bare, IsPostfix, selection, subscripted, operand, IsPrimary, constant_operand, scoped, own, called, named, listed, ad_literal, grouped, IsList, nothing, something, IsSeveral, last_one, one_more, IsAd, empty_ad, full_ad, IsDefs, last_def, closed_def, more_defs}
 use Rattle.ad_grammar.specs.Rules.{Reading, Rule, close_paren, close_brace, several, arguments, elements, definitions_behind, definitions_at, ad_behind, named_in, plain_at, primary, suffixes, postfix, prefixed_or, prefixes, operation_or, operations, level_at, conditionals, expression}

@@ -5,10 +5,10 @@ use Rattle.pool_text.specs.declared.language.UnOp.{UnOp}
 use Rattle.ad_tree.specs.Inline.{Inline, Inlines, next, end}
 use Rattle.ad_grammar.specs.declared.mark.Mark.{Mark}
 use Rattle.ad_grammar.specs.declared.mark.Mark.TheVariants.{OpenParen, OpenBracket, OpenBrace, Comma, Dot, Question, And, Or, Binary}
-use Rattle.ad_grammar.specs.declared.program.Infix.{Infix}
-use Rattle.ad_grammar.specs.declared.program.Infix.TheVariants as infixes
+use Rattle.ad_builder.specs.declared.instruction.Infix.{Infix}
+use Rattle.ad_builder.specs.declared.instruction.Infix.TheVariants as infixes
 use Rattle.ad_grammar.specs.Grammar.{IsNoScope}
-use Rattle.ad_grammar.specs.Shapes.{precedence, infix_of}
+use Rattle.ad_grammar.specs.Operators.{precedence, infix_of}
 use Rattle.ad_grammar.specs.Words.{Word, mark}
 use Rattle.ad_grammar.specs.Rules.{Reading, Rule, several_behind, suffixes, postfix, prefix_word, prefixed_or, prefixes, at_precedence, infix_at, operation_or, operations, choice_behind}
 

@@ -2,10 +2,10 @@
 use Rattle.std.proofs.Common.{refl, arith, ◌≡◌, ℕ, zero, suc, ◌+◌, ◌-◌, ◌<◌, ◌≤◌, ◌==◌, Bool, true, false, List, [], ◌∷◌, length, Option, None, Some, option_map, ap, sym, ◌∙◌, if◌then◌else◌}
 use Rattle.std.proofs.lemmas.Bool.Decides.{nat_tests}
 use Rattle.ad_tree.specs.Inline.{Inline}
-use Rattle.ad_grammar.specs.declared.program.Infix.{Infix}
+use Rattle.ad_builder.specs.declared.instruction.Infix.{Infix}
 use Rattle.ad_grammar.specs.Levels.{precedence_at, climb}
 use Rattle.ad_grammar.specs.Rules.{Rule, Reading, and_then, prefixes, at_precedence, infix_at, operation_or, operations, level_at}
-use Rattle.ad_grammar.specs.Shapes.{infix_of}
+use Rattle.ad_grammar.specs.Operators.{infix_of}
 use Rattle.ad_grammar.specs.Words.{Word, plain, quoted, constant, mark}
 
 and_then-assoc : {A B C : Type 0} (r : Reading A) (f : A → List Word → Reading B) (g : B → List Word → Reading C) → and_then (and_then r f) g ≡ and_then r (λ a ws. and_then (f a ws) g)

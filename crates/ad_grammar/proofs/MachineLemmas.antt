@@ -2,11 +2,11 @@
 use Rattle.std.proofs.Common.{refl, arith, ◌≡◌, ℕ, zero, suc, ◌+◌, ◌<◌, List, [], ◌∷◌, ◌++◌, length, get_or, slice_set, None, Some, ap, sym, ◌∙◌, add-one}
 use Rattle.ad_tree.specs.Inline.{Inline, Inlines, Defs, shape, inner, end, next, no_defs, def}
 use Rattle.ad_tree.specs.Tree.{Label, choice}
-use Rattle.ad_grammar.specs.declared.program.Instruction.{Instruction}
-use Rattle.ad_grammar.specs.declared.program.Instruction.TheVariants as instructions
-use Rattle.ad_grammar.specs.Machine.{top, below, step, run, chosen, defined_last, with_element, with_elements, with_definition, with_definitions}
+use Rattle.ad_builder.specs.declared.instruction.Instruction.{Instruction}
+use Rattle.ad_builder.specs.declared.instruction.Instruction.TheVariants as instructions
+use Rattle.ad_builder.specs.Machine.{top, below, step, run, chosen, defined_last, with_element, with_elements, with_definition, with_definitions}
 use Rattle.ad_grammar.specs.Rules.{Reading, and_then}
-use Rattle.ad_grammar.specs.Shapes.{over_three, followed_by}
+use Rattle.ad_builder.specs.Shapes.{over_three, followed_by}
 use Rattle.ad_grammar.specs.Steps.{extended, completed}
 
 -- ---- programs ----

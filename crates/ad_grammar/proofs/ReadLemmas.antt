@@ -2,11 +2,11 @@
 use Rattle.std.proofs.Common.{◌≡◌, ℕ, suc, ◌+◌, ◌<◌, List, [], ◌∷◌, length, Option, None, Some, Result, Ok, Err, IsErr, IsErrAnd, refl, sym, ap, ◌∙◌, arith}
 use Rattle.ad_tree.specs.Inline.{Inline, inner}
 use Rattle.ad_grammar.specs.declared.mark.Mark.TheVariants.{OpenBracket}
-use Rattle.ad_grammar.specs.declared.program.Instruction.TheVariants as instructions
-use Rattle.ad_grammar.specs.declared.program.Program.{Program}
+use Rattle.ad_builder.specs.declared.instruction.Instruction.TheVariants as instructions
+use Rattle.ad_builder.specs.declared.machine.Machine.{Program}
 use Rattle.ad_grammar.specs.declared.stop.Stop.{Stop}
 use Rattle.ad_grammar.specs.declared.stop.Stop.TheVariants as stops
-use Rattle.ad_grammar.specs.Machine.{stack, top, below, step}
+use Rattle.ad_builder.specs.Machine.{stack, top, below, step}
 use Rattle.ad_grammar.specs.Read.{IsRead}
 use Rattle.ad_grammar.specs.Rules.{and_then, ad_behind, expression, whole, parsed_expr, parsed_ad}
 use Rattle.ad_grammar.specs.Steps.{completed}

@@ -4,7 +4,7 @@ use Rattle.pool_text.specs.declared.language.UnOp.{UnOp}
 use Rattle.ad_grammar.specs.declared.mark.Mark.{Mark}
 use Rattle.ad_grammar.specs.declared.mark.Mark.TheVariants.{CloseParen, CloseBracket, CloseBrace, Assign, Colon}
 use Rattle.ad_grammar.specs.Grammar.{IsName, plain_name, quoted_name}
-use Rattle.ad_grammar.specs.Shapes.{prefix_of}
+use Rattle.ad_grammar.specs.Operators.{prefix_of}
 use Rattle.ad_grammar.specs.Words.{Word, plain, quoted, mark}
 use Rattle.ad_grammar.specs.Rules.{Reading, and_then, name_at, close_paren, close_bracket, close_brace, colon, assigned, prefix_word}
 

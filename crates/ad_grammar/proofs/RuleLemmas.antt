@@ -5,13 +5,13 @@ use Rattle.ad_tree.specs.Inline.{Inline, Inlines, Defs, end, next, no_defs, def}
 use Rattle.ad_tree.specs.Tree.{select, subscript, choice, call, list}
 use Rattle.ad_grammar.specs.declared.mark.Mark.{Mark}
 use Rattle.ad_grammar.specs.declared.mark.Mark.TheVariants.{OpenParen, CloseParen, OpenBracket, CloseBracket, OpenBrace, CloseBrace, Comma, Dot, Assign, Question, Colon}
-use Rattle.ad_grammar.specs.declared.program.Infix.{Infix}
-use Rattle.ad_grammar.specs.declared.program.Instruction.TheVariants as instructions
+use Rattle.ad_builder.specs.declared.instruction.Infix.{Infix}
+use Rattle.ad_builder.specs.declared.instruction.Instruction.TheVariants as instructions
 use Rattle.ad_grammar.specs.declared.stop.Stop.{Stop}
 use Rattle.ad_grammar.specs.declared.stop.Stop.TheVariants as stops
-use Rattle.ad_grammar.specs.Machine.{top, below, step, chosen, with_element, with_elements, with_definition}
+use Rattle.ad_builder.specs.Machine.{top, below, step, chosen, with_element, with_elements, with_definition}
 use Rattle.ad_grammar.specs.Rules.{Rule, Reading, and_then, name_at, close_paren, close_bracket, close_brace, several_behind, several, arguments, elements, assigned, definitions_behind, definitions_at, ad_behind, plain_at, primary, postfix, suffixes, infix_at, operation_or, operations, level_at, colon, choice_behind, conditionals}
-use Rattle.ad_grammar.specs.Shapes.{over_one, over_two, over_three, joined}
+use Rattle.ad_builder.specs.Shapes.{over_one, over_two, over_three, joined}
 use Rattle.ad_grammar.specs.Steps.{Begins, Puts, defined_at, selected, extended, completed}
 use Rattle.ad_grammar.specs.Words.{Word, plain, quoted, constant, mark}
 use Rattle.ad_grammar.proofs.MachineLemmas.{choices, chosen-top, chosen-below, chosen-next, choices-next, extended-new, extended-next, completed-new, completed-next}

@@ -8,8 +8,9 @@ use Rattle.ad_tree.specs.Tree.{unary, select, subscript}
 use Rattle.pool_text.specs.declared.language.UnOp.{UnOp}
 use Rattle.ad_grammar.specs.declared.mark.Mark.{Mark}
 use Rattle.ad_grammar.specs.declared.mark.Mark.TheVariants.{OpenParen, CloseParen, OpenBracket, CloseBracket, OpenBrace, CloseBrace, Comma, Semicolon, Dot, Assign, Question, Colon}
-use Rattle.ad_grammar.specs.declared.program.Infix.{Infix}
-use Rattle.ad_grammar.specs.Shapes.{over_one, over_two, joined, infix_of}
+use Rattle.ad_builder.specs.declared.instruction.Infix.{Infix}
+use Rattle.ad_builder.specs.Shapes.{over_one, over_two, joined}
+use Rattle.ad_grammar.specs.Operators.{infix_of}
 use Rattle.ad_grammar.specs.Words.{Word, plain, quoted, constant, mark, scope_of}
 use Rattle.ad_grammar.specs.Grammar.{IsName, plain_name, quoted_name, IsNoScope, IsExpr, conditional, level, IsLevel, operation, tighter, single, IsUnary, prefixed, bare, IsPostfix, selection, subscripted, operand, IsPrimary, constant_operand, scoped, own, called, named, listed, ad_literal, grouped, IsList, nothing, something, IsSeveral, last_one, one_more, IsAd, empty_ad, full_ad, IsDefs, last_def, closed_def, more_defs}
 use Rattle.ad_grammar.specs.Rules.{Reading, Rule, several_behind, several, arguments, elements, definitions_behind, definitions_at, ad_behind, named_in, plain_at, primary, suffixes, postfix, prefix_word, prefixed_or, prefixes, at_precedence, infix_at, operation_or, operations, level_at, choice_behind, conditionals, expression, whole}

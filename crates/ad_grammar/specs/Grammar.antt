@@ -8,8 +8,9 @@ use Rattle.ad_tree.specs.Inline.{Inline, Inlines, Defs, shape, inner, end, next,
 use Rattle.ad_tree.specs.Tree.{literal, name, unary, choice, select, subscript, call, list}
 use Rattle.ad_grammar.specs.declared.mark.Mark.{Mark}
 use Rattle.ad_grammar.specs.declared.mark.Mark.TheVariants.{OpenParen, CloseParen, OpenBracket, CloseBracket, OpenBrace, CloseBrace, Comma, Semicolon, Dot, Assign, Question, Colon}
-use Rattle.ad_grammar.specs.declared.program.Infix.{Infix}
-use Rattle.ad_grammar.specs.Shapes.{leaf, over_one, over_two, over_three, joined, infix_of, prefix_of}
+use Rattle.ad_builder.specs.declared.instruction.Infix.{Infix}
+use Rattle.ad_builder.specs.Shapes.{leaf, over_one, over_two, over_three, joined}
+use Rattle.ad_grammar.specs.Operators.{infix_of, prefix_of}
 use Rattle.ad_grammar.specs.Words.{Word, plain, quoted, constant, mark, scope_of}
 
 -- a name is a plain one or one in quotes

@@ -3,7 +3,7 @@ use Rattle.std.specs.Prelude.{ℕ, zero, suc, List, length, Option, Some, option
 use Rattle.std.specs.Option.{option_and_then}
 use Rattle.ad_tree.specs.Inline.{Inline}
 use Rattle.ad_grammar.specs.Rules.{Rule, Reading, and_then, operations, level_at}
-use Rattle.ad_grammar.specs.Shapes.{infix_of}
+use Rattle.ad_grammar.specs.Operators.{infix_of}
 use Rattle.ad_grammar.specs.HeldMarks.{front_mark}
 use Rattle.ad_grammar.specs.Words.{Word}
 

@@ -1,12 +1,11 @@
 pub mod Grammar
 pub mod HeldMarks
 pub mod Levels
-pub mod Machine
 pub mod Made
 pub mod Meaning
 pub mod Nesting
+pub mod Operators
 pub mod Read
 pub mod Rules
-pub mod Shapes
 pub mod Steps
 pub mod Words

@@ -11,9 +11,9 @@ use Rattle.ad_grammar.specs.declared.mark.Mark.TheVariants.{Dot}
 use Rattle.ad_grammar.specs.declared.reader.Reader.{Reader}
 use Rattle.ad_grammar.specs.declared.stop.Stop.{Stop}
 use Rattle.ad_grammar.specs.declared.stop.Stop.TheVariants as stops
-use Rattle.ad_grammar.specs.Machine.{top, below, with_elements, with_definitions}
+use Rattle.ad_builder.specs.Machine.{top, below, with_elements, with_definitions}
 use Rattle.ad_grammar.specs.Rules.{Reading, Rule, and_then, name_at, prefix_word, arguments, assigned, named_in, definitions_behind}
-use Rattle.ad_grammar.specs.Shapes.{leaf, over_one}
+use Rattle.ad_builder.specs.Shapes.{leaf, over_one}
 use Rattle.ad_grammar.specs.HeldMarks.{known_words, ends_at}
 use Rattle.ad_grammar.specs.Words.{Word, constant, mark, scope_of}
 

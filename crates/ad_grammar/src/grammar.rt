@@ -1,10 +1,10 @@
 // The rules of the grammar, each a function that reads what stands at the front of the words that are left, and adds to a
-// program what builds its tree (ClassAd Language Reference Manual 2.4, grammar). `fuel` bounds how many expressions stand
+// machine what builds its tree (ClassAd Language Reference Manual 2.4, grammar). `fuel` bounds how many expressions stand
 // within one another; the number of words and one more is enough. Chains are read by loops, so that only brackets take
 // stack.
 ghost use Rattle.std.specs.Prelude.{◌≡◌, ◌-◌, ◌≤◌, ◌∷◌, suc, length, IfOk, OnOk};
 ghost use Rattle.ad_grammar.specs.Levels.{climb};
-ghost use Rattle.ad_grammar.specs.Machine.{stack, top, below};
+ghost use Rattle.ad_builder.specs.Machine.{stack, top, below};
 ghost use Rattle.ad_grammar.specs.Rules as rules;
 ghost use Rattle.ad_grammar.specs.Rules.{Rule};
 ghost use Rattle.ad_grammar.specs.Steps.{left, Puts, wrapped, applied, extended, completed};
@@ -12,9 +12,9 @@ ghost use Rattle.ad_grammar.specs.Words.{mark as mark_word};
 
 use crate::mark::Mark;
 use crate::phrase::{attribute, defined, finished, lone, selection, worded};
-use crate::program::{Instruction, Program};
 use crate::reader::Reader;
 use crate::stop::Stop;
+use ad_builder::{Instruction, Machine};
 use ad_tree::Scope;
 use pool_text::{OutOfMemory, UnOp};
 use std::alloc::Global;
@@ -27,18 +27,18 @@ const LAST_PRECEDENCE: usize = 10;
 pub fn expression(
     alloc: Global,
     reader: &mut Reader<'_>,
-    program: &mut Program,
+    machine: &mut Machine,
     fuel: usize,
 ) -> Result<(), Stop>
-    ensures { Puts (rules.expression fuel (left reader.old)) result (left reader.new) (stack program.old) (stack program.new) }
+    ensures { Puts (rules.expression fuel (left reader.old)) result (left reader.new) (stack machine.old) (stack machine.new) }
 {
     if fuel == 0 {
         return Err(Stop::Grammar);
     }
-    if lone(alloc, reader, program)? {
+    if lone(alloc, reader, machine)? {
         return Ok(());
     }
-    conditionals(alloc, reader, program, fuel - 1)
+    conditionals(alloc, reader, machine, fuel - 1)
 }
 
 /// A conditional, or what binds tighter.
@@ -46,21 +46,21 @@ pub fn expression(
 fn conditionals(
     alloc: Global,
     reader: &mut Reader<'_>,
-    program: &mut Program,
+    machine: &mut Machine,
     fuel: usize,
 ) -> Result<(), Stop>
     ensures { Puts (rules.conditionals (rules.expression fuel) (suc (length (left reader.old))) (left reader.old))
-        result (left reader.new) (stack program.old) (stack program.new) }
+        result (left reader.new) (stack machine.old) (stack machine.new) }
 {
     let mut pending: usize = 0;
     let mut turns = reader.count() + 1;
     while turns > 0 {
         turns -= 1;
-        level(alloc, reader, program, fuel, LAST_PRECEDENCE)?;
+        level(alloc, reader, machine, fuel, LAST_PRECEDENCE)?;
         if !reader.takes(Mark::Question) {
-            return Ok(program.choose(pending)?);
+            return Ok(machine.choose(pending)?);
         }
-        expression(alloc, reader, program, fuel)?;
+        expression(alloc, reader, machine, fuel)?;
         reader.expect(Mark::Colon)?;
         pending += 1;
     }
@@ -72,15 +72,15 @@ fn conditionals(
 fn level(
     alloc: Global,
     reader: &mut Reader<'_>,
-    program: &mut Program,
+    machine: &mut Machine,
     fuel: usize,
     precedence: usize,
 ) -> Result<(), Stop>
     ensures { Puts (rules.level_at (rules.expression fuel) precedence (left reader.old))
-        result (left reader.new) (stack program.old) (stack program.new) }
+        result (left reader.new) (stack machine.old) (stack machine.new) }
 {
-    prefixes(alloc, reader, program, fuel)?;
-    climb(alloc, reader, program, fuel, precedence)
+    prefixes(alloc, reader, machine, fuel)?;
+    climb(alloc, reader, machine, fuel, precedence)
 }
 
 /// Operators that bind at most this loosely behind an operand, level by level from the tightest. Levels whose operators
@@ -89,16 +89,16 @@ fn level(
 fn climb(
     alloc: Global,
     reader: &mut Reader<'_>,
-    program: &mut Program,
+    machine: &mut Machine,
     fuel: usize,
     precedence: usize,
 ) -> Result<(), Stop>
-    ensures { Puts (climb (rules.expression fuel) 0 precedence (top (stack program.old)) (left reader.old))
-        result (left reader.new) (below (stack program.old)) (stack program.new) }
+    ensures { Puts (climb (rules.expression fuel) 0 precedence (top (stack machine.old)) (left reader.old))
+        result (left reader.new) (below (stack machine.old)) (stack machine.new) }
 {
     let mut reached = 0;
     while let Some(next) = reader.precedence(reached, precedence) {
-        operations(alloc, reader, program, fuel, next)?;
+        operations(alloc, reader, machine, fuel, next)?;
         reached = next;
     }
     Ok(())
@@ -109,14 +109,14 @@ fn climb(
 fn operations(
     alloc: Global,
     reader: &mut Reader<'_>,
-    program: &mut Program,
+    machine: &mut Machine,
     fuel: usize,
     precedence: usize,
 ) -> Result<(), Stop>
     requires { 1 ≤ precedence }
     ensures { Puts (rules.operations (rules.level_at (rules.expression fuel) (precedence - 1)) precedence
-        (length (left reader.old)) (top (stack program.old)) (left reader.old))
-        result (left reader.new) (below (stack program.old)) (stack program.new) }
+        (length (left reader.old)) (top (stack machine.old)) (left reader.old))
+        result (left reader.new) (below (stack machine.old)) (stack machine.new) }
 {
     let mut turns = reader.count();
     while turns > 0 {
@@ -124,8 +124,8 @@ fn operations(
         let Some(operator) = reader.infix(precedence) else {
             return Ok(());
         };
-        level(alloc, reader, program, fuel, precedence - 1)?;
-        program.push(Instruction::Infix(operator))?;
+        level(alloc, reader, machine, fuel, precedence - 1)?;
+        machine.push(Instruction::Infix(operator))?;
     }
     Ok(())
 }
@@ -135,15 +135,15 @@ fn operations(
 fn prefixes(
     alloc: Global,
     reader: &mut Reader<'_>,
-    program: &mut Program,
+    machine: &mut Machine,
     fuel: usize,
 ) -> Result<(), Stop>
     ensures { Puts (rules.prefixes (rules.expression fuel) (left reader.old))
-        result (left reader.new) (stack program.old) (stack program.new) }
+        result (left reader.new) (stack machine.old) (stack machine.new) }
 {
     let operators = read_operators(alloc, reader)?;
-    postfix(alloc, reader, program, fuel)?;
-    Ok(apply(program, operators)?)
+    postfix(alloc, reader, machine, fuel)?;
+    Ok(apply(machine, operators)?)
 }
 
 /// A primary with selections and subscripts behind it.
@@ -151,14 +151,14 @@ fn prefixes(
 fn postfix(
     alloc: Global,
     reader: &mut Reader<'_>,
-    program: &mut Program,
+    machine: &mut Machine,
     fuel: usize,
 ) -> Result<(), Stop>
     ensures { Puts (rules.postfix (rules.expression fuel) (left reader.old))
-        result (left reader.new) (stack program.old) (stack program.new) }
+        result (left reader.new) (stack machine.old) (stack machine.new) }
 {
-    primary(alloc, reader, program, fuel)?;
-    suffixes(alloc, reader, program, fuel)
+    primary(alloc, reader, machine, fuel)?;
+    suffixes(alloc, reader, machine, fuel)
 }
 
 /// Selections and subscripts behind an operand.
@@ -166,21 +166,21 @@ fn postfix(
 fn suffixes(
     alloc: Global,
     reader: &mut Reader<'_>,
-    program: &mut Program,
+    machine: &mut Machine,
     fuel: usize,
 ) -> Result<(), Stop>
-    ensures { Puts (rules.suffixes (rules.expression fuel) (length (left reader.old)) (top (stack program.old)) (left reader.old))
-        result (left reader.new) (below (stack program.old)) (stack program.new) }
+    ensures { Puts (rules.suffixes (rules.expression fuel) (length (left reader.old)) (top (stack machine.old)) (left reader.old))
+        result (left reader.new) (below (stack machine.old)) (stack machine.new) }
 {
     let mut turns = reader.count();
     while turns > 0 {
         turns -= 1;
         if reader.takes(Mark::Dot) {
-            selection(alloc, reader, program)?;
+            selection(alloc, reader, machine)?;
         } else if reader.takes(Mark::OpenBracket) {
-            expression(alloc, reader, program, fuel)?;
+            expression(alloc, reader, machine, fuel)?;
             reader.expect(Mark::CloseBracket)?;
-            program.push(Instruction::Subscript)?;
+            machine.push(Instruction::Subscript)?;
         } else {
             return Ok(());
         }
@@ -193,17 +193,17 @@ fn suffixes(
 fn primary(
     alloc: Global,
     reader: &mut Reader<'_>,
-    program: &mut Program,
+    machine: &mut Machine,
     fuel: usize,
 ) -> Result<(), Stop>
     ensures { Puts (rules.primary (rules.expression fuel) (left reader.old))
-        result (left reader.new) (stack program.old) (stack program.new) }
+        result (left reader.new) (stack machine.old) (stack machine.new) }
 {
     if let Some(mark) = reader.take_mark() {
-        return marked(alloc, reader, program, fuel, mark);
+        return marked(alloc, reader, machine, fuel, mark);
     }
-    if worded(alloc, reader, program)? {
-        return arguments(alloc, reader, program, fuel);
+    if worded(alloc, reader, machine)? {
+        return arguments(alloc, reader, machine, fuel);
     }
     Ok(())
 }
@@ -213,26 +213,26 @@ fn primary(
 fn marked(
     alloc: Global,
     reader: &mut Reader<'_>,
-    program: &mut Program,
+    machine: &mut Machine,
     fuel: usize,
     mark: Mark,
 ) -> Result<(), Stop>
     ensures { Puts (rules.primary (rules.expression fuel) (mark_word mark ∷ left reader.old))
-        result (left reader.new) (stack program.old) (stack program.new) }
+        result (left reader.new) (stack machine.old) (stack machine.new) }
 {
     match mark {
-        Mark::Dot => attribute(alloc, reader, program, Scope::My),
+        Mark::Dot => attribute(alloc, reader, machine, Scope::My),
         Mark::OpenBrace => {
-            program.push(Instruction::List(0))?;
-            elements(alloc, reader, program, fuel)
+            machine.push(Instruction::List(reader.elements_ahead()))?;
+            elements(alloc, reader, machine, fuel)
         }
         Mark::OpenBracket => {
-            program.push(Instruction::Ad)?;
-            definitions(alloc, reader, program, fuel)?;
-            Ok(program.push(Instruction::Close)?)
+            machine.push(Instruction::Ad)?;
+            definitions(alloc, reader, machine, fuel)?;
+            Ok(machine.push(Instruction::Close)?)
         }
         Mark::OpenParen => {
-            expression(alloc, reader, program, fuel)?;
+            expression(alloc, reader, machine, fuel)?;
             reader.expect(Mark::CloseParen)
         }
         _ => Err(Stop::Grammar),
@@ -244,16 +244,16 @@ fn marked(
 fn arguments(
     alloc: Global,
     reader: &mut Reader<'_>,
-    program: &mut Program,
+    machine: &mut Machine,
     fuel: usize,
 ) -> Result<(), Stop>
-    ensures { Puts (extended (top (stack program.old)) (rules.arguments (rules.expression fuel) (left reader.old)))
-        result (left reader.new) (below (stack program.old)) (stack program.new) }
+    ensures { Puts (extended (top (stack machine.old)) (rules.arguments (rules.expression fuel) (left reader.old)))
+        result (left reader.new) (below (stack machine.old)) (stack machine.new) }
 {
     if reader.takes(Mark::CloseParen) {
         return Ok(());
     }
-    several(alloc, reader, program, fuel)?;
+    several(alloc, reader, machine, fuel)?;
     reader.expect(Mark::CloseParen)
 }
 
@@ -262,16 +262,16 @@ fn arguments(
 fn elements(
     alloc: Global,
     reader: &mut Reader<'_>,
-    program: &mut Program,
+    machine: &mut Machine,
     fuel: usize,
 ) -> Result<(), Stop>
-    ensures { Puts (extended (top (stack program.old)) (rules.elements (rules.expression fuel) (left reader.old)))
-        result (left reader.new) (below (stack program.old)) (stack program.new) }
+    ensures { Puts (extended (top (stack machine.old)) (rules.elements (rules.expression fuel) (left reader.old)))
+        result (left reader.new) (below (stack machine.old)) (stack machine.new) }
 {
     if reader.takes(Mark::CloseBrace) {
         return Ok(());
     }
-    several(alloc, reader, program, fuel)?;
+    several(alloc, reader, machine, fuel)?;
     reader.expect(Mark::CloseBrace)
 }
 
@@ -280,22 +280,19 @@ fn elements(
 fn several(
     alloc: Global,
     reader: &mut Reader<'_>,
-    program: &mut Program,
+    machine: &mut Machine,
     fuel: usize,
 ) -> Result<(), Stop>
-    ensures { Puts (extended (top (stack program.old))
+    ensures { Puts (extended (top (stack machine.old))
         (rules.several (rules.expression fuel) (length (left reader.old)) (left reader.old)))
-        result (left reader.new) (below (stack program.old)) (stack program.new) }
+        result (left reader.new) (below (stack machine.old)) (stack machine.new) }
 {
-    let opening = program.last_place();
-    let most = reader.count();
-    let mut turns = most;
+    let mut turns = reader.count();
     while turns > 0 {
         turns -= 1;
-        expression(alloc, reader, program, fuel)?;
-        program.push(Instruction::Element)?;
+        expression(alloc, reader, machine, fuel)?;
+        machine.push(Instruction::Element)?;
         if !reader.takes(Mark::Comma) {
-            program.make_room(opening, most.saturating_sub(turns));
             return Ok(());
         }
     }
@@ -307,35 +304,35 @@ fn several(
 pub fn definitions(
     alloc: Global,
     reader: &mut Reader<'_>,
-    program: &mut Program,
+    machine: &mut Machine,
     fuel: usize,
 ) -> Result<(), Stop>
-    ensures { Puts (completed (top (stack program.old)) (rules.ad_behind (rules.expression fuel) (left reader.old)))
-        result (left reader.new) (below (stack program.old)) (stack program.new) }
+    ensures { Puts (completed (top (stack machine.old)) (rules.ad_behind (rules.expression fuel) (left reader.old)))
+        result (left reader.new) (below (stack machine.old)) (stack machine.new) }
 {
     if reader.takes(Mark::CloseBracket) {
         return Ok(());
     }
-    some_definitions(alloc, reader, program, fuel)
+    some_definitions(alloc, reader, machine, fuel)
 }
 
 #[cycle(grammar)]
 fn some_definitions(
     alloc: Global,
     reader: &mut Reader<'_>,
-    program: &mut Program,
+    machine: &mut Machine,
     fuel: usize,
 ) -> Result<(), Stop>
-    ensures { Puts (completed (top (stack program.old))
+    ensures { Puts (completed (top (stack machine.old))
         (rules.definitions_at (rules.expression fuel) (length (left reader.old)) (left reader.old)))
-        result (left reader.new) (below (stack program.old)) (stack program.new) }
+        result (left reader.new) (below (stack machine.old)) (stack machine.new) }
 {
     let mut turns = reader.count();
     while turns > 0 {
         turns -= 1;
         let name = defined(alloc, reader)?;
-        expression(alloc, reader, program, fuel)?;
-        if !finished(reader, program, name)? {
+        expression(alloc, reader, machine, fuel)?;
+        if !finished(reader, machine, name)? {
             return Ok(());
         }
     }
@@ -360,13 +357,13 @@ fn read_operators(alloc: Global, reader: &mut Reader<'_>) -> Result<Vec<UnOp>, O
 }
 
 /// The operators applied to the last tree, the last of them first.
-fn apply(program: &mut Program, operators: Vec<UnOp>) -> Result<(), OutOfMemory>
-    ensures top { OnOk result (top (stack program.new) ≡ applied operators.items (top (stack program.old))) }
-    ensures below { OnOk result (below (stack program.new) ≡ below (stack program.old)) }
+fn apply(machine: &mut Machine, operators: Vec<UnOp>) -> Result<(), OutOfMemory>
+    ensures top { OnOk result (top (stack machine.new) ≡ applied operators.items (top (stack machine.old))) }
+    ensures below { OnOk result (below (stack machine.new) ≡ below (stack machine.old)) }
 {
     let mut operators = operators;
     while let Some(operator) = operators.pop() {
-        program.push(Instruction::Unary(operator))?;
+        machine.push(Instruction::Unary(operator))?;
     }
     Ok(())
 }

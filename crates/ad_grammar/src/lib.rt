@@ -1,4 +1,4 @@
-//! The grammar of the ClassAd language: which words spell which tree, and the program that builds the tree of words.
+//! The grammar of the ClassAd language: which words spell which tree, and the machine that has built the tree of words.
 #![tactic(auto)]
 
 mod grammar;
@@ -7,7 +7,6 @@ mod mark;
 mod nesting;
 mod operators;
 mod phrase;
-mod program;
 mod read;
 mod reader;
 mod stop;
@@ -19,7 +18,6 @@ pub use laws::{
     words_make_parsed_trees, words_spell_one_tree,
 };
 pub use mark::Mark;
-pub use program::{Infix, Instruction, Program};
 pub use read::{read_ad, read_expression};
 pub use reader::Reader;
 pub use stop::Stop;

@@ -36,7 +36,7 @@ pub fn nest_too_deep(marks: &[Option<Mark>]) -> bool
     false
 }
 
-fn turn_of(mark: Option<Mark>) -> Turn
+pub fn turn_of(mark: Option<Mark>) -> Turn
     ensures { (w : MeantWord) → mark_in w ≡ mark → IsTurn result w }
 {
     match mark {

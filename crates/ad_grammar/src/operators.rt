@@ -1,10 +1,10 @@
 // The tables of operators.
 ghost use Rattle.std.specs.Prelude.{◌≡◌};
-ghost use Rattle.ad_grammar.specs.Shapes.{infix_of, precedence, prefix_of};
+ghost use Rattle.ad_grammar.specs.Operators.{infix_of, precedence, prefix_of};
 ghost use Rattle.ad_grammar.specs.HeldMarks.{ends};
 
 use crate::mark::Mark;
-use crate::program::Infix;
+use ad_builder::Infix;
 use pool_text::{BinOp, UnOp};
 
 /// The operator that a mark is between two operands, and its precedence.

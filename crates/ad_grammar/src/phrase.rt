@@ -1,18 +1,18 @@
 // Parts of the rules that hold no expression.
 ghost use Rattle.std.specs.Prelude.{◌≡◌, ℕ, Bool, true, false, List, Some, None, Ok, Err, suc};
-ghost use Rattle.ad_grammar.specs.declared.program.Instruction.TheVariants as instructions;
+ghost use Rattle.ad_builder.specs.declared.instruction.Instruction.TheVariants as instructions;
 ghost use Rattle.ad_grammar.specs.declared.stop.Stop.TheVariants as stops;
 ghost use Rattle.ad_grammar.specs.HeldMarks.{front_mark};
-ghost use Rattle.ad_grammar.specs.Machine.{stack, top, below, step};
+ghost use Rattle.ad_builder.specs.Machine.{stack, top, below, step};
 ghost use Rattle.ad_grammar.specs.Rules.{expression, plain_at, primary};
 ghost use Rattle.ad_grammar.specs.Steps.{left, Begins, Continues, Gives, Puts, attribute_at, defined_at, reference, selected};
 ghost use Rattle.ad_grammar.specs.Words.{scope_of};
 
 use crate::mark::Mark;
-use crate::program::{Instruction, Program};
 use crate::reader::Reader;
 use crate::stop::Stop;
 use crate::word::Word;
+use ad_builder::{Instruction, Machine};
 use ad_tree::Scope;
 use pool_text::{OutOfMemory, Text};
 use std::alloc::Global;
@@ -21,17 +21,17 @@ use std::alloc::Global;
 pub(crate) fn lone(
     alloc: Global,
     reader: &mut Reader<'_>,
-    program: &mut Program,
+    machine: &mut Machine,
 ) -> Result<bool, OutOfMemory>
-    ensures read { result ≡ Ok true → (fuel : ℕ) → expression (suc fuel) (left reader.old) ≡ Some (top (stack program.new), left reader.new) }
-    ensures below { result ≡ Ok true → below (stack program.new) ≡ stack program.old }
+    ensures read { result ≡ Ok true → (fuel : ℕ) → expression (suc fuel) (left reader.old) ≡ Some (top (stack machine.new), left reader.new) }
+    ensures below { result ≡ Ok true → below (stack machine.new) ≡ stack machine.old }
     ensures kept { result ≡ Ok false → left reader.new ≡ left reader.old }
-    ensures same { result ≡ Ok false → stack program.new ≡ stack program.old }
+    ensures same { result ≡ Ok false → stack machine.new ≡ stack machine.old }
 {
     let Some(literal) = reader.lone_literal(alloc)? else {
         return Ok(false);
     };
-    program.push(Instruction::Literal(literal))?;
+    machine.push(Instruction::Literal(literal))?;
     Ok(true)
 }
 
@@ -40,26 +40,26 @@ pub(crate) fn lone(
 pub(crate) fn worded(
     alloc: Global,
     reader: &mut Reader<'_>,
-    program: &mut Program,
+    machine: &mut Machine,
 ) -> Result<bool, Stop>
     requires { front_mark (left reader.now) ≡ None }
-    ensures { Begins (λ e. primary e (left reader.old)) result (left reader.new) (stack program.old) (stack program.new) }
+    ensures { Begins (λ e. primary e (left reader.old)) result (left reader.new) (stack machine.old) (stack machine.new) }
 {
     match reader.take(alloc)? {
-        Some(Word::Constant(literal)) => put(program, Instruction::Literal(literal)),
-        Some(Word::Plain(text)) => named(alloc, reader, program, text),
-        Some(Word::Quoted(text)) => put(program, Instruction::Name(Scope::Bare, text)),
+        Some(Word::Constant(literal)) => put(machine, Instruction::Literal(literal)),
+        Some(Word::Plain(text)) => named(alloc, reader, machine, text),
+        Some(Word::Quoted(text)) => put(machine, Instruction::Name(Scope::Bare, text)),
         _ => Err(Stop::Grammar),
     }
 }
 
 /// A primary of one instruction, which is no call.
-fn put(program: &mut Program, instruction: Instruction) -> Result<bool, Stop>
+fn put(machine: &mut Machine, instruction: Instruction) -> Result<bool, Stop>
     ensures whole { (call : Bool) → result ≡ Ok call → call ≡ false }
-    ensures stack { (call : Bool) → result ≡ Ok call → stack program.new ≡ step instruction (stack program.old) }
+    ensures stack { (call : Bool) → result ≡ Ok call → stack machine.new ≡ step instruction (stack machine.old) }
     ensures none { result ≡ Err stops.Grammar → ⊥ }
 {
-    program.push(instruction)?;
+    machine.push(instruction)?;
     Ok(false)
 }
 
@@ -67,16 +67,17 @@ fn put(program: &mut Program, instruction: Instruction) -> Result<bool, Stop>
 fn named(
     alloc: Global,
     reader: &mut Reader<'_>,
-    program: &mut Program,
+    machine: &mut Machine,
     text: &[u8],
 ) -> Result<bool, Stop>
-    ensures { Begins (λ e. plain_at e text.now (left reader.old)) result (left reader.new) (stack program.old) (stack program.new) }
+    ensures { Begins (λ e. plain_at e text.now (left reader.old)) result (left reader.new) (stack machine.old) (stack machine.new) }
 {
     if reader.takes(Mark::OpenParen) {
-        program.push(Instruction::Call(Text::from_bytes(alloc, text)?, 0))?;
+        let name = Text::from_bytes(alloc, text)?;
+        machine.push(Instruction::Call(name, reader.elements_ahead()))?;
         return Ok(true);
     }
-    reference(alloc, reader, program, text)?;
+    reference(alloc, reader, machine, text)?;
     Ok(false)
 }
 
@@ -84,43 +85,43 @@ fn named(
 fn reference(
     alloc: Global,
     reader: &mut Reader<'_>,
-    program: &mut Program,
+    machine: &mut Machine,
     text: &[u8],
 ) -> Result<(), Stop>
-    ensures { Puts (reference text.now (left reader.old)) result (left reader.new) (stack program.old) (stack program.new) }
+    ensures { Puts (reference text.now (left reader.old)) result (left reader.new) (stack machine.old) (stack machine.new) }
 {
     if let Some(scope) = scope_of(text) {
         if reader.takes(Mark::Dot) {
-            return attribute(alloc, reader, program, scope);
+            return attribute(alloc, reader, machine, scope);
         }
     }
     let name = Text::from_bytes(alloc, text)?;
-    Ok(program.push(Instruction::Name(Scope::Bare, name))?)
+    Ok(machine.push(Instruction::Name(Scope::Bare, name))?)
 }
 
 /// A name in a scope, behind the dot.
 pub(crate) fn attribute(
     alloc: Global,
     reader: &mut Reader<'_>,
-    program: &mut Program,
+    machine: &mut Machine,
     scope: Scope,
 ) -> Result<(), Stop>
-    ensures { Puts (attribute_at scope (left reader.old)) result (left reader.new) (stack program.old) (stack program.new) }
+    ensures { Puts (attribute_at scope (left reader.old)) result (left reader.new) (stack machine.old) (stack machine.new) }
 {
     let name = reader.name(alloc)?;
-    Ok(program.push(Instruction::Name(scope, name))?)
+    Ok(machine.push(Instruction::Name(scope, name))?)
 }
 
 /// A selection from the last tree, behind the dot.
 pub(crate) fn selection(
     alloc: Global,
     reader: &mut Reader<'_>,
-    program: &mut Program,
+    machine: &mut Machine,
 ) -> Result<(), Stop>
-    ensures { Puts (selected (top (stack program.old)) (left reader.old)) result (left reader.new) (below (stack program.old)) (stack program.new) }
+    ensures { Puts (selected (top (stack machine.old)) (left reader.old)) result (left reader.new) (below (stack machine.old)) (stack machine.new) }
 {
     let name = reader.name(alloc)?;
-    Ok(program.push(Instruction::Select(name))?)
+    Ok(machine.push(Instruction::Select(name))?)
 }
 
 /// The name that a definition defines, with the mark behind it.
@@ -136,13 +137,13 @@ pub(crate) fn defined(alloc: Global, reader: &mut Reader<'_>) -> Result<Text, St
 /// behind them taken.
 pub(crate) fn finished(
     reader: &mut Reader<'_>,
-    program: &mut Program,
+    machine: &mut Machine,
     name: Text,
 ) -> Result<bool, Stop>
-    ensures defined { (goes : Bool) → result ≡ Ok goes → stack program.new ≡ step (instructions.Define name) (stack program.old) }
+    ensures defined { (goes : Bool) → result ≡ Ok goes → stack machine.new ≡ step (instructions.Define name) (stack machine.old) }
     ensures marks { Continues (left reader.old) (left reader.new) result }
 {
-    program.push(Instruction::Define(name))?;
+    machine.push(Instruction::Define(name))?;
     reader.goes_on()
 }
 

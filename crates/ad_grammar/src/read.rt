@@ -5,50 +5,49 @@ ghost use Rattle.ad_grammar.specs.Steps.{left};
 
 use crate::grammar::{definitions, expression};
 use crate::mark::Mark;
-use crate::program::{Instruction, Program};
 use crate::reader::Reader;
 use crate::stop::Stop;
+use ad_builder::Machine;
 use std::alloc::Global;
 
-/// The program of words that are an expression. `Grammar` exactly where they are none.
-pub fn read_expression(alloc: Global, reader: Reader<'_>) -> Result<Program, Stop>
+/// The machine that has built words that are an expression. `Grammar` exactly where they are none.
+pub fn read_expression(alloc: Global, reader: Reader<'_>) -> Result<Machine, Stop>
     ensures { IsRead (parsed_expr (left reader.entry)) result }
 {
     let mut reader = reader;
     whole_expression(alloc, &mut reader)
 }
 
-/// The program of words that are an ad, which is built as an ad literal that stays open. `Grammar` exactly where they
+/// The machine that has built words that are an ad, as an ad literal that stays open. `Grammar` exactly where they
 /// are none.
-pub fn read_ad(alloc: Global, reader: Reader<'_>) -> Result<Program, Stop>
+pub fn read_ad(alloc: Global, reader: Reader<'_>) -> Result<Machine, Stop>
     ensures { IsRead (parsed_ad (left reader.entry)) result }
 {
     let mut reader = reader;
     whole_ad(alloc, &mut reader)
 }
 
-fn whole_expression(alloc: Global, reader: &mut Reader<'_>) -> Result<Program, Stop>
+fn whole_expression(alloc: Global, reader: &mut Reader<'_>) -> Result<Machine, Stop>
     ensures { IsRead (parsed_expr (left reader.old)) result }
 {
     let fuel = reader.count() + 1;
-    let mut program = Program::with_capacity(alloc, reader.count() / 2)?;
-    expression(alloc, reader, &mut program, fuel)?;
+    let mut machine = Machine::of_expression(alloc);
+    expression(alloc, reader, &mut machine, fuel)?;
     if reader.count() > 0 {
         return Err(Stop::Grammar);
     }
-    Ok(program)
+    Ok(machine)
 }
 
-fn whole_ad(alloc: Global, reader: &mut Reader<'_>) -> Result<Program, Stop>
+fn whole_ad(alloc: Global, reader: &mut Reader<'_>) -> Result<Machine, Stop>
     ensures { IsRead (parsed_ad (left reader.old)) result }
 {
     reader.expect(Mark::OpenBracket)?;
     let fuel = reader.count() + 1;
-    let mut program = Program::with_capacity(alloc, reader.count() / 2)?;
-    program.push(Instruction::Ad)?;
-    definitions(alloc, reader, &mut program, fuel)?;
+    let mut machine = Machine::of_ad(alloc, reader.definitions_ahead())?;
+    definitions(alloc, reader, &mut machine, fuel)?;
     if reader.count() > 0 {
         return Err(Stop::Grammar);
     }
-    Ok(program)
+    Ok(machine)
 }

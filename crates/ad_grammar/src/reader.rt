@@ -3,14 +3,17 @@ ghost use Rattle.std.specs.Prelude.{◌≡◌, ◌≤◌, length};
 ghost use Rattle.ad_grammar.specs.Meaning.{AreSpelled};
 
 use crate::mark::Mark;
-use crate::nesting::nest_too_deep;
+use crate::nesting::{Turn, nest_too_deep, turn_of};
 use crate::operators::{ends, infix_of, prefix_of};
-use crate::program::Infix;
 use crate::stop::Stop;
 use crate::word::{Word, read_marks, unmarked_word};
+use ad_builder::Infix;
 use ad_lexer::Tokens;
 use pool_text::{Lit, OutOfMemory, Text, UnOp};
 use std::alloc::Global;
+
+/// How many words are looked at to tell how many elements a list has.
+const LOOKED_AHEAD: usize = 64;
 
 /// The words of a text, from a place on. A token is made a word when it is taken; which tokens are marks is known before,
 /// since the rules look at the next one many times.
@@ -238,5 +241,43 @@ impl<'a> Reader<'a> {
         }
         self.expect(Mark::Semicolon)?;
         Ok(!self.takes(Mark::CloseBracket))
+    }
+
+    /// How many elements stand before the closing mark of what was opened last, as far as the next words tell, so that there
+    /// is room for them at once. Nothing else rests on it.
+    pub(crate) fn elements_ahead(&self) -> usize {
+        let last = self.marks.len().min(self.at.saturating_add(LOOKED_AHEAD));
+        let mut elements: usize = 0;
+        let mut open: usize = 0;
+        for mark in &self.marks[self.at..last] {
+            match turn_of(*mark) {
+                Turn::Opens => open = open.saturating_add(1),
+                Turn::Closes if open == 0 => break,
+                Turn::Closes => open -= 1,
+                Turn::Neither => {}
+            }
+            if open == 0 && (elements == 0 || *mark == Some(Mark::Comma)) {
+                elements = elements.saturating_add(1);
+            }
+        }
+        elements
+    }
+
+    /// How many definitions an ad has behind its opening mark, so that there is room for them at once. Nothing else rests on
+    /// it.
+    pub(crate) fn definitions_ahead(&self) -> usize {
+        let mut definitions: usize = 1;
+        let mut open: usize = 0;
+        for mark in &self.marks[self.at..] {
+            match turn_of(*mark) {
+                Turn::Opens => open = open.saturating_add(1),
+                Turn::Closes => open = open.saturating_sub(1),
+                Turn::Neither if open == 0 && *mark == Some(Mark::Semicolon) => {
+                    definitions = definitions.saturating_add(1);
+                }
+                Turn::Neither => {}
+            }
+        }
+        definitions
     }
 }

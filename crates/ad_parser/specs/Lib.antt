@@ -1,12 +1,6 @@
 pub mod Answers
-pub mod Bounds
-pub mod Builds
-pub mod Counts
 pub mod Faults
-pub mod JoinedTrees
-pub mod Laid
 pub mod Limits
-pub mod Measures
 pub mod OneAnswer
 pub mod Outcomes
 pub mod Taking

@@ -1,13 +1,9 @@
 //! Ads and expressions from ClassAd text: exactly those of the grammar, within the limits.
 #![tactic(auto)]
 
-mod bounds;
-mod builder;
 mod fault;
 mod laws;
-mod measure;
 mod parse;
-mod stack;
 
 pub use fault::ParseFault;
 pub use laws::{

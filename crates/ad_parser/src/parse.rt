@@ -1,9 +1,9 @@
-// Parsing a text: its tokens, their words, the program that builds their tree, and the ad of the tree.
+// Parsing a text: its tokens, their words, the machine that builds their tree, and the ad of the tree.
 ghost use Rattle.std.specs.Prelude.{◌<◌, ◌≤◌, ◌^◌, length, List, Result, IfOk, IfErr, IsTrue};
 ghost use Rattle.ad_tree.specs.Ad.{ad_frames};
 ghost use Rattle.ad_tree.specs.Inline.{Inline};
 ghost use Rattle.ad_tree.specs.Small.{IsSmall};
-ghost use Rattle.ad_grammar.specs.Machine.{stack, top};
+ghost use Rattle.ad_builder.specs.Machine.{stack, top};
 ghost use Rattle.ad_grammar.specs.Steps.{left};
 ghost use Rattle.ad_parser.specs.declared.fault.ParseFault.{ParseFault};
 ghost use Rattle.ad_parser.specs.Answers.{AnswersAd, AnswersExpr};
@@ -12,16 +12,11 @@ ghost use Rattle.ad_parser.specs.Outcomes.{HasAdOutcome, HasExprOutcome, IsAdAns
 ghost use Rattle.ad_parser.specs.Taking.{IsShallow, IsEarlyFault, IsFit, IsChecked};
 
 use crate::ParseFault;
-use crate::bounds::{Bounds, bound_trees};
-use crate::builder::{build_ad, build_phrase};
-use crate::measure::measure_tree;
-use ad_grammar::{Program, Reader, read_ad, read_expression};
+use ad_builder::Machine;
+use ad_grammar::{Reader, read_ad, read_expression};
 use ad_lexer::lex;
 use ad_tree::{Ad, Phrase};
 use std::alloc::Global;
-
-/// How high a tree may be.
-const HEIGHT_LIMIT: u32 = 64;
 
 /// How many frames a text may spell, the root included.
 const FRAME_LIMIT: u32 = 64;
@@ -60,9 +55,9 @@ fn ad_in(alloc: Global, text: &[u8]) -> Result<Ad, ParseFault>
     ensures { AnswersAd text.now result }
 {
     let reader = shallow_reader(alloc, text)?;
-    let program = read_ad(alloc, reader)?;
-    check(alloc, &program, 0)?;
-    Ok(build_ad(alloc, program)?)
+    let machine = read_ad(alloc, reader)?;
+    check(&machine, 0)?;
+    Ok(machine.finish_ad()?)
 }
 
 fn phrase_in(alloc: Global, text: &[u8]) -> Result<Phrase, ParseFault>
@@ -70,9 +65,9 @@ fn phrase_in(alloc: Global, text: &[u8]) -> Result<Phrase, ParseFault>
     ensures { AnswersExpr text.now result }
 {
     let reader = shallow_reader(alloc, text)?;
-    let program = read_expression(alloc, reader)?;
-    check(alloc, &program, 1)?;
-    Ok(build_phrase(alloc, program)?)
+    let machine = read_expression(alloc, reader)?;
+    check(&machine, 1)?;
+    Ok(machine.finish_phrase()?)
 }
 
 /// The place in front of the words of a text, where no more constructs are open at once than may be.
@@ -89,17 +84,14 @@ fn shallow_reader<'a>(alloc: Global, text: &'a [u8]) -> Result<Reader<'a>, Parse
     Ok(reader)
 }
 
-/// Tests how high the tree of a program is, and how many frames and definitions it spells. An expression stands in a
+/// Tests how high the tree of a machine is, and how many frames and definitions it spells. An expression stands in a
 /// root of its own, which is one frame more.
-fn check(alloc: Global, program: &Program, roots: u32) -> Result<(), ParseFault>
+fn check(machine: &Machine, roots: u32) -> Result<(), ParseFault>
     requires { roots ≤ 1 }
-    ensures { IsChecked roots (top (stack program.now)) result }
+    ensures { IsChecked roots (top (stack machine.now)) result }
 {
-    if are_within(bound_trees(program.instructions()), roots) {
-        return Ok(());
-    }
-    let tree = measure_tree(alloc, program.instructions())?;
-    if tree.height > HEIGHT_LIMIT {
+    let tree = machine.size()?;
+    if tree.is_high {
         return Err(ParseFault::Depth);
     }
     if tree.frames.saturating_add(roots) > FRAME_LIMIT {
@@ -109,14 +101,4 @@ fn check(alloc: Global, program: &Program, roots: u32) -> Result<(), ParseFault>
         return Err(ParseFault::Attributes);
     }
     Ok(())
-}
-
-/// Whether numbers that the trees of a stack don't exceed are within the limits.
-fn are_within(bounds: Bounds, roots: u32) -> bool
-    ensures { IsTrue result → (st : List Inline) → IsBounded bounds st → IsFit roots (top st) }
-{
-    bounds.lowest <= HEIGHT_LIMIT
-        && bounds.others <= HEIGHT_LIMIT
-        && bounds.frames.saturating_add(roots) <= FRAME_LIMIT
-        && bounds.definitions <= DEFINITION_LIMIT
 }

@@ -11,10 +11,11 @@ use Rattle.ad_tree.specs.Inline.{Inline, shape, inner, Inlines, end, next}
 use Rattle.ad_tree.specs.Tree.{Label, unary, binary, all, any}
 use Rattle.ad_grammar.specs.Grammar as grammar
 use Rattle.ad_grammar.specs.Grammar.{IsExpr, IsLevel, IsUnary, IsPostfix, IsPrimary, IsNoScope}
-use Rattle.ad_grammar.specs.declared.program.Infix.{Infix}
-use Rattle.ad_grammar.specs.declared.program.Infix.TheVariants as infixes
+use Rattle.ad_builder.specs.declared.instruction.Infix.{Infix}
+use Rattle.ad_builder.specs.declared.instruction.Infix.TheVariants as infixes
 use Rattle.ad_grammar.specs.Made.{begins_with_all, begins_with_any}
-use Rattle.ad_grammar.specs.Shapes.{over_one, over_two, followed_by, joined, precedence, infix_of, prefix_of}
+use Rattle.ad_builder.specs.Shapes.{over_one, over_two, followed_by, joined}
+use Rattle.ad_grammar.specs.Operators.{precedence, infix_of, prefix_of}
 use Rattle.ad_grammar.specs.Words.{Word, plain, quoted, constant, mark, word_of_kind}
 use Rattle.ad_grammar.specs.declared.mark.Mark.{Mark}
 use Rattle.ad_grammar.specs.declared.mark.Mark.TheVariants as marks

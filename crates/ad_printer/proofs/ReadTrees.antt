@@ -11,7 +11,8 @@ use Rattle.pool_text.specs.declared.language.Lit.{Lit}
 use Rattle.ad_grammar.specs.Grammar as grammar
 use Rattle.ad_grammar.specs.Grammar.{IsExpr, IsPostfix, IsPrimary, IsList, IsSeveral, IsAd, IsDefs}
 use Rattle.ad_grammar.specs.Made.{IsNameText, IsWritten, IsNode, IsMade, AllMade, DefsMade}
-use Rattle.ad_grammar.specs.Shapes.{leaf, over_one, over_two, over_three, precedence}
+use Rattle.ad_builder.specs.Shapes.{leaf, over_one, over_two, over_three}
+use Rattle.ad_grammar.specs.Operators.{precedence}
 use Rattle.ad_grammar.specs.Words.{Word, plain, constant, mark, word_of_kind}
 use Rattle.ad_grammar.specs.declared.mark.Mark.TheVariants as marks
 use Rattle.ad_printer.specs.Pieces.{space, symbol, spaced, then_space, name_piece, scoped, literal_piece, infix_bytes, behind, divided, enclosed}

@@ -16,7 +16,7 @@ use Rattle.ad_lexer.proofs.WordLemmas.{word_bytes}
 use Rattle.ad_tree.specs.Inline.{Inline, shape, inner, Inlines, end, next, Defs, no_defs, def}
 use Rattle.ad_tree.specs.Tree.{Label, literal, name, unary, binary, all, any, choice, select, subscript, call, list}
 use Rattle.ad_grammar.specs.Made.{IsNameText, IsNode, IsMade, AllMade, DefsMade}
-use Rattle.ad_grammar.specs.Shapes.{precedence}
+use Rattle.ad_grammar.specs.Operators.{precedence}
 use Rattle.ad_printer.specs.Pieces.{text_of, space, symbol, spaced, then_space, name_piece, prefix_bytes, infix_bytes, behind, divided, enclosed}
 use Rattle.ad_printer.specs.Printed.{label_precedence, loose, first_bound, other_bound, grouped, around, pieces, operands, definition_pieces}
 use Rattle.ad_printer.proofs.StandLemmas.{text-both, Stand, Stand-append, Ahead, ahead-of, ahead-less, ahead-any, Stands, ascii_utf8, put-token, put-space, no_equals, word_first, name_stands, literal_stands, put-selection, scoped_stands, Divider, spaced-divider, infix-divider, comma-divider, semicolon-divider, put-divided, begins-append, AllStand, row-stands}

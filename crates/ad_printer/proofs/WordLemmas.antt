@@ -17,7 +17,7 @@ use Rattle.ad_lexer.proofs.ContentLemmas.{quoted_content}
 use Rattle.ad_lexer.proofs.DecimalLemmas.{decimal_integer}
 use Rattle.ad_grammar.specs.Grammar.{IsName, plain_name, quoted_name, IsNoScope}
 use Rattle.ad_grammar.specs.Made.{IsNameText, IsWritten}
-use Rattle.ad_grammar.specs.Shapes.{precedence}
+use Rattle.ad_grammar.specs.Operators.{precedence}
 use Rattle.ad_grammar.specs.Words.{Word, plain, quoted, constant, mark, word_of_kind, words, scope_of}
 use Rattle.ad_grammar.specs.declared.mark.Mark.TheVariants.{Binary}
 use Rattle.ad_printer.specs.Pieces.{is_plain_name, name_piece, literal_piece, infix_bytes}

@@ -6,7 +6,7 @@ use Rattle.ad_lexer.specs.Tokens.{Item, token}
 use Rattle.ad_lexer.specs.declared.token.TokenKind.TheVariants as kinds
 use Rattle.ad_tree.specs.Inline.{Inline, shape, inner, Inlines, end, next, Defs, no_defs, def}
 use Rattle.ad_tree.specs.Tree.{Label, literal, name, unary, binary, all, any, choice, select, subscript, call, list}
-use Rattle.ad_grammar.specs.Shapes.{precedence}
+use Rattle.ad_grammar.specs.Operators.{precedence}
 use Rattle.ad_printer.specs.Pieces.{text_of, space, symbol, spaced, then_space, name_piece, scoped, literal_piece, prefix_bytes, infix_bytes, divided, enclosed}
 
 -- how loosely a node binds: 0 before a dot and all, 1 an integer, 2 an operator before its operand, then the operators

@@ -1,6 +1,6 @@
 // Operators: their bytes and how loosely they bind.
 ghost use Rattle.std.specs.Prelude.{◌≡◌, ℕ};
-ghost use Rattle.ad_grammar.specs.Shapes.{precedence};
+ghost use Rattle.ad_grammar.specs.Operators.{precedence};
 ghost use Rattle.ad_tree.specs.Inline.{Defs, inlined};
 ghost use Rattle.ad_tree.specs.Tree.{tree};
 ghost use Rattle.ad_printer.specs.Pieces.{infix_bytes, prefix_bytes, spaced, text_of};

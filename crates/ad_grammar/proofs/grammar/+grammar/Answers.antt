@@ -1,6 +1,6 @@
 use Rattle.std.proofs.Common.{refl, arith, ◌≡◌, ◌+◌, ◌-◌, suc, true, false, ◌∷◌, length, Some, Ok, Err, ap, sym, ◌∙◌}
 use Rattle.ad_grammar.specs.Levels.{climb}
-use Rattle.ad_grammar.specs.Machine.{stack, top, below}
+use Rattle.ad_builder.specs.Machine.{stack, top, below}
 use Rattle.ad_grammar.specs.Rules as rules
 use Rattle.ad_grammar.specs.Steps.{left, wrapped, extended, completed, ContinuesOk}
 use Rattle.ad_grammar.specs.Words.{mark as mark_word}

@@ -1,7 +1,7 @@
 use Rattle.std.proofs.Common.{◌≡◌, ◌≤◌, ◌+◌, ◌*◌, ◌-◌, ◌^◌, ◌∷◌, suc, length}
 use Rattle.ad_tree.specs.Inline.{Inline}
 use Rattle.ad_grammar.specs.Levels.{climb}
-use Rattle.ad_grammar.specs.Machine.{stack, top, below, chosen}
+use Rattle.ad_builder.specs.Machine.{stack, top, below, chosen}
 use Rattle.ad_grammar.specs.Rules as rules
 use Rattle.ad_grammar.specs.Steps.{left, extended, completed}
 use Rattle.ad_grammar.proofs.MachineLemmas.{choices}

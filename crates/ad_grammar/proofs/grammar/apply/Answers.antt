@@ -1,5 +1,5 @@
 use Rattle.std.proofs.Common.{ap, sym, ◌∙◌}
-use Rattle.ad_grammar.specs.Machine.{stack, top, below}
+use Rattle.ad_builder.specs.Machine.{stack, top, below}
 use Rattle.ad_grammar.specs.Steps.{applied}
 use Rattle.ad_grammar.proofs.ChainLemmas.{applied-push}
 use Rattle.ad_grammar.proofs.grammar.apply.Goals as goal

@@ -1,6 +1,6 @@
 use Rattle.std.proofs.Common.{ap, ◌∙◌}
-use Rattle.ad_grammar.specs.declared.program.Instruction.TheVariants as instructions
-use Rattle.ad_grammar.specs.Machine.{stack, below, step}
+use Rattle.ad_builder.specs.declared.instruction.Instruction.TheVariants as instructions
+use Rattle.ad_builder.specs.Machine.{stack, below, step}
 use Rattle.ad_grammar.specs.Rules.{plain_at}
 use Rattle.ad_grammar.specs.Steps.{left}
 use Rattle.ad_grammar.proofs.RuleLemmas.{begins-call, call-begun}

@@ -1,6 +1,6 @@
 use Rattle.std.proofs.Common.{◌+◌, ap, refl, arith, Err, ◌∙◌}
 use Rattle.ad_grammar.specs.declared.stop.Stop.TheVariants as stops
-use Rattle.ad_grammar.specs.Machine.{stack, top}
+use Rattle.ad_builder.specs.Machine.{stack, top}
 use Rattle.ad_grammar.specs.Rules.{parsed_expr}
 use Rattle.ad_grammar.specs.Steps.{left}
 use Rattle.ad_grammar.proofs.ReadLemmas.{is_read-ok, is_read-none, is_read-by, expression-none, expression-all, expression-more}

@@ -1,6 +1,6 @@
 use Rattle.std.proofs.Common.{Err, ap, refl, arith}
 use Rattle.ad_grammar.specs.Grammar.{IsRoot}
-use Rattle.ad_grammar.specs.Machine.{stack, top}
+use Rattle.ad_builder.specs.Machine.{stack, top}
 use Rattle.ad_grammar.specs.Steps.{left}
 use Rattle.ad_parser.specs.Answers.{AnswersAd, frames_of_ad}
 use Rattle.ad_parser.proofs.ParseLemmas.{hands_on, stops_at, no-ad, ad-spells, checked-fault, checked-within}

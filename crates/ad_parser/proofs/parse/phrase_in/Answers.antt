@@ -1,6 +1,6 @@
 use Rattle.std.proofs.Common.{Err, ap, refl, arith}
 use Rattle.ad_grammar.specs.Grammar.{IsExpr}
-use Rattle.ad_grammar.specs.Machine.{stack, top}
+use Rattle.ad_builder.specs.Machine.{stack, top}
 use Rattle.ad_grammar.specs.Steps.{left}
 use Rattle.ad_parser.specs.Answers.{AnswersExpr, frames_of_expr}
 use Rattle.ad_parser.proofs.ParseLemmas.{hands_on, stops_at, no-expr, expr-spells, checked-fault, checked-within}

@@ -1,6 +1,6 @@
 use Rattle.std.proofs.Common.{ap, ◌∙◌}
-use Rattle.ad_grammar.specs.Machine.{stack, step}
-use Rattle.ad_grammar.specs.declared.program.Instruction.TheVariants as instructions
+use Rattle.ad_builder.specs.Machine.{stack, step}
+use Rattle.ad_builder.specs.declared.instruction.Instruction.TheVariants as instructions
 use Rattle.ad_grammar.proofs.MachineLemmas.{chosen-more}
 use Rattle.ad_grammar.proofs.program.Program.choose.Goals as goal
 

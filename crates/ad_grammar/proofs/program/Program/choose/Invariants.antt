@@ -1,5 +1,5 @@
 use Rattle.std.proofs.Common.{◌≡◌}
-use Rattle.ad_grammar.specs.Machine.{stack, chosen}
+use Rattle.ad_builder.specs.Machine.{stack, chosen}
 use Rattle.ad_grammar.proofs.program.Program.choose.Given as goal
 
 abbrev pub invariant-loop : goal.invariant-loop

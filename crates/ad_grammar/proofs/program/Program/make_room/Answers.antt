@@ -1,5 +1,5 @@
 use Rattle.std.proofs.Common.{[], refl, sym, ◌∙◌, arith}
-use Rattle.ad_grammar.specs.declared.program.Instruction.TheVariants as instructions
+use Rattle.ad_builder.specs.declared.instruction.Instruction.TheVariants as instructions
 use Rattle.ad_grammar.proofs.MachineLemmas.{run-set}
 use Rattle.ad_grammar.proofs.program.Program.make_room.Goals as goal
 

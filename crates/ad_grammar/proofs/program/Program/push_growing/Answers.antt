@@ -1,5 +1,5 @@
 use Rattle.std.proofs.Common.{[], ◌∷◌, ap, ◌∙◌}
-use Rattle.ad_grammar.specs.Machine.{run}
+use Rattle.ad_builder.specs.Machine.{run}
 use Rattle.ad_grammar.proofs.MachineLemmas.{run-append}
 use Rattle.ad_grammar.proofs.program.Program.push_growing.Goals as goal
 

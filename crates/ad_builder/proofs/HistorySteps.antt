@@ -1,0 +1,23 @@
+-- Steps of the walks of a history. Assumes `Logic`.
+use Rattle.std.proofs.Common.{◌≡◌, List, [], ◌∷◌, refl}
+use seplogic.Ra.Ura.{Ura}
+use mir.Val.{Val, vstruct, vnil}
+use types.Logic.{Logic}
+use types.Kit.{Goal, Seq, Step, step, Item, ‵, ◌$◌, fjoin, fpack, feq_i}
+use denote.RattleType.{RattleType, Valss}
+use denote.Steps.{nothing}
+use denote.Struct.Struct.{Struct, within}
+
+-- a struct without fields, and the machine value that it is
+abbrev pub empty : Val
+empty = vstruct vnil
+
+abbrev plainly : List RattleType → RattleType
+plainly Rs = Struct (record { name = []; args = []; types = []; fields = Rs })
+
+module _ {M : Type 1} {𝓤 : Ura M} {𝓛 : Logic 𝓤} {K : Type 0} {Γ : List (Item 𝓤)} {G : Goal 𝓤 𝓛.H} where
+  -- it owns nothing
+  pub empty_made : K → Step K 𝓛 (‵ ((plainly []).own_val tt (empty ∷ [])) ∷ Γ) G Γ G
+  empty_made t = step (λ s.
+      nothing t $ feq_i t (List Val) (empty ∷ []) (empty ∷ []) refl $ fjoin t $
+      fpack t (Valss []) (within (record { name = []; args = []; types = []; fields = [] }) tt (empty ∷ [])) tt $ s)

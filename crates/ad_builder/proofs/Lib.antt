@@ -1,0 +1,7 @@
+mod BuilderLemmas
+mod CountLemmas
+mod HighLemmas
+mod HistorySteps
+mod LaidLemmas
+mod MachineLemmas
+mod MeasureLemmas

@@ -1,0 +1,65 @@
+-- What instructions make of a stack, one after another, and what a machine keeps of it.
+use Rattle.std.proofs.Common.{◌≡◌, ℕ, zero, suc, ◌+◌, ◌<◌, ◌≤◌, nat_lt, min, Bool, true, false, List, [], ◌∷◌, ◌++◌, refl, sym, subst, ap, ◌∙◌, add-one, arith}
+use Rattle.std.proofs.lemmas.Bool.Decides.{nat_tests}
+use Rattle.ad_tree.specs.Inline.{Inline, height, count, definitions}
+use Rattle.ad_builder.specs.Builds.{Holds}
+use Rattle.ad_builder.specs.Carried.{IsHigh, IsCarried}
+use Rattle.ad_builder.specs.Counts.{tallest_measured, counting_limit, AreCounted}
+use Rattle.ad_builder.specs.Machine.{top, below, step, run, stack, chosen}
+use Rattle.ad_builder.specs.Sizes.{tallest_built, IsSize}
+use Rattle.ad_builder.specs.declared.builder.Builder.{Builder}
+use Rattle.ad_builder.specs.declared.instruction.Instruction.{Instruction}
+use Rattle.ad_builder.specs.declared.instruction.Instruction.TheVariants as instructions
+use Rattle.ad_builder.specs.declared.size.Size.{Size}
+use Rattle.ad_builder.proofs.HighLemmas.{step-high, top-high, alone-high}
+
+run-last : (is : List Instruction) (i : Instruction) (st : List Inline) → run (is ++ i ∷ []) st ≡ step i (run is st)
+run-last [] i st = refl
+run-last (j ∷ is) i st = run-last is i (step j st)
+
+pub stack-next : (is js : List Instruction) (i : Instruction) → js ≡ is ++ i ∷ [] → stack js ≡ step i (stack is)
+stack-next is js i more = ap stack more ∙ run-last is i []
+
+pub chosen-more : (n : ℕ) (st : List Inline) → step instructions.Choice (chosen n st) ≡ chosen (n + 1) st
+chosen-more n st = by n st ∙ ap (λ k. chosen k st) (sym (add-one n))
+  where
+    by : (k : ℕ) (s : List Inline) → step instructions.Choice (chosen k s) ≡ chosen (suc k) s
+    by zero s = refl
+    by (suc k) s = by k (step instructions.Choice s)
+
+-- ---- what a machine keeps
+
+module _ (is_ad : Bool) {is_high : Bool} (old new : Builder) (is js : List Instruction) (i : Instruction) (more : js ≡ is ++ i ∷ []) (h : IsCarried is_ad is_high old (stack is)) where
+  pub stays-high : is_high ≡ true → IsCarried is_ad is_high new (stack js)
+  stays-high high =
+      subst (λ b. IsCarried is_ad b new (stack js)) (sym high)
+      (subst IsHigh (sym (stack-next is js i more)) (step-high i (stack is) (subst (λ b. IsCarried is_ad b old (stack is)) high h)))
+
+  pub goes-on : (n : ℕ) → is_high ≡ false → (Holds is_ad old (stack is) → Holds is_ad new (step i (stack is)))
+      → ((st : List Inline) → Holds is_ad new st → n ≡ min tallest_measured (height (top st))) → IsCarried is_ad (nat_lt 64 n) new (stack js)
+  goes-on n low carried tall =
+      let st : List Inline = step i (stack is) in
+      let held : Holds is_ad new st = carried (subst (λ b. IsCarried is_ad b old (stack is)) low h).0 in
+      let is_height = tall st held in
+      let by : (b : Bool) → nat_lt 64 n ≡ b → IsCarried is_ad b new st =
+          λ b. elim b as (λ a. nat_lt 64 n ≡ a → IsCarried is_ad a new st) [
+            | true ↦ λ test. top-high st (grind (arith, nat_tests))
+            | false ↦ λ test. (held, grind (arith, nat_tests))
+          ] in
+      subst (λ s. IsCarried is_ad (nat_lt 64 n) new s) (sym (stack-next is js i more)) (by (nat_lt 64 n) refl)
+
+-- ---- the size of the only tree
+
+module _ (is_ad : Bool) (size : Size) (b : Builder) (st : List Inline) (alone : below st ≡ []) where
+  counts : (s : List Inline) → below s ≡ [] → (f d : ℕ) → AreCounted f d s → (f ≡ min counting_limit (count (top s))) × (d ≡ min counting_limit (definitions (top s)))
+  counts [] none f d c = (omega (arith, c.frames), omega (arith, c.definitions))
+  counts (x ∷ []) none f d c = (omega (arith, c.frames), omega (arith, c.definitions))
+  counts (x ∷ y ∷ s) none f d c = absurd cc
+
+  pub sized : size.frames ≡ b.frames → size.definitions ≡ b.definitions → IsCarried is_ad size.is_high b st → IsSize size (top st)
+  sized frames defs h = record {
+    high = λ high. alone-high st alone (subst (λ a. IsCarried is_ad a b st) high h);
+    low = λ low. (subst (λ a. IsCarried is_ad a b st) low h).1;
+    frames = λ low. frames ∙ (counts st alone b.frames b.definitions (subst (λ a. IsCarried is_ad a b st) low h).0.counted).0;
+    definitions = λ low. defs ∙ (counts st alone b.frames b.definitions (subst (λ a. IsCarried is_ad a b st) low h).0.counted).1;
+  }

@@ -1,0 +1,42 @@
+-- What contracts see of the builder of an ad.
+use Rattle.std.specs.Prelude.{◌≡◌, Bool, List, ◌∷◌, map, Result, OnOk}
+use Rattle.pool_text.specs.declared.memory.OutOfMemory.{OutOfMemory}
+use Rattle.ad_tree.specs.Draft.{draft_frames}
+use Rattle.ad_tree.specs.Inline.{Inline}
+use Rattle.ad_tree.specs.Tree.{tree}
+use Rattle.ad_builder.specs.Counts.{AreCounted}
+use Rattle.ad_builder.specs.Machine.{step}
+use Rattle.ad_builder.specs.Measures.{AreMeasures}
+use Rattle.ad_builder.specs.declared.instruction.Instruction.{Instruction}
+use Rattle.ad_builder.specs.declared.builder.Builder.{Builder}
+use Rattle.ad_builder.specs.declared.builder.Operand.{Operand}
+use Rattle.ad_builder.specs.declared.builder.Operand.TheVariants as operands
+use Rattle.ad_builder.specs.declared.measure.Measure.{Measure}
+use Rattle.ad_builder.specs.Laid.{Slot, value, open_ad, Laid}
+
+abbrev pub slot : Operand → Slot
+slot (operands.Value measure expr) = value (tree expr)
+slot (operands.Open measure frame outer) = open_ad frame outer
+
+abbrev pub measure_of : Operand → Measure
+measure_of (operands.Value measure expr) = measure
+measure_of (operands.Open measure frame outer) = measure
+
+-- a builder has one operand more than before, and nothing else is changed
+pub record HasPut (s : Slot) (m : Measure) (before after : Builder) : Type 0 where
+  pub operands : map slot after.operands ≡ s ∷ map slot before.operands
+  pub measures : map measure_of after.operands ≡ m ∷ map measure_of before.operands
+  pub parent : after.parent ≡ before.parent
+  pub drafted : draft_frames after.draft ≡ draft_frames before.draft
+  pub frames : after.frames ≡ before.frames
+  pub definitions : after.definitions ≡ before.definitions
+
+-- the builder holds what the machine has on its stack, with its measures and its numbers
+pub record Holds (is_ad : Bool) (builder : Builder) (st : List Inline) : Type 0 where
+  pub laid : Laid is_ad (map slot builder.operands) builder.parent st (draft_frames builder.draft)
+  pub measured : AreMeasures (map measure_of builder.operands) st
+  pub counted : AreCounted builder.frames builder.definitions st
+
+-- an instruction was carried out, whatever the stack
+abbrev pub Carries : Instruction → Builder → Builder → Result (Unit {0}) OutOfMemory → Type 0
+Carries i old new answer = (is_ad : Bool) (st : List Inline) → Holds is_ad old st → OnOk answer (Holds is_ad new (step i st))

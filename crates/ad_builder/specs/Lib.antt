@@ -1,0 +1,9 @@
+pub mod Builds
+pub mod Carried
+pub mod Counts
+pub mod JoinedTrees
+pub mod Laid
+pub mod Machine
+pub mod Measures
+pub mod Shapes
+pub mod Sizes

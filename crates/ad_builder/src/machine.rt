@@ -1,0 +1,157 @@
+// The machine.
+ghost use Rattle.std.specs.Prelude.{◌≡◌, ◌∷◌, [], Bool, IfOk, OnOk};
+ghost use Rattle.ad_tree.specs.Ad.{ad_frames};
+ghost use Rattle.ad_tree.specs.Inline.{inner, no_defs, ad_of, phrase_of, phrase_tree};
+ghost use Rattle.ad_tree.specs.Tree.{tree};
+ghost use Rattle.ad_builder.specs.Machine.{stack, top, below, step, chosen};
+ghost use Rattle.ad_builder.specs.Sizes.{IsSize};
+
+use crate::builder::Builder;
+use crate::history::History;
+use crate::instruction::Instruction;
+use crate::size::Size;
+use ad_tree::{Ad, Phrase};
+use pool_text::OutOfMemory;
+use std::alloc::Global;
+use std::marker::Model;
+
+/// A tree that is higher than this is dropped: what takes a tree apart goes down level by level.
+const HEIGHT_LIMIT: u8 = 64;
+
+/// A machine with a stack of trees, which instructions build. Contracts see it as the instructions that it has carried out.
+///
+/// Once one of the trees is too high, no more is built, since it stays part of all that it becomes part of.
+#[derive(Drop)]
+pub struct Machine {
+    builder: Builder,
+    is_ad: bool,
+    is_high: bool,
+    is_spoiled: bool,
+    history: History,
+}
+
+impl Model for Machine {
+    ghost use Rattle.std.specs.Prelude.{◌≡◌, List, false};
+    ghost use Rattle.ad_builder.specs.Carried.{IsCarried};
+    ghost use Rattle.ad_builder.specs.Machine.{stack};
+    ghost use Rattle.ad_builder.specs.declared.instruction.Instruction.{Instruction};
+
+    ghost Value = { List Instruction };
+
+    ghost view = { λ m. m.history.instructions };
+
+    ghost invariant = { λ m. m.is_spoiled ≡ false → IsCarried m.is_ad m.is_high m.builder (stack m.history.instructions) };
+}
+
+impl Machine {
+    /// A machine for an expression: nothing stands on its stack.
+    pub fn of_expression(alloc: Global) -> Machine
+        ensures { stack result ≡ [] }
+    {
+        Machine {
+            builder: Builder::of_expression(alloc),
+            is_ad: false,
+            is_high: false,
+            is_spoiled: false,
+            history: History::new(),
+        }
+    }
+
+    /// A machine for an ad, which is the ad literal that stands on its stack, with room for so many definitions.
+    pub fn of_ad(alloc: Global, room: usize) -> Result<Machine, OutOfMemory>
+        ensures { IfOk result (λ machine. stack machine ≡ inner no_defs ∷ []) }
+    {
+        let builder = Builder::of_ad(alloc, room)?;
+        Ok(Machine {
+            builder,
+            is_ad: true,
+            is_high: false,
+            is_spoiled: false,
+            history: History::new().with(&Instruction::Ad),
+        })
+    }
+
+    /// Carries an instruction out.
+    #[inline(always)]
+    pub fn push(&mut self, instruction: Instruction) -> Result<(), OutOfMemory>
+        ensures { OnOk result (stack self.new ≡ step instruction (stack self.old)) }
+    {
+        self.history = self.history.with(&instruction);
+        if self.is_high {
+            drop(instruction);
+            return Ok(());
+        }
+        match self.builder.carry_out(instruction) {
+            Ok(()) => {
+                self.is_high = self.builder.last_height() > HEIGHT_LIMIT;
+                Ok(())
+            }
+            Err(error) => {
+                self.is_spoiled = true;
+                Err(error)
+            }
+        }
+    }
+
+    /// So many conditionals within one another.
+    pub fn choose(&mut self, conditionals: usize) -> Result<(), OutOfMemory>
+        ensures { OnOk result (stack self.new ≡ chosen conditionals (stack self.old)) }
+    {
+        for _ in 0..conditionals {
+            self.push(Instruction::Choice)?;
+        }
+        Ok(())
+    }
+
+    /// How large the tree is that stands alone on the stack.
+    pub fn size(&self) -> Result<Size, OutOfMemory>
+        requires { below (stack self.now) ≡ [] }
+        ensures { IfOk result (λ size. IsSize size (top (stack self.now))) }
+    {
+        if self.is_spoiled {
+            return Err(OutOfMemory);
+        }
+        Ok(Size {
+            is_high: self.is_high,
+            frames: self.builder.frames(),
+            definitions: self.builder.definitions(),
+        })
+    }
+
+    /// The ad of the ad literal that stands alone on the stack of a machine for an ad.
+    pub fn finish_ad(self) -> Result<Ad, OutOfMemory>
+        ensures { IfOk result (λ ad. ad_frames ad ≡ ad_of (top (stack self))) }
+    {
+        let Machine {
+            builder,
+            is_ad,
+            is_high,
+            is_spoiled,
+            ..
+        } = self;
+        if !is_ad || is_high || is_spoiled {
+            drop(builder);
+            return Err(OutOfMemory);
+        }
+        builder.finish_ad()
+    }
+
+    /// The expression that stands alone on the stack of a machine for an expression, with the ad of its ad literals.
+    pub fn finish_phrase(self) -> Result<Phrase, OutOfMemory>
+        ensures frames { IfOk result (λ phrase. ad_frames phrase.ad ≡ phrase_of (top (stack self))) }
+        ensures expr { IfOk result (λ phrase. tree phrase.expr ≡ phrase_tree (top (stack self))) }
+    {
+        let Machine {
+            builder,
+            is_ad,
+            is_high,
+            is_spoiled,
+            ..
+        } = self;
+        if is_ad || is_high || is_spoiled {
+            drop(builder);
+            return Err(OutOfMemory);
+        }
+        builder.finish_phrase()
+    }
+}

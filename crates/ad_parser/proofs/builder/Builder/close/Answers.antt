@@ -1,8 +1,0 @@
-use Rattle.ad_parser.proofs.BuilderLemmas.{on_ok, close-carried}
-use Rattle.ad_tree.proofs.TreeLemmas.{tree-Frame}
-use Rattle.std.proofs.Common.{refl}
-use Rattle.ad_parser.proofs.builder.Builder.close.Goals as goal
-
-pub returns : goal.returns
-returns c = λ is_ad st h.
-    on_ok c.put.result (λ put. close-carried is_ad st c.args.self.now c.in-Some.frame c.in-Some.outer c.take_open.new.operands c.in-Some.ensures put refl refl refl (tree-Frame c.in-Some.frame) h) c.put.ensures

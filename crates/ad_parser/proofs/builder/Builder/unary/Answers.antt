@@ -1,8 +1,0 @@
-use Rattle.ad_parser.proofs.BuilderLemmas.{on_ok, one-carried}
-use Rattle.ad_tree.proofs.TreeLemmas.{tree-Unary}
-use Rattle.ad_tree.specs.Tree.{unary}
-use Rattle.ad_parser.proofs.builder.Builder.unary.Goals as goal
-
-pub returns : goal.returns
-returns c = λ is_ad st h.
-    on_ok c.put.result (λ put. one-carried is_ad st (unary c.args.operator) c.in_ok-operand.ensures (tree-Unary c.args.operator c.in_ok-operand.operand) put h) c.put.ensures

@@ -1,32 +1,11 @@
--- What instructions make of a stack, one after another, and what a rule leaves on it.
-use Rattle.std.proofs.Common.{refl, arith, ◌≡◌, ℕ, zero, suc, ◌+◌, ◌<◌, List, [], ◌∷◌, ◌++◌, length, get_or, slice_set, None, Some, ap, sym, ◌∙◌, add-one}
+-- What a rule leaves on a stack.
+use Rattle.std.proofs.Common.{refl, ◌≡◌, ℕ, zero, suc, ◌+◌, List, [], ◌∷◌, None, Some, ap, sym, ◌∙◌, add-one}
 use Rattle.ad_tree.specs.Inline.{Inline, Inlines, Defs, shape, inner, end, next, no_defs, def}
 use Rattle.ad_tree.specs.Tree.{Label, choice}
-use Rattle.ad_builder.specs.declared.instruction.Instruction.{Instruction}
-use Rattle.ad_builder.specs.declared.instruction.Instruction.TheVariants as instructions
-use Rattle.ad_builder.specs.Machine.{top, below, step, run, chosen, defined_last, with_element, with_elements, with_definition, with_definitions}
+use Rattle.ad_builder.specs.Machine.{top, below, chosen, defined_last, with_element, with_elements, with_definition, with_definitions}
 use Rattle.ad_grammar.specs.Rules.{Reading, and_then}
 use Rattle.ad_builder.specs.Shapes.{over_three, followed_by}
 use Rattle.ad_grammar.specs.Steps.{extended, completed}
-
--- ---- programs ----
-
-pub run-append : (is js : List Instruction) (st : List Inline) → run (is ++ js) st ≡ run js (run is st)
-run-append [] js st = refl
-run-append (i ∷ is) js st = run-append is js (step i st)
-
--- an instruction replaced by one that makes the same of every stack
-pub run-set : (is : List Instruction) (k : ℕ) (i j d : Instruction) (st : List Inline) → get_or is k d ≡ i → k < length is → ((s : List Inline) → step j s ≡ step i s) → run (slice_set is k j) st ≡ run is st
-run-set [] k i j d st e l same = refl
-run-set (x ∷ is) zero i j d st e l same = ap (run is) (same st ∙ ap (λ m. step m st) (sym e))
-run-set (x ∷ is) (suc k) i j d st e l same = run-set is k i j d (step x st) e (omega arith) same
-
-pub chosen-more : (n : ℕ) (st : List Inline) → step instructions.Choice (chosen n st) ≡ chosen (n + 1) st
-chosen-more n st = by n st ∙ ap (λ k. chosen k st) (sym (add-one n))
-  where
-    by : (k : ℕ) (s : List Inline) → step instructions.Choice (chosen k s) ≡ chosen (suc k) s
-    by zero s = refl
-    by (suc k) s = by k (step instructions.Choice s)
 
 -- ---- conditionals ----
 

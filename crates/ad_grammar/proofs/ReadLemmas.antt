@@ -1,12 +1,11 @@
 -- Reading all words of a text.
 use Rattle.std.proofs.Common.{◌≡◌, ℕ, suc, ◌+◌, ◌<◌, List, [], ◌∷◌, length, Option, None, Some, Result, Ok, Err, IsErr, IsErrAnd, refl, sym, ap, ◌∙◌, arith}
-use Rattle.ad_tree.specs.Inline.{Inline, inner}
+use Rattle.ad_tree.specs.Inline.{Inline, inner, no_defs}
 use Rattle.ad_grammar.specs.declared.mark.Mark.TheVariants.{OpenBracket}
-use Rattle.ad_builder.specs.declared.instruction.Instruction.TheVariants as instructions
-use Rattle.ad_builder.specs.declared.machine.Machine.{Program}
+use Rattle.ad_builder.specs.declared.instruction.Instruction.{Instruction}
 use Rattle.ad_grammar.specs.declared.stop.Stop.{Stop}
 use Rattle.ad_grammar.specs.declared.stop.Stop.TheVariants as stops
-use Rattle.ad_builder.specs.Machine.{stack, top, below, step}
+use Rattle.ad_builder.specs.Machine.{stack, top, below}
 use Rattle.ad_grammar.specs.Read.{IsRead}
 use Rattle.ad_grammar.specs.Rules.{and_then, ad_behind, expression, whole, parsed_expr, parsed_ad}
 use Rattle.ad_grammar.specs.Steps.{completed}
@@ -14,17 +13,17 @@ use Rattle.ad_grammar.specs.Words.{Word, mark}
 use Rattle.ad_grammar.proofs.MachineLemmas.{completed-new}
 
 module _ (wanted : Option Inline) where
-  pub is_read-ok : (program : Program) → wanted ≡ Some (top (stack program)) → below (stack program) ≡ [] → IsRead wanted (Ok program)
-  is_read-ok program is alone = record {
-    ok = λ p same. let one : program ≡ p = cc in is ∙ ap (λ q. Some (top (stack q))) one;
-    alone = λ p same. let one : program ≡ p = cc in ap (λ q. below (stack q)) (sym one) ∙ alone;
+  pub is_read-ok : (machine : List Instruction) → wanted ≡ Some (top (stack machine)) → below (stack machine) ≡ [] → IsRead wanted (Ok machine)
+  is_read-ok machine is alone = record {
+    ok = λ p same. let one : machine ≡ p = cc in is ∙ ap (λ q. Some (top (stack q))) one;
+    alone = λ p same. let one : machine ≡ p = cc in ap (λ q. below (stack q)) (sym one) ∙ alone;
     none = λ same. absurd cc;
   }
 
   pub is_read-none : (stop : Stop) → wanted ≡ None → IsRead wanted (Err stop)
   is_read-none stop is = record { ok = λ a same. absurd cc; alone = λ a same. absurd cc; none = λ same. is }
 
-  pub is_read-by : (answer : Result Program Stop) (stop : Stop) → IsErr answer → IsErrAnd answer (λ e. e ≡ stop) → (stop ≡ stops.Grammar → wanted ≡ None) → IsRead wanted answer
+  pub is_read-by : (answer : Result (List Instruction) Stop) (stop : Stop) → IsErr answer → IsErrAnd answer (λ e. e ≡ stop) → (stop ≡ stops.Grammar → wanted ≡ None) → IsRead wanted answer
   is_read-by (Ok a) stop err same h = absurd cc
   is_read-by (Err other) stop err same h = record { ok = λ a e. absurd cc; alone = λ a e. absurd cc; none = λ e. let is : other ≡ stops.Grammar = cc in h (sym same ∙ is) }
 
@@ -52,24 +51,20 @@ module _ (ws : List Word) (fuel : ℕ) (enough : fuel ≡ length ws + 1) where
   pub expression-more : (x : Inline) (rest : List Word) → expression fuel ws ≡ Some (x, rest) → 0 < length rest → parsed_expr ws ≡ None
   expression-more x rest read some = whole_expression ∙ ap whole read ∙ whole-more x rest some
 
-  -- an ad, whose literal was put on the stack
-  module _ (old : List Word) (stood : old ≡ mark OpenBracket ∷ ws) (st pushed : List Inline) (put : pushed ≡ step instructions.Ad st) where
-    whole_ad : parsed_ad old ≡ whole (completed (top pushed) (ad_behind (expression fuel) ws))
+  -- an ad, whose literal is the first tree on the stack
+  module _ (old : List Word) (stood : old ≡ mark OpenBracket ∷ ws) (begun : List Inline) (is : begun ≡ inner no_defs ∷ []) where
+    whole_ad : parsed_ad old ≡ whole (completed (top begun) (ad_behind (expression fuel) ws))
     whole_ad =
         ap parsed_ad stood
         ∙ ap (λ n. whole (and_then (ad_behind (expression n) ws) (λ ds rest. Some (inner ds, rest)))) (sym fuel_is)
         ∙ ap whole (completed-new (ad_behind (expression fuel) ws))
-        ∙ ap (λ s. whole (completed (top s) (ad_behind (expression fuel) ws))) (sym put)
+        ∙ ap (λ s. whole (completed (top s) (ad_behind (expression fuel) ws))) (sym is)
 
-    pub ad-all : (x : Inline) (rest : List Word) → completed (top pushed) (ad_behind (expression fuel) ws) ≡ Some (x, rest) → length rest ≡ 0 → parsed_ad old ≡ Some x
+    pub ad-all : (x : Inline) (rest : List Word) → completed (top begun) (ad_behind (expression fuel) ws) ≡ Some (x, rest) → length rest ≡ 0 → parsed_ad old ≡ Some x
     ad-all x rest read none = whole_ad ∙ ap whole read ∙ whole-all x rest none
 
-    pub ad-more : (x : Inline) (rest : List Word) → completed (top pushed) (ad_behind (expression fuel) ws) ≡ Some (x, rest) → 0 < length rest → parsed_ad old ≡ None
+    pub ad-more : (x : Inline) (rest : List Word) → completed (top begun) (ad_behind (expression fuel) ws) ≡ Some (x, rest) → 0 < length rest → parsed_ad old ≡ None
     ad-more x rest read some = whole_ad ∙ ap whole read ∙ whole-more x rest some
 
-    pub ad-none : completed (top pushed) (ad_behind (expression fuel) ws) ≡ None → parsed_ad old ≡ None
+    pub ad-none : completed (top begun) (ad_behind (expression fuel) ws) ≡ None → parsed_ad old ≡ None
     ad-none none = whole_ad ∙ ap whole none
-
--- what stands below a tree that was put on an empty stack
-pub below-alone : (first second after : List Inline) → first ≡ [] → second ≡ step instructions.Ad first → below after ≡ below second → below after ≡ []
-below-alone first second after none put on = on ∙ ap below put ∙ none

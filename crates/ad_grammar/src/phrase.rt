@@ -73,8 +73,8 @@ fn named(
     ensures { Begins (λ e. plain_at e text.now (left reader.old)) result (left reader.new) (stack machine.old) (stack machine.new) }
 {
     if reader.takes(Mark::OpenParen) {
-        let name = Text::from_bytes(alloc, text)?;
-        machine.push(Instruction::Call(name, reader.elements_ahead()))?;
+        let function = Text::from_bytes(alloc, text)?;
+        machine.push(Instruction::Call(function, reader.elements_ahead()))?;
         return Ok(true);
     }
     reference(alloc, reader, machine, text)?;

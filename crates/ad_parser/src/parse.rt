@@ -1,15 +1,14 @@
 // Parsing a text: its tokens, their words, the machine that builds their tree, and the ad of the tree.
-ghost use Rattle.std.specs.Prelude.{◌<◌, ◌≤◌, ◌^◌, length, List, Result, IfOk, IfErr, IsTrue};
+ghost use Rattle.std.specs.Prelude.{◌≡◌, ◌<◌, ◌≤◌, ◌^◌, [], length, List, Result, IfOk, IfErr};
 ghost use Rattle.ad_tree.specs.Ad.{ad_frames};
 ghost use Rattle.ad_tree.specs.Inline.{Inline};
 ghost use Rattle.ad_tree.specs.Small.{IsSmall};
-ghost use Rattle.ad_builder.specs.Machine.{stack, top};
+ghost use Rattle.ad_builder.specs.Machine.{stack, top, below};
 ghost use Rattle.ad_grammar.specs.Steps.{left};
 ghost use Rattle.ad_parser.specs.declared.fault.ParseFault.{ParseFault};
 ghost use Rattle.ad_parser.specs.Answers.{AnswersAd, AnswersExpr};
-ghost use Rattle.ad_parser.specs.Bounds.{IsBounded};
 ghost use Rattle.ad_parser.specs.Outcomes.{HasAdOutcome, HasExprOutcome, IsAdAnswer, IsExprAnswer};
-ghost use Rattle.ad_parser.specs.Taking.{IsShallow, IsEarlyFault, IsFit, IsChecked};
+ghost use Rattle.ad_parser.specs.Taking.{IsShallow, IsEarlyFault, IsChecked};
 
 use crate::ParseFault;
 use ad_builder::Machine;
@@ -87,7 +86,8 @@ fn shallow_reader<'a>(alloc: Global, text: &'a [u8]) -> Result<Reader<'a>, Parse
 /// Tests how high the tree of a machine is, and how many frames and definitions it spells. An expression stands in a
 /// root of its own, which is one frame more.
 fn check(machine: &Machine, roots: u32) -> Result<(), ParseFault>
-    requires { roots ≤ 1 }
+    requires roots { roots ≤ 1 }
+    requires alone { below (stack machine.now) ≡ [] }
     ensures { IsChecked roots (top (stack machine.now)) result }
 {
     let tree = machine.size()?;

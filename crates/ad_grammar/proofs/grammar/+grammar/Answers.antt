@@ -13,10 +13,10 @@ pub expression-returns : goal.expression-returns
 expression-returns t c =
     let ws = left c.args.reader.now in
     let us = left c.lone.new.reader in
-    let st = stack c.args.program.now in
+    let st = stack c.args.machine.now in
     let none = ap Ok c.if-branch.false in
-    reputs (rules.expression c.args.fuel ws) (left c.conditionals.new.reader) st (stack c.conditionals.new.program) c.conditionals.result
-    (rules.conditionals (rules.expression (c.args.fuel - 1)) (suc (length us)) us) (stack c.lone.new.program)
+    reputs (rules.expression c.args.fuel ws) (left c.conditionals.new.reader) st (stack c.conditionals.new.machine) c.conditionals.result
+    (rules.conditionals (rules.expression (c.args.fuel - 1)) (suc (length us)) us) (stack c.lone.new.machine)
     (ap (λ n. rules.expression n ws) (less c.args.fuel (omega (arith, c.if-fuel-eq0.false)))
     ∙ ap (rules.expression (suc (c.args.fuel - 1))) (sym (c.in_ok-lone.ensures.kept none)))
     (c.in_ok-lone.ensures.same none) c.conditionals.ensures
@@ -26,7 +26,7 @@ level-returns-in_err-prefixes t c =
     let e = rules.expression c.args.fuel in
     let ws = left c.args.reader.now in
     let k = c.args.precedence in
-    stops-by (rules.level_at e k ws) (left c.prefixes.new.reader) (stack c.args.program.now) (stack c.prefixes.new.program)
+    stops-by (rules.level_at e k ws) (left c.prefixes.new.reader) (stack c.args.machine.now) (stack c.prefixes.new.machine)
     c.from_residual.result c.in_err-prefixes.field-0.0 c.from_residual.ensures.0 c.from_residual.ensures.1
     (λ stop. level-none e k ws (c.in_err-prefixes.ensures.none (ap Err stop)))
 
@@ -35,8 +35,8 @@ level-returns t c =
     let e = rules.expression c.args.fuel in
     let ws = left c.args.reader.now in
     let k = c.args.precedence in
-    let first = stack c.prefixes.new.program in
-    reputs (rules.level_at e k ws) (left c.climb.new.reader) (stack c.args.program.now) (stack c.climb.new.program) c.climb.result
+    let first = stack c.prefixes.new.machine in
+    reputs (rules.level_at e k ws) (left c.climb.new.reader) (stack c.args.machine.now) (stack c.climb.new.machine) c.climb.result
     (climb e 0 k (top first) (left c.prefixes.new.reader)) (below first)
     (level-climbed e k ws (left c.prefixes.new.reader) (top first) (c.in_ok-prefixes.ensures.ok c.in_ok-prefixes.field-0 refl))
     (c.in_ok-prefixes.ensures.on c.in_ok-prefixes.field-0 refl) c.climb.ensures
@@ -44,8 +44,8 @@ level-returns t c =
 pub climb-returns : goal.climb-returns
 climb-returns t c =
     let e = rules.expression c.args.fuel in
-    let before = stack c.args.program.now in
-    let now = stack c.loop-next.program in
+    let before = stack c.args.machine.now in
+    let now = stack c.loop-next.machine in
     let w = climb e 0 c.args.precedence (top before) (left c.args.reader.now) in
     puts-ok w (left c.loop-next.reader) (below before) now tt
     (climb-end e w c.loop-next.reached c.args.precedence (top now) (left c.loop-next.reader) c.loop-next.invariant.read c.loop-next.invariant.within
@@ -55,11 +55,11 @@ climb-returns t c =
 pub climb-returns-in_err-operations : goal.climb-returns-in_err-operations
 climb-returns-in_err-operations t c =
     let e = rules.expression c.args.fuel in
-    let before = stack c.args.program.now in
-    let now = stack c.loop-next.program in
+    let before = stack c.args.machine.now in
+    let now = stack c.loop-next.machine in
     let w = climb e 0 c.args.precedence (top before) (left c.args.reader.now) in
     let next = c.in-Some.ensures.some c.in-Some.next refl in
-    stops-by w (left c.operations.new.reader) (below before) (stack c.operations.new.program)
+    stops-by w (left c.operations.new.reader) (below before) (stack c.operations.new.machine)
     c.from_residual.result c.in_err-operations.field-0.0 c.from_residual.ensures.0 c.from_residual.ensures.1
     (λ stop. climb-broken e w c.loop-next.reached c.args.precedence (top now) (left c.loop-next.reader) c.loop-next.invariant.read
     c.in-Some.next next.1 next.2 next.0 (c.in_err-operations.ensures.none (ap Err stop)))
@@ -67,13 +67,13 @@ climb-returns-in_err-operations t c =
 pub climb-loop-next-preserved : goal.climb-loop-next-preserved
 climb-loop-next-preserved t c =
     let e = rules.expression c.args.fuel in
-    let before = stack c.args.program.now in
-    let now = stack c.loop-next.program in
+    let before = stack c.args.machine.now in
+    let now = stack c.loop-next.machine in
     let w = climb e 0 c.args.precedence (top before) (left c.args.reader.now) in
     let next = c.in-Some.ensures.some c.in-Some.next refl in
     record {
       read = climb-more e w c.loop-next.reached c.args.precedence (top now) (left c.loop-next.reader) c.loop-next.invariant.read
-          c.in-Some.next next.1 next.2 next.0 (top (stack c.operations.new.program)) (left c.operations.new.reader)
+          c.in-Some.next next.1 next.2 next.0 (top (stack c.operations.new.machine)) (left c.operations.new.reader)
           (c.in_ok-operations.ensures.ok c.in_ok-operations.field-0 refl);
       rest = c.in_ok-operations.ensures.on c.in_ok-operations.field-0 refl ∙ c.loop-next.invariant.rest;
       within = next.2;
@@ -84,9 +84,9 @@ conditionals-returns-then-not-takes t c =
     let e = rules.expression c.args.fuel in
     let ws = left c.args.reader.now in
     let w = rules.conditionals e (suc (length ws)) ws in
-    let start = stack c.args.program.now in
-    let before = stack c.loop-turns.program in
-    let first = stack c.level.new.program in
+    let start = stack c.args.machine.now in
+    let before = stack c.loop-turns.machine in
+    let first = stack c.level.new.machine in
     let after = stack c.choose.new.self in
     let p = c.loop-turns.pending in
     let level = c.in_ok-level.ensures in
@@ -102,12 +102,12 @@ conditionals-returns-in_err-expect t c =
     let e = rules.expression c.args.fuel in
     let ws = left c.args.reader.now in
     let w = rules.conditionals e (suc (length ws)) ws in
-    let before = stack c.loop-turns.program in
-    let first = stack c.level.new.program in
-    let second = stack c.expression.new.program in
+    let before = stack c.loop-turns.machine in
+    let first = stack c.level.new.machine in
+    let second = stack c.expression.new.machine in
     let level = c.in_ok-level.ensures in
     let inside = c.in_ok-expression.ensures in
-    stops-here w (left c.expect.new.self) (stack c.args.program.now) second c.from_residual-in_err-expect.result c.from_residual-in_err-expect.ensures.0
+    stops-here w (left c.expect.new.self) (stack c.args.machine.now) second c.from_residual-in_err-expect.result c.from_residual-in_err-expect.ensures.0
     (conditionals-unclosed e w c.loop-turns.pending c.loop-turns.turns before (left c.loop-turns.reader) c.loop-turns.invariant.read c.loop-turns-test.true
     (left c.level.new.reader) (left c.takes.new.self) first (level.on c.in_ok-level.field-0 refl) (level.ok c.in_ok-level.field-0 refl)
     (top second) (left c.expression.new.reader) (c.takes.ensures.taken c.if-not-takes.false)
@@ -118,10 +118,10 @@ conditionals-loop-turns-preserved t c =
     let e = rules.expression c.args.fuel in
     let ws = left c.args.reader.now in
     let w = rules.conditionals e (suc (length ws)) ws in
-    let start = stack c.args.program.now in
-    let before = stack c.loop-turns.program in
-    let first = stack c.level.new.program in
-    let second = stack c.expression.new.program in
+    let start = stack c.args.machine.now in
+    let before = stack c.loop-turns.machine in
+    let first = stack c.level.new.machine in
+    let second = stack c.expression.new.machine in
     let p = c.loop-turns.pending in
     let level = c.in_ok-level.ensures in
     let inside = c.in_ok-expression.ensures in
@@ -141,10 +141,10 @@ operations-loop-turns-preserved t c =
     let k = c.args.precedence in
     let tight = rules.level_at (rules.expression c.args.fuel) (k - 1) in
     let ws = left c.args.reader.now in
-    let start = stack c.args.program.now in
+    let start = stack c.args.machine.now in
     let w = rules.operations tight k (length ws) (top start) ws in
-    let before = stack c.loop-turns.program in
-    let second = stack c.level.new.program in
+    let before = stack c.loop-turns.machine in
+    let second = stack c.level.new.machine in
     let after = stack c.push.new.self in
     let right = c.in_ok-level.ensures in
     let on = right.on c.in_ok-level.field-0 refl in
@@ -159,13 +159,13 @@ pub arguments-returns : goal.arguments-returns
 arguments-returns t c =
     let e = rules.expression c.args.fuel in
     let ws = left c.args.reader.now in
-    let x = top (stack c.args.program.now) in
+    let x = top (stack c.args.machine.now) in
     let now = left c.takes.new.self in
-    let last = stack c.several.new.program in
+    let last = stack c.several.new.machine in
     let read = c.in_ok-several.ensures.ok c.in_ok-several.field-0 refl in
     let other = c.takes.ensures.other c.if-takes.false in
     let kept = c.takes.ensures.kept c.if-takes.false in
-    puts-expected (extended x (rules.arguments e ws)) (left c.expect.new.self) (below (stack c.args.program.now)) last c.expect.result
+    puts-expected (extended x (rules.arguments e ws)) (left c.expect.new.self) (below (stack c.args.machine.now)) last c.expect.result
     (λ done is. arguments-closed e x ws now other kept (top last) (left c.several.new.reader) read (left c.expect.new.self) (c.expect.ensures.ok done is))
     (c.in_ok-several.ensures.on c.in_ok-several.field-0 refl)
     (λ stop is. arguments-broken e x ws now other kept (top last) (left c.several.new.reader) read (c.expect.ensures.none stop is))
@@ -174,13 +174,13 @@ pub elements-returns : goal.elements-returns
 elements-returns t c =
     let e = rules.expression c.args.fuel in
     let ws = left c.args.reader.now in
-    let x = top (stack c.args.program.now) in
+    let x = top (stack c.args.machine.now) in
     let now = left c.takes.new.self in
-    let last = stack c.several.new.program in
+    let last = stack c.several.new.machine in
     let read = c.in_ok-several.ensures.ok c.in_ok-several.field-0 refl in
     let other = c.takes.ensures.other c.if-takes.false in
     let kept = c.takes.ensures.kept c.if-takes.false in
-    puts-expected (extended x (rules.elements e ws)) (left c.expect.new.self) (below (stack c.args.program.now)) last c.expect.result
+    puts-expected (extended x (rules.elements e ws)) (left c.expect.new.self) (below (stack c.args.machine.now)) last c.expect.result
     (λ done is. elements-closed e x ws now other kept (top last) (left c.several.new.reader) read (left c.expect.new.self) (c.expect.ensures.ok done is))
     (c.in_ok-several.ensures.on c.in_ok-several.field-0 refl)
     (λ stop is. elements-broken e x ws now other kept (top last) (left c.several.new.reader) read (c.expect.ensures.none stop is))
@@ -189,10 +189,10 @@ pub marked-returns-in_ok-push-in-OpenBrace : goal.marked-returns-in_ok-push-in-O
 marked-returns-in_ok-push-in-OpenBrace t c =
     let e = rules.expression c.args.fuel in
     let ws = left c.args.reader.now in
-    let st = stack c.args.program.now in
+    let st = stack c.args.machine.now in
     let pushed = stack c.push.new.self in
     let put = c.in_ok-push-in-OpenBrace.ensures in
-    reputs (rules.primary e (mark_word c.args.mark ∷ ws)) (left c.elements.new.reader) st (stack c.elements.new.program) c.elements.result
+    reputs (rules.primary e (mark_word c.args.mark ∷ ws)) (left c.elements.new.reader) st (stack c.elements.new.machine) c.elements.result
     (extended (top pushed) (rules.elements e ws)) (below pushed)
     (list-begun e c.args.mark ws st pushed c.in-OpenBrace.is put) (ap below put) c.elements.ensures
 
@@ -200,7 +200,7 @@ pub marked-returns-in_ok-push-in-OpenBracket-2 : goal.marked-returns-in_ok-push-
 marked-returns-in_ok-push-in-OpenBracket-2 t c =
     let e = rules.expression c.args.fuel in
     let ws = left c.args.reader.now in
-    let st = stack c.args.program.now in
+    let st = stack c.args.machine.now in
     let pushed = stack c.push-in-OpenBracket.new.self in
     let put = c.in_ok-push-in-OpenBracket.ensures in
     let read = c.in_ok-definitions-in-OpenBracket.ensures in
@@ -214,8 +214,8 @@ marked-returns-in_ok-push-in-OpenBracket-2 t c =
 pub primary-returns-in-Some : goal.primary-returns-in-Some
 primary-returns-in-Some t c =
     let e = rules.expression c.args.fuel in
-    let st = stack c.args.program.now in
-    reputs (rules.primary e (left c.args.reader.now)) (left c.marked.new.reader) st (stack c.marked.new.program) c.marked.result
+    let st = stack c.args.machine.now in
+    reputs (rules.primary e (left c.args.reader.now)) (left c.marked.new.reader) st (stack c.marked.new.machine) c.marked.result
     (rules.primary e (mark_word c.in-Some.mark ∷ left c.take_mark.new.self)) st
     (ap (rules.primary e) (c.in-Some.ensures.some c.in-Some.mark refl)) refl c.marked.ensures
 
@@ -223,8 +223,8 @@ pub primary-returns-then-branch : goal.primary-returns-then-branch
 primary-returns-then-branch t c =
     let e = rules.expression c.args.fuel in
     let begun = c.in_ok-worded.ensures in
-    let pushed = stack c.worded.new.program in
-    reputs (rules.primary e (left c.args.reader.now)) (left c.arguments.new.reader) (stack c.args.program.now) (stack c.arguments.new.program) c.arguments.result
+    let pushed = stack c.worded.new.machine in
+    reputs (rules.primary e (left c.args.reader.now)) (left c.arguments.new.reader) (stack c.args.machine.now) (stack c.arguments.new.machine) c.arguments.result
     (extended (top pushed) (rules.arguments e (left c.worded.new.reader))) (below pushed)
     (ap (rules.primary e) (sym (c.in_default.ensures.kept refl)) ∙ begun.call (ap Ok c.if-branch.true) e)
     (begun.on c.in_ok-worded.field-0 refl) c.arguments.ensures
@@ -233,14 +233,14 @@ pub primary-returns : goal.primary-returns
 primary-returns t c =
     let e = rules.expression c.args.fuel in
     let begun = c.in_ok-worded.ensures in
-    puts-ok (rules.primary e (left c.args.reader.now)) (left c.worded.new.reader) (stack c.args.program.now) (stack c.worded.new.program) tt
+    puts-ok (rules.primary e (left c.args.reader.now)) (left c.worded.new.reader) (stack c.args.machine.now) (stack c.worded.new.machine) tt
     (ap (rules.primary e) (sym (c.in_default.ensures.kept refl)) ∙ begun.whole (ap Ok c.if-branch.false) e)
     (begun.on c.in_ok-worded.field-0 refl)
 
 pub primary-returns-in_err-worded : goal.primary-returns-in_err-worded
 primary-returns-in_err-worded t c =
     let e = rules.expression c.args.fuel in
-    stops-by (rules.primary e (left c.args.reader.now)) (left c.worded.new.reader) (stack c.args.program.now) (stack c.worded.new.program)
+    stops-by (rules.primary e (left c.args.reader.now)) (left c.worded.new.reader) (stack c.args.machine.now) (stack c.worded.new.machine)
     c.from_residual.result c.in_err-worded.field-0.0 c.from_residual.ensures.0 c.from_residual.ensures.1
     (λ stop. ap (rules.primary e) (sym (c.in_default.ensures.kept refl)) ∙ c.in_err-worded.ensures.none (ap Err stop) e)
 
@@ -248,12 +248,12 @@ pub several-returns-then-not-takes : goal.several-returns-then-not-takes
 several-returns-then-not-takes t c =
     let e = rules.expression c.args.fuel in
     let ws = left c.args.reader.now in
-    let start = stack c.args.program.now in
+    let start = stack c.args.machine.now in
     let w = extended (top start) (rules.several e (length ws) ws) in
-    let before = stack c.loop-turns.program in
-    let second = stack c.expression.new.program in
-    let after = stack c.make_room.new.self in
-    let pushed = c.make_room.ensures ∙ c.in_ok-push.ensures in
+    let before = stack c.loop-turns.machine in
+    let second = stack c.expression.new.machine in
+    let after = stack c.push.new.self in
+    let pushed = c.in_ok-push.ensures in
     let on = c.in_ok-expression.ensures.on c.in_ok-expression.field-0 refl in
     puts-ok w (left c.takes.new.self) (below start) after tt
     (several-end e w c.loop-turns.turns before (left c.loop-turns.reader) c.loop-turns.invariant.read c.loop-turns-test.true
@@ -265,10 +265,10 @@ pub several-loop-turns-preserved : goal.several-loop-turns-preserved
 several-loop-turns-preserved t c =
     let e = rules.expression c.args.fuel in
     let ws = left c.args.reader.now in
-    let start = stack c.args.program.now in
+    let start = stack c.args.machine.now in
     let w = extended (top start) (rules.several e (length ws) ws) in
-    let before = stack c.loop-turns.program in
-    let second = stack c.expression.new.program in
+    let before = stack c.loop-turns.machine in
+    let second = stack c.expression.new.machine in
     let after = stack c.push.new.self in
     let on = c.in_ok-expression.ensures.on c.in_ok-expression.field-0 refl in
     record {
@@ -282,9 +282,9 @@ pub some_definitions-returns-in_err-name : goal.some_definitions-returns-in_err-
 some_definitions-returns-in_err-name t c =
     let e = rules.expression c.args.fuel in
     let ws = left c.args.reader.now in
-    let start = stack c.args.program.now in
+    let start = stack c.args.machine.now in
     let w = completed (top start) (rules.definitions_at e (length ws) ws) in
-    let before = stack c.loop-turns.program in
+    let before = stack c.loop-turns.machine in
     let n = c.loop-turns.turns in
     stops-by w (left c.defined.new.reader) (below start) before c.from_residual.result c.in_err-name.field-0.0 c.from_residual.ensures.0 c.from_residual.ensures.1
     (λ stop. definitions-unnamed e w n before (left c.loop-turns.reader) c.loop-turns.invariant.read c.loop-turns-test.true (c.in_err-name.ensures.none (ap Err stop)))
@@ -293,11 +293,11 @@ pub some_definitions-returns-in_err-expression : goal.some_definitions-returns-i
 some_definitions-returns-in_err-expression t c =
     let e = rules.expression c.args.fuel in
     let ws = left c.args.reader.now in
-    let start = stack c.args.program.now in
+    let start = stack c.args.machine.now in
     let w = completed (top start) (rules.definitions_at e (length ws) ws) in
-    let before = stack c.loop-turns.program in
+    let before = stack c.loop-turns.machine in
     let n = c.loop-turns.turns in
-    stops-by w (left c.expression.new.reader) (below start) (stack c.expression.new.program) c.from_residual-in_err-expression.result c.in_err-expression.field-0.0
+    stops-by w (left c.expression.new.reader) (below start) (stack c.expression.new.machine) c.from_residual-in_err-expression.result c.in_err-expression.field-0.0
     c.from_residual-in_err-expression.ensures.0 c.from_residual-in_err-expression.ensures.1
     (λ stop. definitions-valueless e w n before (left c.loop-turns.reader) c.loop-turns.invariant.read c.loop-turns-test.true
     c.in_ok-name.name (left c.defined.new.reader) (c.in_ok-name.ensures.ok c.in_ok-name.name refl) (c.in_err-expression.ensures.none (ap Err stop)))
@@ -306,13 +306,13 @@ pub some_definitions-returns-in_err-finished : goal.some_definitions-returns-in_
 some_definitions-returns-in_err-finished t c =
     let e = rules.expression c.args.fuel in
     let ws = left c.args.reader.now in
-    let start = stack c.args.program.now in
+    let start = stack c.args.machine.now in
     let w = completed (top start) (rules.definitions_at e (length ws) ws) in
-    let before = stack c.loop-turns.program in
+    let before = stack c.loop-turns.machine in
     let n = c.loop-turns.turns in
-    let second = stack c.expression.new.program in
+    let second = stack c.expression.new.machine in
     let value = c.in_ok-expression.ensures in
-    let after = stack c.finished.new.program in
+    let after = stack c.finished.new.machine in
     stops-by w (left c.finished.new.reader) (below start) after c.from_residual-in_err-finished.result c.in_err-finished.field-0.0
     c.from_residual-in_err-finished.ensures.0 c.from_residual-in_err-finished.ensures.1
     (λ stop. definitions-stopped e w n before (left c.loop-turns.reader) c.loop-turns.invariant.read c.loop-turns-test.true
@@ -323,13 +323,13 @@ pub some_definitions-returns-then-not-branch : goal.some_definitions-returns-the
 some_definitions-returns-then-not-branch t c =
     let e = rules.expression c.args.fuel in
     let ws = left c.args.reader.now in
-    let start = stack c.args.program.now in
+    let start = stack c.args.machine.now in
     let w = completed (top start) (rules.definitions_at e (length ws) ws) in
-    let before = stack c.loop-turns.program in
+    let before = stack c.loop-turns.machine in
     let n = c.loop-turns.turns in
-    let second = stack c.expression.new.program in
+    let second = stack c.expression.new.machine in
     let value = c.in_ok-expression.ensures in
-    let after = stack c.finished.new.program in
+    let after = stack c.finished.new.machine in
     let on = value.on c.in_ok-expression.field-0 refl in
     let put = c.in_ok-finished.ensures.defined c.in_ok-finished.field-0 refl in
     let closes : ContinuesOk (left c.expression.new.reader) false (left c.finished.new.reader) =
@@ -344,13 +344,13 @@ pub some_definitions-loop-turns-preserved : goal.some_definitions-loop-turns-pre
 some_definitions-loop-turns-preserved t c =
     let e = rules.expression c.args.fuel in
     let ws = left c.args.reader.now in
-    let start = stack c.args.program.now in
+    let start = stack c.args.machine.now in
     let w = completed (top start) (rules.definitions_at e (length ws) ws) in
-    let before = stack c.loop-turns.program in
+    let before = stack c.loop-turns.machine in
     let n = c.loop-turns.turns in
-    let second = stack c.expression.new.program in
+    let second = stack c.expression.new.machine in
     let value = c.in_ok-expression.ensures in
-    let after = stack c.finished.new.program in
+    let after = stack c.finished.new.machine in
     let on = value.on c.in_ok-expression.field-0 refl in
     let put = c.in_ok-finished.ensures.defined c.in_ok-finished.field-0 refl in
     let goes : ContinuesOk (left c.expression.new.reader) true (left c.finished.new.reader) =
@@ -366,10 +366,10 @@ pub suffixes-returns-in_err-selection : goal.suffixes-returns-in_err-selection
 suffixes-returns-in_err-selection t c =
     let e = rules.expression c.args.fuel in
     let ws = left c.args.reader.now in
-    let start = stack c.args.program.now in
+    let start = stack c.args.machine.now in
     let w = rules.suffixes e (length ws) (top start) ws in
-    let before = stack c.loop-turns.program in
-    stops-by w (left c.selection.new.reader) (below start) (stack c.selection.new.program) c.from_residual.result c.in_err-selection.field-0.0 c.from_residual.ensures.0 c.from_residual.ensures.1
+    let before = stack c.loop-turns.machine in
+    stops-by w (left c.selection.new.reader) (below start) (stack c.selection.new.machine) c.from_residual.result c.in_err-selection.field-0.0 c.from_residual.ensures.0 c.from_residual.ensures.1
     (λ stop. suffixes-unselected e w c.loop-turns.turns before (left c.loop-turns.reader) c.loop-turns.invariant.read c.loop-turns-test.true
     (left c.takes.new.self) (c.takes.ensures.taken c.if-takes.true) (c.in_err-selection.ensures.none (ap Err stop)))
 
@@ -377,10 +377,10 @@ pub suffixes-loop-turns-preserved-in-Continue-1 : goal.suffixes-loop-turns-prese
 suffixes-loop-turns-preserved-in-Continue-1 t c =
     let e = rules.expression c.args.fuel in
     let ws = left c.args.reader.now in
-    let start = stack c.args.program.now in
+    let start = stack c.args.machine.now in
     let w = rules.suffixes e (length ws) (top start) ws in
-    let before = stack c.loop-turns.program in
-    let after = stack c.selection.new.program in
+    let before = stack c.loop-turns.machine in
+    let after = stack c.selection.new.machine in
     let chosen = c.in_ok-selection.ensures in
     record {
       read = suffixes-select e w c.loop-turns.turns before (left c.loop-turns.reader) c.loop-turns.invariant.read c.loop-turns-test.true
@@ -392,10 +392,10 @@ pub suffixes-returns-in_err-expression : goal.suffixes-returns-in_err-expression
 suffixes-returns-in_err-expression t c =
     let e = rules.expression c.args.fuel in
     let ws = left c.args.reader.now in
-    let start = stack c.args.program.now in
+    let start = stack c.args.machine.now in
     let w = rules.suffixes e (length ws) (top start) ws in
-    let before = stack c.loop-turns.program in
-    stops-by w (left c.expression.new.reader) (below start) (stack c.expression.new.program) c.from_residual-in_err-expression.result c.in_err-expression.field-0.0
+    let before = stack c.loop-turns.machine in
+    stops-by w (left c.expression.new.reader) (below start) (stack c.expression.new.machine) c.from_residual-in_err-expression.result c.in_err-expression.field-0.0
     c.from_residual-in_err-expression.ensures.0 c.from_residual-in_err-expression.ensures.1
     (λ stop. suffixes-placeless e w c.loop-turns.turns before (left c.loop-turns.reader) c.loop-turns.invariant.read c.loop-turns-test.true
     (left c.takes.new.self) (left c.takes-else-takes.new.self) (c.takes.ensures.kept c.if-takes.false) (c.takes-else-takes.ensures.taken c.if-takes-2.true)
@@ -405,11 +405,11 @@ pub suffixes-returns-in_err-expect : goal.suffixes-returns-in_err-expect
 suffixes-returns-in_err-expect t c =
     let e = rules.expression c.args.fuel in
     let ws = left c.args.reader.now in
-    let start = stack c.args.program.now in
+    let start = stack c.args.machine.now in
     let w = rules.suffixes e (length ws) (top start) ws in
-    let before = stack c.loop-turns.program in
+    let before = stack c.loop-turns.machine in
     let between = left c.takes.new.self in
-    let place = stack c.expression.new.program in
+    let place = stack c.expression.new.machine in
     stops-here w (left c.expect.new.self) (below start) place c.from_residual-in_err-expect.result c.from_residual-in_err-expect.ensures.0
     (suffixes-broken e w c.loop-turns.turns before (left c.loop-turns.reader) c.loop-turns.invariant.read c.loop-turns-test.true
     between (left c.takes-else-takes.new.self)
@@ -419,9 +419,9 @@ pub suffixes-returns-else-takes-2 : goal.suffixes-returns-else-takes-2
 suffixes-returns-else-takes-2 t c =
     let e = rules.expression c.args.fuel in
     let ws = left c.args.reader.now in
-    let start = stack c.args.program.now in
+    let start = stack c.args.machine.now in
     let w = rules.suffixes e (length ws) (top start) ws in
-    let before = stack c.loop-turns.program in
+    let before = stack c.loop-turns.machine in
     let between = left c.takes.new.self in
     puts-ok w (left c.takes-else-takes.new.self) (below start) before tt
     (suffixes-end e w c.loop-turns.turns before (left c.loop-turns.reader) c.loop-turns.invariant.read c.loop-turns-test.true
@@ -433,11 +433,11 @@ pub suffixes-loop-turns-preserved : goal.suffixes-loop-turns-preserved
 suffixes-loop-turns-preserved t c =
     let e = rules.expression c.args.fuel in
     let ws = left c.args.reader.now in
-    let start = stack c.args.program.now in
+    let start = stack c.args.machine.now in
     let w = rules.suffixes e (length ws) (top start) ws in
-    let before = stack c.loop-turns.program in
+    let before = stack c.loop-turns.machine in
     let between = left c.takes.new.self in
-    let place = stack c.expression.new.program in
+    let place = stack c.expression.new.machine in
     let after = stack c.push.new.self in
     let on = c.in_ok-expression.ensures.on c.in_ok-expression.field-0 refl in
     record {
@@ -452,16 +452,16 @@ pub arguments-returns-in_err-several : goal.arguments-returns-in_err-several
 arguments-returns-in_err-several t c =
     let e = rules.expression c.args.fuel in
     let ws = left c.args.reader.now in
-    let start = stack c.args.program.now in
-    stops-by (extended (top start) (rules.arguments e ws)) (left c.several.new.reader) (below start) (stack c.several.new.program) c.from_residual.result c.in_err-several.field-0.0 c.from_residual.ensures.0 c.from_residual.ensures.1
+    let start = stack c.args.machine.now in
+    stops-by (extended (top start) (rules.arguments e ws)) (left c.several.new.reader) (below start) (stack c.several.new.machine) c.from_residual.result c.in_err-several.field-0.0 c.from_residual.ensures.0 c.from_residual.ensures.1
     (λ stop. arguments-unread e (top start) ws (left c.takes.new.self) (c.takes.ensures.other c.if-takes.false) (c.takes.ensures.kept c.if-takes.false) (c.in_err-several.ensures.none (ap Err stop)))
 
 pub elements-returns-in_err-several : goal.elements-returns-in_err-several
 elements-returns-in_err-several t c =
     let e = rules.expression c.args.fuel in
     let ws = left c.args.reader.now in
-    let start = stack c.args.program.now in
-    stops-by (extended (top start) (rules.elements e ws)) (left c.several.new.reader) (below start) (stack c.several.new.program) c.from_residual.result c.in_err-several.field-0.0 c.from_residual.ensures.0 c.from_residual.ensures.1
+    let start = stack c.args.machine.now in
+    stops-by (extended (top start) (rules.elements e ws)) (left c.several.new.reader) (below start) (stack c.several.new.machine) c.from_residual.result c.in_err-several.field-0.0 c.from_residual.ensures.0 c.from_residual.ensures.1
     (λ stop. elements-unread e (top start) ws (left c.takes.new.self) (c.takes.ensures.other c.if-takes.false) (c.takes.ensures.kept c.if-takes.false) (c.in_err-several.ensures.none (ap Err stop)))
 
 pub conditionals-returns-in_err-level : goal.conditionals-returns-in_err-level
@@ -469,8 +469,8 @@ conditionals-returns-in_err-level t c =
     let e = rules.expression c.args.fuel in
     let ws = left c.args.reader.now in
     let w = rules.conditionals e (suc (length ws)) ws in
-    let before = stack c.loop-turns.program in
-    stops-by w (left c.level.new.reader) (stack c.args.program.now) (stack c.level.new.program) c.from_residual.result c.in_err-level.field-0.0 c.from_residual.ensures.0 c.from_residual.ensures.1
+    let before = stack c.loop-turns.machine in
+    stops-by w (left c.level.new.reader) (stack c.args.machine.now) (stack c.level.new.machine) c.from_residual.result c.in_err-level.field-0.0 c.from_residual.ensures.0 c.from_residual.ensures.1
     (λ stop. conditionals-operandless e w c.loop-turns.pending c.loop-turns.turns before (left c.loop-turns.reader) c.loop-turns.invariant.read c.loop-turns-test.true (c.in_err-level.ensures.none (ap Err stop)))
 
 pub conditionals-returns-in_err-choose : goal.conditionals-returns-in_err-choose
@@ -478,52 +478,52 @@ conditionals-returns-in_err-choose t c =
     let e = rules.expression c.args.fuel in
     let ws = left c.args.reader.now in
     let w = rules.conditionals e (suc (length ws)) ws in
-    stops-full w (left c.takes.new.self) (stack c.args.program.now) (stack c.choose.new.self) c.from_residual-in_err-choose.result c.from_residual-in_err-choose.ensures.0 c.from_residual-in_err-choose.ensures.1
+    stops-full w (left c.takes.new.self) (stack c.args.machine.now) (stack c.choose.new.self) c.from_residual-in_err-choose.result c.from_residual-in_err-choose.ensures.0 c.from_residual-in_err-choose.ensures.1
 
 pub conditionals-returns-in_err-expression : goal.conditionals-returns-in_err-expression
 conditionals-returns-in_err-expression t c =
     let e = rules.expression c.args.fuel in
     let ws = left c.args.reader.now in
     let w = rules.conditionals e (suc (length ws)) ws in
-    let before = stack c.loop-turns.program in
-    let first = stack c.level.new.program in
+    let before = stack c.loop-turns.machine in
+    let first = stack c.level.new.machine in
     let level = c.in_ok-level.ensures in
-    stops-by w (left c.expression.new.reader) (stack c.args.program.now) (stack c.expression.new.program) c.from_residual-in_err-expression.result c.in_err-expression.field-0.0 c.from_residual-in_err-expression.ensures.0 c.from_residual-in_err-expression.ensures.1
+    stops-by w (left c.expression.new.reader) (stack c.args.machine.now) (stack c.expression.new.machine) c.from_residual-in_err-expression.result c.in_err-expression.field-0.0 c.from_residual-in_err-expression.ensures.0 c.from_residual-in_err-expression.ensures.1
     (λ stop. conditionals-choiceless e w c.loop-turns.pending c.loop-turns.turns before (left c.loop-turns.reader) c.loop-turns.invariant.read c.loop-turns-test.true
     (left c.level.new.reader) (left c.takes.new.self) first (level.on c.in_ok-level.field-0 refl) (level.ok c.in_ok-level.field-0 refl)
     (c.takes.ensures.taken c.if-not-takes.false) (c.in_err-expression.ensures.none (ap Err stop)))
 
 pub expression-returns-in_err-lone : goal.expression-returns-in_err-lone
 expression-returns-in_err-lone t c =
-    stops-full (rules.expression c.args.fuel (left c.args.reader.now)) (left c.lone.new.reader) (stack c.args.program.now) (stack c.lone.new.program) c.from_residual.result c.from_residual.ensures.0 c.from_residual.ensures.1
+    stops-full (rules.expression c.args.fuel (left c.args.reader.now)) (left c.lone.new.reader) (stack c.args.machine.now) (stack c.lone.new.machine) c.from_residual.result c.from_residual.ensures.0 c.from_residual.ensures.1
 
 pub marked-returns-in_err-push-in-OpenBrace : goal.marked-returns-in_err-push-in-OpenBrace
 marked-returns-in_err-push-in-OpenBrace t c =
     let e = rules.expression c.args.fuel in
-    stops-full (rules.primary e (mark_word c.args.mark ∷ left c.args.reader.now)) (left c.args.reader.now) (stack c.args.program.now) (stack c.push.new.self) c.from_residual.result c.from_residual.ensures.0 c.from_residual.ensures.1
+    stops-full (rules.primary e (mark_word c.args.mark ∷ left c.args.reader.now)) (left c.args.reader.now) (stack c.args.machine.now) (stack c.push.new.self) c.from_residual.result c.from_residual.ensures.0 c.from_residual.ensures.1
 
 pub marked-returns-in_err-push-in-OpenBracket : goal.marked-returns-in_err-push-in-OpenBracket
 marked-returns-in_err-push-in-OpenBracket t c =
     let e = rules.expression c.args.fuel in
-    stops-full (rules.primary e (mark_word c.args.mark ∷ left c.args.reader.now)) (left c.args.reader.now) (stack c.args.program.now) (stack c.push-in-OpenBracket.new.self) c.from_residual-in_err-push-in-OpenBracket.result c.from_residual-in_err-push-in-OpenBracket.ensures.0 c.from_residual-in_err-push-in-OpenBracket.ensures.1
+    stops-full (rules.primary e (mark_word c.args.mark ∷ left c.args.reader.now)) (left c.args.reader.now) (stack c.args.machine.now) (stack c.push-in-OpenBracket.new.self) c.from_residual-in_err-push-in-OpenBracket.result c.from_residual-in_err-push-in-OpenBracket.ensures.0 c.from_residual-in_err-push-in-OpenBracket.ensures.1
 
 pub marked-returns-in_err-push-in-OpenBracket-2 : goal.marked-returns-in_err-push-in-OpenBracket-2
 marked-returns-in_err-push-in-OpenBracket-2 t c =
     let e = rules.expression c.args.fuel in
-    stops-full (rules.primary e (mark_word c.args.mark ∷ left c.args.reader.now)) (left c.definitions.new.reader) (stack c.args.program.now) (stack c.push-in-OpenBracket-2.new.self) c.from_residual-in_err-push-in-OpenBracket-2.result c.from_residual-in_err-push-in-OpenBracket-2.ensures.0 c.from_residual-in_err-push-in-OpenBracket-2.ensures.1
+    stops-full (rules.primary e (mark_word c.args.mark ∷ left c.args.reader.now)) (left c.definitions.new.reader) (stack c.args.machine.now) (stack c.push-in-OpenBracket-2.new.self) c.from_residual-in_err-push-in-OpenBracket-2.result c.from_residual-in_err-push-in-OpenBracket-2.ensures.0 c.from_residual-in_err-push-in-OpenBracket-2.ensures.1
 
 pub marked-returns-in_err-definitions-in-OpenBracket : goal.marked-returns-in_err-definitions-in-OpenBracket
 marked-returns-in_err-definitions-in-OpenBracket t c =
     let e = rules.expression c.args.fuel in
-    let start = stack c.args.program.now in
-    stops-by (rules.primary e (mark_word c.args.mark ∷ left c.args.reader.now)) (left c.definitions.new.reader) start (stack c.definitions.new.program) c.from_residual-in_err-definitions-in-OpenBracket.result c.in_err-definitions-in-OpenBracket.field-0.0 c.from_residual-in_err-definitions-in-OpenBracket.ensures.0 c.from_residual-in_err-definitions-in-OpenBracket.ensures.1
+    let start = stack c.args.machine.now in
+    stops-by (rules.primary e (mark_word c.args.mark ∷ left c.args.reader.now)) (left c.definitions.new.reader) start (stack c.definitions.new.machine) c.from_residual-in_err-definitions-in-OpenBracket.result c.in_err-definitions-in-OpenBracket.field-0.0 c.from_residual-in_err-definitions-in-OpenBracket.ensures.0 c.from_residual-in_err-definitions-in-OpenBracket.ensures.1
     (λ stop. ad-begun e c.args.mark (left c.args.reader.now) start (stack c.push-in-OpenBracket.new.self) c.in-OpenBracket.is c.in_ok-push-in-OpenBracket.ensures
     ∙ c.in_err-definitions-in-OpenBracket.ensures.none (ap Err stop))
 
 pub marked-returns-in_err-expression-in-OpenParen : goal.marked-returns-in_err-expression-in-OpenParen
 marked-returns-in_err-expression-in-OpenParen t c =
     let e = rules.expression c.args.fuel in
-    stops-by (rules.primary e (mark_word c.args.mark ∷ left c.args.reader.now)) (left c.expression.new.reader) (stack c.args.program.now) (stack c.expression.new.program) c.from_residual-in_err-expression-in-OpenParen.result c.in_err-expression-in-OpenParen.field-0.0 c.from_residual-in_err-expression-in-OpenParen.ensures.0 c.from_residual-in_err-expression-in-OpenParen.ensures.1
+    stops-by (rules.primary e (mark_word c.args.mark ∷ left c.args.reader.now)) (left c.expression.new.reader) (stack c.args.machine.now) (stack c.expression.new.machine) c.from_residual-in_err-expression-in-OpenParen.result c.in_err-expression-in-OpenParen.field-0.0 c.from_residual-in_err-expression-in-OpenParen.ensures.0 c.from_residual-in_err-expression-in-OpenParen.ensures.1
     (λ stop. paren-none e c.args.mark (left c.args.reader.now) c.in-OpenParen.is (c.in_err-expression-in-OpenParen.ensures.none (ap Err stop)))
 
 pub operations-returns-in_err-level : goal.operations-returns-in_err-level
@@ -531,10 +531,10 @@ operations-returns-in_err-level t c =
     let k = c.args.precedence in
     let tight = rules.level_at (rules.expression c.args.fuel) (k - 1) in
     let ws = left c.args.reader.now in
-    let start = stack c.args.program.now in
+    let start = stack c.args.machine.now in
     let w = rules.operations tight k (length ws) (top start) ws in
-    let before = stack c.loop-turns.program in
-    stops-by w (left c.level.new.reader) (below start) (stack c.level.new.program) c.from_residual.result c.in_err-level.field-0.0 c.from_residual.ensures.0 c.from_residual.ensures.1
+    let before = stack c.loop-turns.machine in
+    stops-by w (left c.level.new.reader) (below start) (stack c.level.new.machine) c.from_residual.result c.in_err-level.field-0.0 c.from_residual.ensures.0 c.from_residual.ensures.1
     (λ stop. operations-operandless tight w k c.loop-turns.turns before (left c.loop-turns.reader) c.loop-turns.invariant.read c.loop-turns-test.true
     (left c.infix.new.self) c.in-Some.operator (c.in-Some.ensures.some c.in-Some.operator refl) (c.in_err-level.ensures.none (ap Err stop)))
 
@@ -543,7 +543,7 @@ operations-returns-in_err-push t c =
     let k = c.args.precedence in
     let tight = rules.level_at (rules.expression c.args.fuel) (k - 1) in
     let ws = left c.args.reader.now in
-    let start = stack c.args.program.now in
+    let start = stack c.args.machine.now in
     let w = rules.operations tight k (length ws) (top start) ws in
     stops-full w (left c.level.new.reader) (below start) (stack c.push.new.self) c.from_residual-in_err-push.result c.from_residual-in_err-push.ensures.0 c.from_residual-in_err-push.ensures.1
 
@@ -551,43 +551,43 @@ pub postfix-returns-in_err-primary : goal.postfix-returns-in_err-primary
 postfix-returns-in_err-primary t c =
     let e = rules.expression c.args.fuel in
     let ws = left c.args.reader.now in
-    stops-by (rules.postfix e ws) (left c.primary.new.reader) (stack c.args.program.now) (stack c.primary.new.program) c.from_residual.result c.in_err-primary.field-0.0 c.from_residual.ensures.0 c.from_residual.ensures.1
+    stops-by (rules.postfix e ws) (left c.primary.new.reader) (stack c.args.machine.now) (stack c.primary.new.machine) c.from_residual.result c.in_err-primary.field-0.0 c.from_residual.ensures.0 c.from_residual.ensures.1
     (λ stop. postfix-none e ws (c.in_err-primary.ensures.none (ap Err stop)))
 
 pub prefixes-returns-in_err-operators : goal.prefixes-returns-in_err-operators
 prefixes-returns-in_err-operators t c =
     let e = rules.expression c.args.fuel in
     let ws = left c.args.reader.now in
-    stops-full (rules.prefixes e ws) (left c.read_operators.new.reader) (stack c.args.program.now) (stack c.args.program.now) c.from_residual.result c.from_residual.ensures.0 c.from_residual.ensures.1
+    stops-full (rules.prefixes e ws) (left c.read_operators.new.reader) (stack c.args.machine.now) (stack c.args.machine.now) c.from_residual.result c.from_residual.ensures.0 c.from_residual.ensures.1
 
 pub prefixes-returns-in_err-postfix : goal.prefixes-returns-in_err-postfix
 prefixes-returns-in_err-postfix t c =
     let e = rules.expression c.args.fuel in
     let ws = left c.args.reader.now in
-    stops-by (rules.prefixes e ws) (left c.postfix.new.reader) (stack c.args.program.now) (stack c.postfix.new.program) c.from_residual-in_err-postfix.result c.in_err-postfix.field-0.0 c.from_residual-in_err-postfix.ensures.0 c.from_residual-in_err-postfix.ensures.1
+    stops-by (rules.prefixes e ws) (left c.postfix.new.reader) (stack c.args.machine.now) (stack c.postfix.new.machine) c.from_residual-in_err-postfix.result c.in_err-postfix.field-0.0 c.from_residual-in_err-postfix.ensures.0 c.from_residual-in_err-postfix.ensures.1
     (λ stop. c.in_ok-operators.ensures e ∙ ap (wrapped c.in_ok-operators.operators.items) (c.in_err-postfix.ensures.none (ap Err stop)))
 
 pub prefixes-returns-in_err-apply : goal.prefixes-returns-in_err-apply
 prefixes-returns-in_err-apply t c =
     let e = rules.expression c.args.fuel in
     let ws = left c.args.reader.now in
-    stops-full (rules.prefixes e ws) (left c.postfix.new.reader) (stack c.args.program.now) (stack c.apply.new.program) c.from_residual-in_err-apply.result c.from_residual-in_err-apply.ensures.0 c.from_residual-in_err-apply.ensures.1
+    stops-full (rules.prefixes e ws) (left c.postfix.new.reader) (stack c.args.machine.now) (stack c.apply.new.machine) c.from_residual-in_err-apply.result c.from_residual-in_err-apply.ensures.0 c.from_residual-in_err-apply.ensures.1
 
 pub several-returns-in_err-expression : goal.several-returns-in_err-expression
 several-returns-in_err-expression t c =
     let e = rules.expression c.args.fuel in
     let ws = left c.args.reader.now in
-    let start = stack c.args.program.now in
+    let start = stack c.args.machine.now in
     let w = extended (top start) (rules.several e (length ws) ws) in
-    let before = stack c.loop-turns.program in
-    stops-by w (left c.expression.new.reader) (below start) (stack c.expression.new.program) c.from_residual.result c.in_err-expression.field-0.0 c.from_residual.ensures.0 c.from_residual.ensures.1
+    let before = stack c.loop-turns.machine in
+    stops-by w (left c.expression.new.reader) (below start) (stack c.expression.new.machine) c.from_residual.result c.in_err-expression.field-0.0 c.from_residual.ensures.0 c.from_residual.ensures.1
     (λ stop. several-valueless e w c.loop-turns.turns before (left c.loop-turns.reader) c.loop-turns.invariant.read c.loop-turns-test.true (c.in_err-expression.ensures.none (ap Err stop)))
 
 pub several-returns-in_err-push : goal.several-returns-in_err-push
 several-returns-in_err-push t c =
     let e = rules.expression c.args.fuel in
     let ws = left c.args.reader.now in
-    let start = stack c.args.program.now in
+    let start = stack c.args.machine.now in
     let w = extended (top start) (rules.several e (length ws) ws) in
     stops-full w (left c.expression.new.reader) (below start) (stack c.push.new.self) c.from_residual-in_err-push.result c.from_residual-in_err-push.ensures.0 c.from_residual-in_err-push.ensures.1
 
@@ -595,17 +595,17 @@ pub suffixes-returns-in_err-push : goal.suffixes-returns-in_err-push
 suffixes-returns-in_err-push t c =
     let e = rules.expression c.args.fuel in
     let ws = left c.args.reader.now in
-    let start = stack c.args.program.now in
+    let start = stack c.args.machine.now in
     stops-full (rules.suffixes e (length ws) (top start) ws) (left c.expect.new.self) (below start) (stack c.push.new.self) c.from_residual-in_err-push.result c.from_residual-in_err-push.ensures.0 c.from_residual-in_err-push.ensures.1
 
 pub marked-returns-in_ok-expression-in-OpenParen : goal.marked-returns-in_ok-expression-in-OpenParen
 marked-returns-in_ok-expression-in-OpenParen t c =
     let e = rules.expression c.args.fuel in
     let ws = left c.args.reader.now in
-    let inside = stack c.expression.new.program in
+    let inside = stack c.expression.new.machine in
     let read = c.in_ok-expression-in-OpenParen.ensures in
     let found = read.ok c.in_ok-expression-in-OpenParen.field-0 refl in
-    puts-expected (rules.primary e (mark_word c.args.mark ∷ left c.args.reader.now)) (left c.expect.new.self) (stack c.args.program.now) inside c.expect.result
+    puts-expected (rules.primary e (mark_word c.args.mark ∷ left c.args.reader.now)) (left c.expect.new.self) (stack c.args.machine.now) inside c.expect.result
     (λ done is. paren-closed e c.args.mark ws c.in-OpenParen.is (top inside) (left c.expression.new.reader) found (left c.expect.new.self) (c.expect.ensures.ok done is))
     (read.on c.in_ok-expression-in-OpenParen.field-0 refl)
     (λ stop is. paren-broken e c.args.mark ws c.in-OpenParen.is (top inside) (left c.expression.new.reader) found (c.expect.ensures.none stop is))
@@ -640,7 +640,7 @@ conditionals-loop-turns-init t c =
     let ws = left c.args.reader.now in
     let turns : suc (length ws) ≡ c.count-turns.result + 1 = omega (arith, c.count-turns.ensures.value) in
     record {
-      read = ap (λ n. rules.conditionals e n ws) turns ∙ choices-nil (stack c.args.program.now) (rules.conditionals e (c.count-turns.result + 1) ws);
+      read = ap (λ n. rules.conditionals e n ws) turns ∙ choices-nil (stack c.args.machine.now) (rules.conditionals e (c.count-turns.result + 1) ws);
       rest = λ x. refl;
       few = omega (arith, c.count-turns.ensures.few);
     }
@@ -649,17 +649,17 @@ pub conditionals-returns : goal.conditionals-returns
 conditionals-returns t c =
     let e = rules.expression c.args.fuel in
     let ws = left c.args.reader.now in
-    let before = stack c.loop-turns.program in
+    let before = stack c.loop-turns.machine in
     let out : c.loop-turns.turns ≡ 0 = omega (arith, c.loop-turns-test.false) in
-    stops-now (rules.conditionals e (suc (length ws)) ws) (left c.loop-turns.reader) (stack c.args.program.now) before
+    stops-now (rules.conditionals e (suc (length ws)) ws) (left c.loop-turns.reader) (stack c.args.machine.now) before
     (c.loop-turns.invariant.read ∙ ap (λ n. choices c.loop-turns.pending before (rules.conditionals e n (left c.loop-turns.reader))) out)
 
 pub several-returns : goal.several-returns
 several-returns t c =
     let e = rules.expression c.args.fuel in
     let ws = left c.args.reader.now in
-    let start = stack c.args.program.now in
-    let before = stack c.loop-turns.program in
+    let start = stack c.args.machine.now in
+    let before = stack c.loop-turns.machine in
     let out : c.loop-turns.turns ≡ 0 = omega (arith, c.loop-turns-test.false) in
     stops-now (extended (top start) (rules.several e (length ws) ws)) (left c.loop-turns.reader) (below start) before
     (c.loop-turns.invariant.read ∙ ap (λ n. extended (top before) (rules.several e n (left c.loop-turns.reader))) out)
@@ -668,8 +668,8 @@ pub some_definitions-returns : goal.some_definitions-returns
 some_definitions-returns t c =
     let e = rules.expression c.args.fuel in
     let ws = left c.args.reader.now in
-    let start = stack c.args.program.now in
-    let before = stack c.loop-turns.program in
+    let start = stack c.args.machine.now in
+    let before = stack c.loop-turns.machine in
     let out : c.loop-turns.turns ≡ 0 = omega (arith, c.loop-turns-test.false) in
     stops-now (completed (top start) (rules.definitions_at e (length ws) ws)) (left c.loop-turns.reader) (below start) before
     (c.loop-turns.invariant.read ∙ ap (λ n. completed (top before) (rules.definitions_at e n (left c.loop-turns.reader))) out)
@@ -678,8 +678,8 @@ pub suffixes-returns : goal.suffixes-returns
 suffixes-returns t c =
     let e = rules.expression c.args.fuel in
     let ws = left c.args.reader.now in
-    let start = stack c.args.program.now in
-    let before = stack c.loop-turns.program in
+    let start = stack c.args.machine.now in
+    let before = stack c.loop-turns.machine in
     let out : c.loop-turns.turns ≡ 0 = omega (arith, c.loop-turns-test.false) in
     puts-ok (rules.suffixes e (length ws) (top start) ws) (left c.loop-turns.reader) (below start) before tt
     (c.loop-turns.invariant.read ∙ ap (λ n. rules.suffixes e n (top before) (left c.loop-turns.reader)) out) c.loop-turns.invariant.rest
@@ -689,9 +689,9 @@ operations-returns-in_default t c =
     let k = c.args.precedence in
     let tight = rules.level_at (rules.expression c.args.fuel) (k - 1) in
     let ws = left c.args.reader.now in
-    let start = stack c.args.program.now in
+    let start = stack c.args.machine.now in
     let w = rules.operations tight k (length ws) (top start) ws in
-    let before = stack c.loop-turns.program in
+    let before = stack c.loop-turns.machine in
     puts-ok w (left c.infix.new.self) (below start) before tt
     (operations-end tight w k c.loop-turns.turns before (left c.loop-turns.reader) (left c.infix.new.self) c.loop-turns.invariant.read c.loop-turns-test.true
     (c.in_default.ensures.none refl) (c.in_default.ensures.kept refl))
@@ -730,5 +730,5 @@ pub marked-returns-in_default : goal.marked-returns-in_default
 marked-returns-in_default t c =
     let e = rules.expression c.args.fuel in
     let ws = left c.args.reader.now in
-    stops-now (rules.primary e (mark_word c.args.mark ∷ ws)) ws (stack c.args.program.now) (stack c.args.program.now)
+    stops-now (rules.primary e (mark_word c.args.mark ∷ ws)) ws (stack c.args.machine.now) (stack c.args.machine.now)
     (primary-none e c.args.mark ws c.in_default.not-OpenParen c.in_default.not-OpenBracket c.in_default.not-OpenBrace c.in_default.not-Dot)

@@ -56,8 +56,8 @@ abbrev pub invariant-conditionals-loop-turns : goal.invariant-conditionals-loop-
 invariant-conditionals-loop-turns l = record {
   read :
       rules.conditionals (rules.expression l.fuel) (suc (length (left l.initial.reader))) (left l.initial.reader)
-      ≡ choices l.pending (stack l.program) (rules.conditionals (rules.expression l.fuel) l.turns (left l.reader));
-  rest : (x : Inline) → below (chosen l.pending (x ∷ stack l.program)) ≡ stack l.initial.program;
+      ≡ choices l.pending (stack l.machine) (rules.conditionals (rules.expression l.fuel) l.turns (left l.reader));
+  rest : (x : Inline) → below (chosen l.pending (x ∷ stack l.machine)) ≡ stack l.initial.machine;
   few : l.pending + l.turns ≤ 2 ^ 63;
 }
 
@@ -67,9 +67,9 @@ decreases-conditionals-loop-turns l = l.turns
 abbrev pub invariant-climb-loop-next : goal.invariant-climb-loop-next
 invariant-climb-loop-next l = record {
   read :
-      climb (rules.expression l.fuel) 0 l.precedence (top (stack l.initial.program)) (left l.initial.reader)
-      ≡ climb (rules.expression l.fuel) l.reached (l.precedence - l.reached) (top (stack l.program)) (left l.reader);
-  rest : below (stack l.program) ≡ below (stack l.initial.program);
+      climb (rules.expression l.fuel) 0 l.precedence (top (stack l.initial.machine)) (left l.initial.reader)
+      ≡ climb (rules.expression l.fuel) l.reached (l.precedence - l.reached) (top (stack l.machine)) (left l.reader);
+  rest : below (stack l.machine) ≡ below (stack l.initial.machine);
   within : l.reached ≤ l.precedence;
 }
 
@@ -80,10 +80,10 @@ abbrev pub invariant-operations-loop-turns : goal.invariant-operations-loop-turn
 invariant-operations-loop-turns l = record {
   read :
       rules.operations (rules.level_at (rules.expression l.fuel) (l.precedence - 1)) l.precedence
-      (length (left l.initial.reader)) (top (stack l.initial.program)) (left l.initial.reader)
+      (length (left l.initial.reader)) (top (stack l.initial.machine)) (left l.initial.reader)
       ≡ rules.operations (rules.level_at (rules.expression l.fuel) (l.precedence - 1)) l.precedence
-      l.turns (top (stack l.program)) (left l.reader);
-  rest : below (stack l.program) ≡ below (stack l.initial.program);
+      l.turns (top (stack l.machine)) (left l.reader);
+  rest : below (stack l.machine) ≡ below (stack l.initial.machine);
 }
 
 abbrev pub decreases-operations-loop-turns : goal.decreases-operations-loop-turns
@@ -92,9 +92,9 @@ decreases-operations-loop-turns l = l.turns
 abbrev pub invariant-suffixes-loop-turns : goal.invariant-suffixes-loop-turns
 invariant-suffixes-loop-turns l = record {
   read :
-      rules.suffixes (rules.expression l.fuel) (length (left l.initial.reader)) (top (stack l.initial.program)) (left l.initial.reader)
-      ≡ rules.suffixes (rules.expression l.fuel) l.turns (top (stack l.program)) (left l.reader);
-  rest : below (stack l.program) ≡ below (stack l.initial.program);
+      rules.suffixes (rules.expression l.fuel) (length (left l.initial.reader)) (top (stack l.initial.machine)) (left l.initial.reader)
+      ≡ rules.suffixes (rules.expression l.fuel) l.turns (top (stack l.machine)) (left l.reader);
+  rest : below (stack l.machine) ≡ below (stack l.initial.machine);
 }
 
 abbrev pub decreases-suffixes-loop-turns : goal.decreases-suffixes-loop-turns
@@ -103,9 +103,9 @@ decreases-suffixes-loop-turns l = l.turns
 abbrev pub invariant-several-loop-turns : goal.invariant-several-loop-turns
 invariant-several-loop-turns l = record {
   read :
-      extended (top (stack l.initial.program)) (rules.several (rules.expression l.fuel) (length (left l.initial.reader)) (left l.initial.reader))
-      ≡ extended (top (stack l.program)) (rules.several (rules.expression l.fuel) l.turns (left l.reader));
-  rest : below (stack l.program) ≡ below (stack l.initial.program);
+      extended (top (stack l.initial.machine)) (rules.several (rules.expression l.fuel) (length (left l.initial.reader)) (left l.initial.reader))
+      ≡ extended (top (stack l.machine)) (rules.several (rules.expression l.fuel) l.turns (left l.reader));
+  rest : below (stack l.machine) ≡ below (stack l.initial.machine);
 }
 
 abbrev pub decreases-several-loop-turns : goal.decreases-several-loop-turns
@@ -114,9 +114,9 @@ decreases-several-loop-turns l = l.turns
 abbrev pub invariant-some_definitions-loop-turns : goal.invariant-some_definitions-loop-turns
 invariant-some_definitions-loop-turns l = record {
   read :
-      completed (top (stack l.initial.program)) (rules.definitions_at (rules.expression l.fuel) (length (left l.initial.reader)) (left l.initial.reader))
-      ≡ completed (top (stack l.program)) (rules.definitions_at (rules.expression l.fuel) l.turns (left l.reader));
-  rest : below (stack l.program) ≡ below (stack l.initial.program);
+      completed (top (stack l.initial.machine)) (rules.definitions_at (rules.expression l.fuel) (length (left l.initial.reader)) (left l.initial.reader))
+      ≡ completed (top (stack l.machine)) (rules.definitions_at (rules.expression l.fuel) l.turns (left l.reader));
+  rest : below (stack l.machine) ≡ below (stack l.initial.machine);
 }
 
 abbrev pub decreases-some_definitions-loop-turns : goal.decreases-some_definitions-loop-turns

@@ -9,7 +9,7 @@ loop-operator-preserved c = record {
   rest = ap below c.in_ok-push.ensures ∙ c.loop-operator.invariant.rest;
   all =
       ap (λ st. applied c.pop.new.self.items (top st)) c.in_ok-push.ensures
-      ∙ sym (applied-push c.pop.new.self.items c.in-Some.operator (top (stack c.loop-operator.program)))
-      ∙ ap (λ ops. applied ops (top (stack c.loop-operator.program))) (sym c.in-Some.ensures.items)
+      ∙ sym (applied-push c.pop.new.self.items c.in-Some.operator (top (stack c.loop-operator.machine)))
+      ∙ ap (λ ops. applied ops (top (stack c.loop-operator.machine))) (sym c.in-Some.ensures.items)
       ∙ c.loop-operator.invariant.all;
 }

@@ -5,8 +5,8 @@ use Rattle.ad_grammar.proofs.grammar.apply.Given as goal
 
 abbrev pub invariant-loop-operator : goal.invariant-loop-operator
 invariant-loop-operator l = record {
-  rest : below (stack l.program) ≡ below (stack l.initial.program);
-  all : applied l.operators.items (top (stack l.program)) ≡ applied l.initial.operators.items (top (stack l.initial.program));
+  rest : below (stack l.machine) ≡ below (stack l.initial.machine);
+  all : applied l.operators.items (top (stack l.machine)) ≡ applied l.initial.operators.items (top (stack l.initial.machine));
 }
 
 abbrev pub decreases-loop-operator : goal.decreases-loop-operator

@@ -1,5 +1,7 @@
 // A text is a list of bytes, of any encoding.
-ghost use Rattle.std.specs.Prelude.{◌≡◌, ◌++◌, [], IfOk, OnOk, OnErr};
+ghost use Rattle.std.specs.Prelude.{◌≡◌, ◌+◌, ◌<◌, ◌≤◌, ◌++◌, [], IfOk, IsOk, OnOk, OnErr, length, nat_eq};
+ghost use Rattle.std.specs.Cmp.{partial_equiv_from_equiv};
+ghost use Rattle.std.specs.Cmp.Lexicographic.{nat_list_eq_equiv, pointwise};
 
 use crate::OutOfMemory;
 use crate::short_text::ShortText;
@@ -25,11 +27,27 @@ enum Bytes {
 
 impl Model for Text {
     ghost use Rattle.std.specs.Prelude.{List, ℕ};
-    ghost use Rattle.pool_text.specs.Texts.{bytes_of};
+    ghost use Rattle.pool_text.specs.Texts.{StandInPlaceIfShort, bytes_of};
 
     ghost Value = { List ℕ };
 
     ghost view = { λ t. bytes_of t.bytes };
+
+    ghost invariant = { λ t. StandInPlaceIfShort t.bytes };
+}
+
+impl PartialEq for Text {
+    ghost eq = { pointwise nat_eq };
+
+    ghost laws = { partial_equiv_from_equiv nat_list_eq_equiv };
+
+    fn eq(&self, other: &Text) -> bool {
+        are_same(self.bytes(), other.bytes())
+    }
+}
+
+impl Eq for Text {
+    ghost laws = { nat_list_eq_equiv };
 }
 
 impl fmt::Debug for Text {
@@ -49,9 +67,10 @@ impl Text {
         }
     }
 
-    /// A text with these bytes.
+    /// A text with these bytes. Up to 22 are never refused, since they take no memory.
     pub fn from_bytes(alloc: Global, bytes: &[u8]) -> Result<Text, OutOfMemory>
-        ensures { IfOk result (λ t. t ≡ bytes.now) }
+        ensures text { IfOk result (λ t. t ≡ bytes.now) }
+        ensures short { length bytes.now ≤ 22 → IsOk result }
     {
         let mut short = ShortText::new();
         let bytes = if short.has_room(bytes.len()) {
@@ -80,10 +99,11 @@ impl Text {
         }
     }
 
-    /// Adds bytes at the end, all of them or none.
+    /// Adds bytes at the end, all of them or none. They aren't refused where the text has no more than 22 bytes then.
     pub fn append(&mut self, bytes: &[u8]) -> Result<(), OutOfMemory>
         ensures ok { OnOk result (self.new ≡ self.old ++ bytes.now) }
         ensures err { OnErr result (self.new ≡ self.old) }
+        ensures short { length self.old + length bytes.now ≤ 22 → IsOk result }
     {
         match &mut self.bytes {
             Bytes::Long(long) => long.extend_from_slice(bytes)?,
@@ -106,6 +126,30 @@ impl Text {
             long.shrink_to_fit();
         }
     }
+}
+
+// Whether the bytes are equal. Names are short and differ in their lengths or first letters, so that this costs less than the
+// words at a time by which lists are compared.
+#[inline(always)]
+fn are_same(a: &[u8], b: &[u8]) -> bool
+    ensures { result ≡ pointwise nat_eq a.now b.now }
+{
+    if a.len() != b.len() {
+        return false;
+    }
+    let mut left = a;
+    let mut right = b;
+    while let [x, left_rest @ ..] = left {
+        let [y, right_rest @ ..] = right else {
+            return false;
+        };
+        if x != y {
+            return false;
+        }
+        left = left_rest;
+        right = right_rest;
+    }
+    right.is_empty()
 }
 
 // The bytes of both in a place of their own.

@@ -6,7 +6,7 @@ ghost use Rattle.ad_tree.specs.Tree.{tree, trees, two};
 ghost use Rattle.bilateral_match.specs.Alike.{AreAlike};
 
 use ad_tree::{Ad, Expr, Exprs, scopes_are_equal};
-use pool_text::{Lit, Text, same_binary, same_unary};
+use pool_text::{Lit, same_binary, same_unary};
 
 /// Whether two ads have the same frames, attribute by attribute in their order, each name spelled alike. No memory is taken.
 /// Then they dock with the same resources, and the same one is best for both (`ads_that_are_alike_have_the_same_best`).
@@ -38,7 +38,7 @@ fn same_attributes(a: &Ad, b: &Ad, frame: u32) -> bool
         if !same_expr(a.expr(frame, k), b.expr(frame, k)) {
             return false;
         }
-        if !same_text(a.name(frame, k), b.name(frame, k)) {
+        if a.name(frame, k) != b.name(frame, k) {
             return false;
         }
     }
@@ -52,7 +52,7 @@ fn same_expr(a: &Expr, b: &Expr) -> bool
 {
     match (a, b) {
         (Expr::Literal(x), Expr::Literal(y)) => same_literal(x, y),
-        (Expr::Name(s, x), Expr::Name(t, y)) => scopes_are_equal(*s, *t) && same_text(x, y),
+        (Expr::Name(s, x), Expr::Name(t, y)) => scopes_are_equal(*s, *t) && x == y,
         (Expr::Unary(p, x), Expr::Unary(q, y)) => same_unary(p, q) && same_expr(x, y),
         (Expr::Binary(p, x, v), Expr::Binary(q, y, w)) => {
             same_binary(p, q) && same_two(x, v, y, w)
@@ -60,9 +60,9 @@ fn same_expr(a: &Expr, b: &Expr) -> bool
         (Expr::And(x), Expr::And(y)) => same_all(x, y),
         (Expr::Or(x), Expr::Or(y)) => same_all(x, y),
         (Expr::Cond(x, v, r), Expr::Cond(y, w, s)) => same_expr(x, y) && same_two(v, r, w, s),
-        (Expr::Select(x, v), Expr::Select(y, w)) => same_text(v, w) && same_expr(x, y),
+        (Expr::Select(x, v), Expr::Select(y, w)) => v == w && same_expr(x, y),
         (Expr::Subscript(x, v), Expr::Subscript(y, w)) => same_two(x, v, y, w),
-        (Expr::Call(x, v), Expr::Call(y, w)) => same_text(x, y) && same_all(v, w),
+        (Expr::Call(x, v), Expr::Call(y, w)) => x == y && same_all(v, w),
         (Expr::List(x), Expr::List(y)) => same_all(x, y),
         (Expr::Frame(f), Expr::Frame(g)) => f == g,
         _ => false,
@@ -101,13 +101,7 @@ fn same_literal(a: &Lit, b: &Lit) -> bool
         (Lit::Error, Lit::Error) => true,
         (Lit::Boolean(x), Lit::Boolean(y)) => x == y,
         (Lit::Integer(x), Lit::Integer(y)) => x == y,
-        (Lit::Str(x), Lit::Str(y)) => same_text(x, y),
+        (Lit::Str(x), Lit::Str(y)) => x == y,
         _ => false,
     }
-}
-
-fn same_text(a: &Text, b: &Text) -> bool
-    ensures { IsTrue result ↔ (a.now ≡ b.now) }
-{
-    a.bytes() == b.bytes()
 }

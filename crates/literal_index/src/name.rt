@@ -76,7 +76,7 @@ impl NameCache {
         ensures { IfOk result (λ shared. shared ≡ name.now) }
     {
         match self.names.get(&digest) {
-            Some(known) if known.bytes() == name.bytes() => known.share(),
+            Some(known) if *known.text == *name => known.share(),
             _ => self.take_in(digest, name),
         }
     }

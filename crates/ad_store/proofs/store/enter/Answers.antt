@@ -21,7 +21,7 @@ returns-clause-entered c =
           ∙ ap (λ s. names ++ (key, s) ∷ []) (c.vacant_key-slot.ensures.value ∙ sym c.insert_reserved.ensures.key);
       vacant = sym (ap (λ s. get s c.insert_reserved.result) c.reserve-2.ensures.rest_kept) ∙ c.insert_reserved.ensures.was_vacant;
       changes = record {
-        changed = c.insert_reserved.ensures.updates.changed ∙ ap (λ n. Some (record { name = n; content = c.args.content })) c.in_ok-from_bytes.ensures;
+        changed = c.insert_reserved.ensures.updates.changed ∙ ap (λ n. Some (record { name = n; content = c.args.content })) c.in_ok-from_bytes.ensures.text;
         others = λ other apart. c.insert_reserved.ensures.updates.others other apart ∙ ap (λ s. get s other) c.reserve-2.ensures.rest_kept;
       };
     }

@@ -82,9 +82,10 @@ impl Text {
         Ok(Text { alloc, bytes })
     }
 
-    /// A second text with the same bytes.
+    /// A second text with the same bytes. It isn't refused where they are no more than 22.
     pub fn copy(&self) -> Result<Text, OutOfMemory>
-        ensures { IfOk result (λ t. t ≡ self.now) }
+        ensures text { IfOk result (λ t. t ≡ self.now) }
+        ensures short { length self.now ≤ 22 → IsOk result }
     {
         Text::from_bytes(self.alloc, self.bytes())
     }

@@ -39,7 +39,7 @@ pub place-returns-in_ok-copy-in-Name : goal.place-returns-in_ok-copy-in-Name
 place-returns-in_ok-copy-in-Name t c =
     read-placed (inside (draft_frames c.args.draft.now) c.args.turns)
     (ap tree c.in-Name.is ∙ tree-Name c.in-Name.scope c.in-Name.name)
-    (tree-Name c.in-Name.scope c.in_ok-copy-in-Name.field-0 ∙ ap (λ n. node (name c.in-Name.scope n) none) c.in_ok-copy-in-Name.ensures)
+    (tree-Name c.in-Name.scope c.in_ok-copy-in-Name.field-0 ∙ ap (λ n. node (name c.in-Name.scope n) none) c.in_ok-copy-in-Name.ensures.text)
     (none-placed _)
 
 pub place-place_boxed-requires : goal.place-place_boxed-requires
@@ -109,7 +109,7 @@ pub place-returns-in_ok-copy-in-Select : goal.place-returns-in_ok-copy-in-Select
 place-returns-in_ok-copy-in-Select t c =
     read-placed (inside (draft_frames c.args.draft.now) c.args.turns)
     (read-Select c.in-Select.a c.in-Select.name c.in-Select.is c.deref-in-Select.ensures)
-    (tree-Select c.in_ok-a-in-Select.a c.in_ok-copy-in-Select.field-0 ∙ ap (λ n. node (select n) (one (tree c.in_ok-a-in-Select.a.value))) c.in_ok-copy-in-Select.ensures)
+    (tree-Select c.in_ok-a-in-Select.a c.in_ok-copy-in-Select.field-0 ∙ ap (λ n. node (select n) (one (tree c.in_ok-a-in-Select.a.value))) c.in_ok-copy-in-Select.ensures.text)
     (one-placed c.in_ok-a-in-Select.ensures)
 
 pub place-place_two-requires-in-Subscript : goal.place-place_two-requires-in-Subscript
@@ -131,7 +131,7 @@ place-returns-in_ok-new-in-Call t c =
     read-placed (inside (draft_frames c.args.draft.now) c.args.turns)
     (read-Call c.in-Call.name c.in-Call.list c.in-Call.is c.deref-in-Call.ensures)
     (tree-Call c.in_ok-copy-in-Call.field-0 made
-    ∙ ap (λ n. node (call n) (pack (trees made.value))) c.in_ok-copy-in-Call.ensures
+    ∙ ap (λ n. node (call n) (pack (trees made.value))) c.in_ok-copy-in-Call.ensures.text
     ∙ ap (λ list. node (call c.in-Call.name) (pack (trees list))) c.in_ok-new-in-Call.ensures.ok)
     (c.in_ok-list-in-Call.ensures)
 
@@ -166,7 +166,7 @@ place_definitions-loop-i-preserved t c =
           c.at-attribute.ensures
           (c.loop-i.invariant.defined parent before at is)
           c.in_ok-expr.ensures
-          (c.in_ok-define.ensures.ok ∙ ap (λ name. defined (draft_frames c.place.new.out) c.args.at name (tree c.in_ok-expr.expr)) c.in_ok-name.ensures);
+          (c.in_ok-define.ensures.ok ∙ ap (λ name. defined (draft_frames c.place.new.out) c.args.at name (tree c.in_ok-expr.expr)) c.in_ok-name.ensures.text);
     }
 
 pub open-returns-then-turns-eq0 : goal.open-returns-then-turns-eq0

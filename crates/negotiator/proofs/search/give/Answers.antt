@@ -18,5 +18,5 @@ offer-requires-clause-idle c =
 pub returns-clause-offered : goal.returns-clause-offered
 returns-clause-offered c =
     offered-is (jobs_of c.args.claims.now) c.args.i c.args.slots _ _
-    (c.in_ok-job.ensures ∙ sym (name-is (jobs_of c.args.claims.now) c.args.i c.job.result.now c.job.ensures))
+    (c.in_ok-job.ensures.text ∙ sym (name-is (jobs_of c.args.claims.now) c.args.i c.job.result.now c.job.ensures))
     (c.in_ok-shown.ensures ∙ c.as_slice.ensures)

@@ -24,13 +24,13 @@ pub returns-in-Ok-Added-clause-step : goal.returns-in-Ok-Added-clause-step
 returns-in-Ok-Added-clause-step g c = λ priorities.
     let block = c.args.block.now in
     let put = c.in-Ok-Added.ensures in
-    advertise-added (state_with c.args.moment priorities c.args.books.now) c.args.name.now c.bytes.result.now c.args.lifetime (length block) (ad_outcome block) c.in-Ok.ad (ads_of c.put.new.self.ads) (queue_of c.put.new.self) (c.in-Ok.ensures.outcome (ad_outcome block) (ad_outcome-has block)) c.bytes.ensures put.jobs c.in_ok-named.named c.in_ok-named.ensures put.room put.ads (sym (ap is_added c.in-Ok-Added.field-0-is) ∙ put.added)
+    advertise-added (state_with c.args.moment priorities c.args.books.now) c.args.name.now c.bytes.result.now c.args.lifetime (length block) (ad_outcome block) c.in-Ok.ad (ads_of c.put.new.self.ads) (queue_of c.put.new.self) (c.in-Ok.ensures.outcome (ad_outcome block) (ad_outcome-has block)) c.bytes.ensures put.jobs c.in_ok-named.named c.in_ok-named.ensures.text put.room put.ads (sym (ap is_added c.in-Ok-Added.field-0-is) ∙ put.added)
 
 pub returns-in-Ok-Replaced-clause-step : goal.returns-in-Ok-Replaced-clause-step
 returns-in-Ok-Replaced-clause-step g c = λ priorities.
     let block = c.args.block.now in
     let put = c.in-Ok-Replaced.ensures in
-    advertise-replaced (state_with c.args.moment priorities c.args.books.now) c.args.name.now c.bytes.result.now c.args.lifetime (length block) (ad_outcome block) c.in-Ok.ad (ads_of c.put.new.self.ads) (queue_of c.put.new.self) (c.in-Ok.ensures.outcome (ad_outcome block) (ad_outcome-has block)) c.bytes.ensures put.jobs c.in_ok-named.named c.in_ok-named.ensures put.room put.ads (sym (ap is_added c.in-Ok-Replaced.field-0-is) ∙ put.added)
+    advertise-replaced (state_with c.args.moment priorities c.args.books.now) c.args.name.now c.bytes.result.now c.args.lifetime (length block) (ad_outcome block) c.in-Ok.ad (ads_of c.put.new.self.ads) (queue_of c.put.new.self) (c.in-Ok.ensures.outcome (ad_outcome block) (ad_outcome-has block)) c.bytes.ensures put.jobs c.in_ok-named.named c.in_ok-named.ensures.text put.room put.ads (sym (ap is_added c.in-Ok-Replaced.field-0-is) ∙ put.added)
 
 pub returns-in-Err-Full-clause-step : goal.returns-in-Err-Full-clause-step
 returns-in-Err-Full-clause-step g c = λ priorities.

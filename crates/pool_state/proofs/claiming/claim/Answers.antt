@@ -29,11 +29,11 @@ returns-clause-step g c =
     (λ reply is. λ priorities.
     let s : State = state_with c.args.moment priorities c.args.books.now in
     let t : State = state_with c.args.moment priorities c.claim-answer.new.self in
-    let called = c.bytes-2.ensures ∙ sym c.in_ok-named.ensures in
+    let called = c.bytes-2.ensures ∙ sym c.in_ok-named.ensures.text in
     let fits = subst (λ (n : List ℕ). IsClaimAnswer (stock_of c.args.books.now.ads.store) s n t c.claim-answer.result) called (c.claim-answer.ensures.claim priorities) in
     let there = subst (λ (ads : IndexedStore). IsClaimAnswer (stock_of ads.store) s c.in_ok-named.named t c.claim-answer.result) (sym c.claim-answer.ensures.ads) fits in
-    let given = c.in_ok-names.ensures ∙ ap (λ (n : List ℕ). names_given n s.jobs) (c.bytes.ensures ∙ sym c.in_ok-named.ensures) in
-    ap (λ (n : List ℕ). claim s n) (sym c.in_ok-named.ensures) ∙ is s t there given)
+    let given = c.in_ok-names.ensures ∙ ap (λ (n : List ℕ). names_given n s.jobs) (c.bytes.ensures ∙ sym c.in_ok-named.ensures.text) in
+    ap (λ (n : List ℕ). claim s n) (sym c.in_ok-named.ensures.text) ∙ is s t there given)
     c.claim_reply.ensures.step
 
 pub returns-clause-cost : goal.returns-clause-cost

@@ -17,7 +17,7 @@ returns-in-Ok-clause-step c = λ moment priorities.
     let s : State = state_with moment priorities c.args.books.now in
     let t : State = state_with moment priorities c.release.new.self in
     ap (λ (n : List ℕ). release s n) (sym c.bytes.ensures) ∙ c.in-Ok.ensures.release moment priorities
-    ∙ ap (λ (n : List ℕ). let p : State × Reply = (t, reply.Released n) in p) (c.bytes.ensures ∙ sym c.in_ok-named.ensures)
+    ∙ ap (λ (n : List ℕ). let p : State × Reply = (t, reply.Released n) in p) (c.bytes.ensures ∙ sym c.in_ok-named.ensures.text)
 
 pub returns-in-Err-NoJob-clause-step : goal.returns-in-Err-NoJob-clause-step
 returns-in-Err-NoJob-clause-step c = λ moment priorities.

@@ -10,7 +10,7 @@ use Rattle.pool_state.proofs.jobs.set_priority.Goals as goal
 pub returns-in-Ok-clause-step : goal.returns-in-Ok-clause-step
 returns-in-Ok-clause-step c = λ moment books.
     let settings = settings_of c.args.priorities.now in
-    priority-set (state_with moment settings books) c.args.user.now c.bytes.result.now c.in_ok-named.named c.args.n (settings_of c.set.new.self) c.bytes.ensures c.in_ok-named.ensures c.in-Ok.ensures.room c.in-Ok.ensures.ok
+    priority-set (state_with moment settings books) c.args.user.now c.bytes.result.now c.in_ok-named.named c.args.n (settings_of c.set.new.self) c.bytes.ensures c.in_ok-named.ensures.text c.in-Ok.ensures.room c.in-Ok.ensures.ok
 
 pub returns-in-Err-Full-clause-step : goal.returns-in-Err-Full-clause-step
 returns-in-Err-Full-clause-step c = λ moment books.

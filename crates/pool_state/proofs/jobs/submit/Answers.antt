@@ -59,4 +59,4 @@ returns-clause-step c = λ moment priorities.
     let room = ap (λ (name : List ℕ). job_refusal name (length block) (queue_of c.args.books.now)) (c.bytes-2.ensures ∙ sym c.bytes.ensures) ∙ sym c.in_default.ensures.reason in
     let good = sym c.in_ok-request.ensures.good ∙ ap is_none c.in-Some-2.is in
     let request = subst (λ (r : Option Request). HasRequest (ad_frames c.in-Ok.ad) r) c.in-Some-2.is c.in_ok-request.ensures.own in
-    submit-taken s c.args.job.now c.args.user.now c.bytes-2.result.now c.bytes-3.result.now (length block) (ad_outcome block) c.in-Ok.ad (c.in-Ok.ensures.outcome (ad_outcome block) (ad_outcome-has block)) c.bytes-2.ensures c.bytes-3.ensures c.in_ok-copy.field-0 (ad_frames c.in-Some-2.request.ad) (ads_of c.submit.new.self.ads) (queue_of c.submit.new.self) c.in_ok-copy.ensures room good request.0 (ap ads_of c.submit.ensures.ads) c.in_ok-submit.ensures.jobs
+    submit-taken s c.args.job.now c.args.user.now c.bytes-2.result.now c.bytes-3.result.now (length block) (ad_outcome block) c.in-Ok.ad (c.in-Ok.ensures.outcome (ad_outcome block) (ad_outcome-has block)) c.bytes-2.ensures c.bytes-3.ensures c.in_ok-copy.field-0 (ad_frames c.in-Some-2.request.ad) (ads_of c.submit.new.self.ads) (queue_of c.submit.new.self) c.in_ok-copy.ensures.text room good request.0 (ap ads_of c.submit.ensures.ads) c.in_ok-submit.ensures.jobs

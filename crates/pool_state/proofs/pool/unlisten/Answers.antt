@@ -6,7 +6,7 @@ use Rattle.pool_state.proofs.pool.unlisten.Goals as goal
 pub returns-then-close-clause-step : goal.returns-then-close-clause-step
 returns-then-close-clause-step g c = (λ pool.
     let old = g.D.Notices.shows c.args.desk.now in
-    unlisten-known pool c.args.name.now c.in_ok-named.named old (g.D.Notices.shows c.close.new.self) c.in_ok-named.ensures
+    unlisten-known pool c.args.name.now c.in_ok-named.named old (g.D.Notices.shows c.close.new.self) c.in_ok-named.ensures.text
     (subst (λ (n : List ℕ). is_some (failures_under n old) ≡ true) c.bytes.ensures (c.if-close.ensures.known.0 refl))
     (c.if-close.ensures.rows ∙ ap (λ (n : List ℕ). without n old) c.bytes.ensures))
 

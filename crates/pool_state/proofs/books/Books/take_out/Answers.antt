@@ -14,7 +14,7 @@ returns-clause-live g c =
     let old = stock_of c.args.self.now.ads.store in
     let beside = slot_beside-found (λ a. not (is_live c.args.now a)) old.ads old.slots c.args.slot c.requires.first in
     let used = c.bytes.result.now in
-    let name = own_name old.ads beside.place beside.advert c.name.result.now beside.at (c.name.ensures beside.place beside.slot_at) ∙ sym c.in_ok-name.ensures ∙ sym c.bytes.ensures in
+    let name = own_name old.ads beside.place beside.advert c.name.result.now beside.at (c.name.ensures beside.place beside.slot_at) ∙ sym c.in_ok-name.ensures.text ∙ sym c.bytes.ensures in
     ap (λ (ads : List Advert). live_ads c.args.now ads) c.in_ok-withdraw.ensures.ads ∙ live-without c.args.now used old.ads beside.place beside.advert c.names_are_apart.ensures beside.at name (not_live (is_live c.args.now beside.advert) beside.passes)
 
 pub returns-clause-jobs : goal.returns-clause-jobs
@@ -24,7 +24,7 @@ returns-clause-jobs g c =
     let queue = queue_of c.args.self.now in
     let beside = slot_beside-found (λ a. not (is_live now a)) old.ads old.slots c.args.slot c.requires.first in
     let used = c.bytes.result.now in
-    let name = own_name old.ads beside.place beside.advert c.name.result.now beside.at (c.name.ensures beside.place beside.slot_at) ∙ sym c.in_ok-name.ensures ∙ sym c.bytes.ensures in
+    let name = own_name old.ads beside.place beside.advert c.name.result.now beside.at (c.name.ensures beside.place beside.slot_at) ∙ sym c.in_ok-name.ensures.text ∙ sym c.bytes.ensures in
     let held = c.in_ok-withdraw.ensures.held ∙ has_at used old.ads beside.place beside.advert beside.at name in
     (λ i. without_resources (has_expired now (c.in_ok-withdraw.ensures.ads i)) (c.in_ok-withdraw.ensures.jobs held i))
     ∙ left-twice (has_expired now (without used old.ads)) (bytes_eq used) queue
@@ -36,6 +36,6 @@ returns-clause-fewer g c =
     let old = stock_of c.args.self.now.ads.store in
     let beside = slot_beside-found (λ a. not (is_live c.args.now a)) old.ads old.slots c.args.slot c.requires.first in
     let used = c.bytes.result.now in
-    let name = own_name old.ads beside.place beside.advert c.name.result.now beside.at (c.name.ensures beside.place beside.slot_at) ∙ sym c.in_ok-name.ensures ∙ sym c.bytes.ensures in
+    let name = own_name old.ads beside.place beside.advert c.name.result.now beside.at (c.name.ensures beside.place beside.slot_at) ∙ sym c.in_ok-name.ensures.text ∙ sym c.bytes.ensures in
     let held = has_at used old.ads beside.place beside.advert beside.at name in
     shorter (ads_of c.withdraw.new.self.ads) old.ads used c.in_ok-withdraw.ensures.ads held

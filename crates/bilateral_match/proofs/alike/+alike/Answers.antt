@@ -1,4 +1,5 @@
-use Rattle.std.proofs.Common.{ap, arith, refl, ◌∙◌}
+use Rattle.std.proofs.Common.{ap, arith, refl, sym, ◌∙◌}
+use Rattle.std.specs.Cmp.Lexicographic.{same_text}
 use Rattle.ad_tree.specs.Tree.{all, any, binary, call, choice, frame, list, literal, name, node, none, one, pack, select, subscript, three, tree, trees, two, unary}
 use Rattle.ad_tree.proofs.TreeLemmas.{size-at, tree-And, tree-Binary, tree-Call, tree-Cond, tree-Frame, tree-List, tree-Literal, tree-Name, tree-Or, tree-Select, tree-Subscript, tree-Unary}
 use Rattle.bilateral_match.proofs.DifferLemmas.{differ}
@@ -24,14 +25,14 @@ same_expr-returns-in-Or-Or t c =
     let both = c.in-Or-Or in
     rw (both.is-0, both.is-1, tree-Or both.x, tree-Or both.y) (same-nodes any (trees both.x) (trees both.y) c.same_all-in-Or-Or.result c.same_all-in-Or-Or.ensures)
 
-pub same_expr-returns-then-same_text-2 : goal.same_expr-returns-then-same_text-2
-same_expr-returns-then-same_text-2 t c =
+pub same_expr-returns-then-eq-2 : goal.same_expr-returns-then-eq-2
+same_expr-returns-then-eq-2 t c =
     let both = c.in-Call-Call in
-    let called = c.same_text-in-Call-Call.ensures.0 c.if-same_text-2.true in
-    let here = c.deref-then-same_text-2-2 in
-    let there = c.deref-then-same_text-2-3 in
+    let called = same_text both.x both.y (sym c.if-eq-2.true ∙ c.eq-in-Call-Call.ensures) in
+    let here = c.deref-then-eq-2-2 in
+    let there = c.deref-then-eq-2-3 in
     rw (both.is-0, both.is-1, tree-Call both.x both.v, tree-Call both.y both.w, called, ← here.ensures, ← there.ensures)
-    (same-nodes (call both.y) (trees here.result.now) (trees there.result.now) c.same_all-then-same_text-2.result c.same_all-then-same_text-2.ensures)
+    (same-nodes (call both.y) (trees here.result.now) (trees there.result.now) c.same_all-then-eq-2.result c.same_all-then-eq-2.ensures)
 
 pub same_expr-returns-in-List-List : goal.same_expr-returns-in-List-List
 same_expr-returns-in-List-List t c =

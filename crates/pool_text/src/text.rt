@@ -1,5 +1,5 @@
 // A text is a list of bytes, of any encoding.
-ghost use Rattle.std.specs.Prelude.{◌≡◌, ◌+◌, ◌<◌, ◌≤◌, ◌++◌, [], IfOk, IsOk, OnOk, OnErr, length, nat_eq};
+ghost use Rattle.std.specs.Prelude.{◌≡◌, ◌+◌, ◌≤◌, ◌++◌, [], IfOk, IsOk, OnOk, OnErr, length, nat_eq};
 ghost use Rattle.std.specs.Cmp.{partial_equiv_from_equiv};
 ghost use Rattle.std.specs.Cmp.Lexicographic.{nat_list_eq_equiv, pointwise};
 
@@ -129,8 +129,8 @@ impl Text {
     }
 }
 
-// Whether the bytes are equal. Names are short and differ in their lengths or first letters, so that this costs less than the
-// words at a time by which lists are compared.
+// Whether the bytes are the same. Names are short, and most that differ do in their lengths or first letters, so that one byte
+// at a time takes fewer instructions than std's many.
 #[inline(always)]
 fn are_same(a: &[u8], b: &[u8]) -> bool
     ensures { result ≡ pointwise nat_eq a.now b.now }

@@ -5,8 +5,8 @@ use Rattle.ad_tree.specs.declared.tree.Scope.TheVariants.{Bare}
 use Rattle.ad_tree.specs.Inline.{Inline, Inlines, Defs, def}
 use Rattle.ad_tree.specs.Tree.{name}
 use Rattle.pool_text.specs.declared.language.UnOp.{UnOp}
-use Rattle.ad_grammar.specs.declared.mark.Mark.{Mark}
-use Rattle.ad_grammar.specs.declared.mark.Mark.TheVariants.{OpenParen, CloseParen, OpenBracket, CloseBracket, OpenBrace, CloseBrace, Comma, Semicolon, Dot, Assign, Question, Colon}
+use Rattle.ad_lexer.specs.declared.mark.Mark.{Mark}
+use Rattle.ad_lexer.specs.declared.mark.Mark.TheVariants.{OpenParen, CloseParen, OpenBracket, CloseBracket, OpenBrace, CloseBrace, Comma, Semicolon, Dot, Assign, Question, Colon}
 use Rattle.ad_builder.specs.Shapes.{leaf}
 use Rattle.ad_grammar.specs.Words.{Word, plain, mark}
 use Rattle.ad_grammar.specs.Grammar.{IsName, plain_name, quoted_name, IsExpr, conditional, level, IsLevel, operation, tighter, single, IsUnary, prefixed, bare, IsPostfix, selection, subscripted, operand, IsPrimary, constant_operand, scoped, own, called, named, listed, ad_literal, grouped, IsList, nothing, something, IsSeveral, last_one, one_more, IsAd, empty_ad, full_ad, IsDefs, last_def, closed_def, more_defs}

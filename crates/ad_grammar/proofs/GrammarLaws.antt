@@ -2,7 +2,7 @@
 use Rattle.std.proofs.Common.{◌≡◌, ℕ, suc, List, [], ◌∷◌, length, None, Some, refl, sym, ap, ◌∙◌, arith}
 use Rattle.std.proofs.lemmas.List.{append-nil}
 use Rattle.ad_tree.specs.Inline.{Inline, Defs, inner}
-use Rattle.ad_grammar.specs.declared.mark.Mark.TheVariants.{OpenBracket}
+use Rattle.ad_lexer.specs.declared.mark.Mark.TheVariants.{OpenBracket}
 use Rattle.ad_grammar.specs.Words.{Word, mark}
 use Rattle.ad_grammar.specs.Grammar.{IsExpr, IsAd, IsRoot}
 use Rattle.ad_grammar.specs.Rules.{ad_behind, expression, whole, parsed_expr, parsed_ad}

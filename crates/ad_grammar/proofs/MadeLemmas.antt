@@ -12,8 +12,8 @@ use Rattle.ad_lexer.proofs.Runs.{all_weaker}
 use Rattle.ad_lexer.proofs.WordLemmas.{word_bytes, word_nonempty}
 use Rattle.ad_tree.specs.Inline.{Inline, shape, Inlines, end, next, Defs}
 use Rattle.ad_tree.specs.Tree.{all, any}
-use Rattle.ad_grammar.specs.declared.mark.Mark.{Mark}
-use Rattle.ad_grammar.specs.declared.mark.Mark.TheVariants.{OpenParen, CloseParen, OpenBracket, CloseBracket, OpenBrace, CloseBrace, Comma, Semicolon, Dot, Assign, Question, Colon}
+use Rattle.ad_lexer.specs.declared.mark.Mark.{Mark}
+use Rattle.ad_lexer.specs.declared.mark.Mark.TheVariants.{OpenParen, CloseParen, OpenBracket, CloseBracket, OpenBrace, CloseBrace, Comma, Semicolon, Dot, Assign, Question, Colon}
 use Rattle.ad_builder.specs.declared.instruction.Infix.{Infix}
 use Rattle.ad_builder.specs.declared.instruction.Infix.TheVariants as infixes
 use Rattle.ad_builder.specs.Shapes.{followed_by, joined}

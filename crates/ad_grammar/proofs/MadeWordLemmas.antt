@@ -4,6 +4,7 @@ use Rattle.std.proofs.lemmas.Bool.{and_parts, ltb-true}
 use Rattle.std.specs.Str.{bytes_eq}
 use Rattle.pool_text.specs.Folding.{folded}
 use Rattle.ad_lexer.specs.Lexeme.{Lexeme}
+use Rattle.ad_lexer.specs.Marks.{marks, meaning_of}
 use Rattle.ad_lexer.specs.Numbers.{value}
 use Rattle.ad_lexer.specs.Spelling.{Spells}
 use Rattle.ad_lexer.specs.Texts.{MeansText, MeanTexts}
@@ -11,9 +12,9 @@ use Rattle.ad_lexer.specs.Tokens.{Item, blank, token, Divides, lexemes, Tokens}
 use Rattle.ad_lexer.specs.declared.token.TokenKind.{TokenKind}
 use Rattle.ad_lexer.specs.declared.token.TokenKind.TheVariants as kinds
 use Rattle.ad_lexer.proofs.TextLemmas.{tokens_mean}
-use Rattle.ad_grammar.specs.declared.mark.Mark.{Mark}
+use Rattle.ad_lexer.specs.declared.mark.Mark.{Mark}
 use Rattle.ad_grammar.specs.Made.{IsMadeWord, AreMade}
-use Rattle.ad_grammar.specs.Words.{Word, meaning_of, marks, reserved_words, or_undefined, mark_word, word_of_kind, words}
+use Rattle.ad_grammar.specs.Words.{Word, reserved_words, or_undefined, mark_word, word_of_kind, words}
 
 -- reserved words and symbols
 abbrev RowsMade : List (List ℕ × Word) → Type 0

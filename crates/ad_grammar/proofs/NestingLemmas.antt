@@ -1,9 +1,7 @@
 -- Steps of the loop that counts open constructs.
-use Rattle.std.proofs.Common.{refl, arith, ◌≡◌, ℕ, zero, suc, ◌+◌, ◌<◌, ◌≤◌, ◌||◌, true, false, nat_lt, List, [], ◌∷◌, map, drop, length, get_or, Option, None, ap, sym, ◌∙◌, add-one}
+use Rattle.std.proofs.Common.{refl, arith, ◌≡◌, ℕ, zero, suc, ◌+◌, ◌<◌, ◌≤◌, ◌||◌, true, false, nat_lt, List, [], ◌∷◌, ap, ◌∙◌}
 use Rattle.std.proofs.lemmas.Bool.Decides.{nat_tests}
-use Rattle.ad_grammar.specs.declared.mark.Mark.{Mark}
 use Rattle.ad_grammar.specs.Nesting.{nests_deeper, opening, closing}
-use Rattle.ad_grammar.specs.HeldMarks.{mark_in}
 use Rattle.ad_grammar.specs.Words.{Word}
 
 -- what is open is all that counts
@@ -22,45 +20,34 @@ pub level : (n : ℕ) (ws : List Word) → nests_deeper n n ws ≡ nests_deeper 
 level zero ws = refl
 level (suc n) ws = lower n n ws ∙ level n ws
 
-module _ (opened closed : ℕ) where
-  next-by : (i : ℕ) (ws : List Word) (ms : List (Option Mark)) (opens closes : ℕ) → map mark_in ws ≡ ms → i < length ms
-      → ((w : Word) → mark_in w ≡ get_or ms i None → opens ≡ opening w) → ((w : Word) → mark_in w ≡ get_or ms i None → closes ≡ closing w)
-      → nests_deeper opened closed (drop i ws) ≡ (nat_lt (closed + closes + 130) (opened + opens) || nests_deeper (opened + opens) (closed + closes) (drop (suc i) ws))
-  next-by i [] ms opens closes is l o c = absurd (omega (arith, ap length is))
-  next-by i (w ∷ ws) [] opens closes is l o c = absurd (omega (arith, ap length is))
-  next-by zero (w ∷ ws) (m ∷ ms) opens closes is l o c =
-      let same : mark_in w ≡ m = cc in
-      ap (λ n. nat_lt (closed + closing w + 130) (opened + n) || nests_deeper (opened + n) (closed + closing w) ws) (sym (o w same))
-      ∙ ap (λ n. nat_lt (closed + n + 130) (opened + opens) || nests_deeper (opened + opens) (closed + n) ws) (sym (c w same))
-  next-by (suc i) (w ∷ ws) (m ∷ ms) opens closes is l o c = let rest : map mark_in ws ≡ ms = cc in next-by i ws ms opens closes rest (omega arith) o c
+module _ (opened closed : ℕ) (w : Word) (ws : List Word) (opens closes : ℕ) (o : opening w ≡ opens) (c : closing w ≡ closes) where
+  next : nests_deeper opened closed (w ∷ ws) ≡ (nat_lt (closed + closes + 130) (opened + opens) || nests_deeper (opened + opens) (closed + closes) ws)
+  next =
+      ap (λ n. nat_lt (closed + closing w + 130) (opened + n) || nests_deeper (opened + n) (closed + closing w) ws) o
+      ∙ ap (λ n. nat_lt (closed + n + 130) (opened + opens) || nests_deeper (opened + opens) (closed + n) ws) c
 
-  module _ (i : ℕ) (ws : List Word) (ms : List (Option Mark)) (opens closes : ℕ) (is : map mark_in ws ≡ ms) (l : i < length ms)
-      (o : (w : Word) → mark_in w ≡ get_or ms i None → opens ≡ opening w) (c : (w : Word) → mark_in w ≡ get_or ms i None → closes ≡ closing w) where
-    next : nests_deeper opened closed (drop i ws) ≡ (nat_lt (closed + closes + 130) (opened + opens) || nests_deeper (opened + opens) (closed + closes) (drop (i + 1) ws))
-    next = next-by i ws ms opens closes is l o c ∙ ap (λ n. nat_lt (closed + closes + 130) (opened + opens) || nests_deeper (opened + opens) (closed + closes) (drop n ws)) (sym (add-one i))
+  -- a mark that doesn't bring too many open
+  shallow-next : opened + opens ≤ closed + closes + 130 → nests_deeper opened closed (w ∷ ws) ≡ nests_deeper (opened + opens) (closed + closes) ws
+  shallow-next few =
+      let fits : nat_lt (closed + closes + 130) (opened + opens) ≡ false = grind (arith, nat_tests) in
+      next ∙ ap (λ b. b || nests_deeper (opened + opens) (closed + closes) ws) fits
 
-    -- a mark that doesn't bring too many open
-    pub shallow-next : opened + opens ≤ closed + closes + 130 → nests_deeper opened closed (drop i ws) ≡ nests_deeper (opened + opens) (closed + closes) (drop (i + 1) ws)
-    shallow-next few =
-        let fits : nat_lt (closed + closes + 130) (opened + opens) ≡ false = grind (arith, nat_tests) in
-        next ∙ ap (λ b. b || nests_deeper (opened + opens) (closed + closes) (drop (i + 1) ws)) fits
+  -- the same with one construct more, and with as many as before
+  pub opened-next : (room : ℕ) → opened ≡ 130 → opened + opens ≡ suc opened → closed + closes ≡ suc room → nests_deeper opened closed (w ∷ ws) ≡ nests_deeper opened room ws
+  opened-next room at one enough =
+      shallow-next (omega (arith, at, one, enough))
+      ∙ ap (λ n. nests_deeper n (closed + closes) ws) one
+      ∙ ap (λ n. nests_deeper (suc opened) n ws) enough
+      ∙ lower opened room ws
 
-    -- the same with one construct more, and with as many as before
-    pub opened-next : (room : ℕ) → opened ≡ 130 → opened + opens ≡ suc opened → closed + closes ≡ suc room → nests_deeper opened closed (drop i ws) ≡ nests_deeper opened room (drop (i + 1) ws)
-    opened-next room at one enough =
-        shallow-next (omega (arith, at, one, enough))
-        ∙ ap (λ n. nests_deeper n (closed + closes) (drop (i + 1) ws)) one
-        ∙ ap (λ n. nests_deeper (suc opened) n (drop (i + 1) ws)) enough
-        ∙ lower opened room (drop (i + 1) ws)
+  pub passed-next : (room : ℕ) → opened ≡ 130 → opened + opens ≡ opened → closed + closes ≡ room → nests_deeper opened closed (w ∷ ws) ≡ nests_deeper opened room ws
+  passed-next room at none same =
+      shallow-next (omega (arith, at, none))
+      ∙ ap (λ n. nests_deeper n (closed + closes) ws) none
+      ∙ ap (λ n. nests_deeper opened n ws) same
 
-    pub passed-next : (room : ℕ) → opened ≡ 130 → opened + opens ≡ opened → closed + closes ≡ room → nests_deeper opened closed (drop i ws) ≡ nests_deeper opened room (drop (i + 1) ws)
-    passed-next room at none same =
-        shallow-next (omega (arith, at, none))
-        ∙ ap (λ n. nests_deeper n (closed + closes) (drop (i + 1) ws)) none
-        ∙ ap (λ n. nests_deeper opened n (drop (i + 1) ws)) same
-
-    -- and one that does
-    pub deep-next : closed + closes + 130 < opened + opens → nests_deeper opened closed (drop i ws) ≡ true
-    deep-next many =
-        let exceeds : nat_lt (closed + closes + 130) (opened + opens) ≡ true = grind (arith, nat_tests) in
-        next ∙ ap (λ b. b || nests_deeper (opened + opens) (closed + closes) (drop (i + 1) ws)) exceeds
+  -- and one that does
+  pub deep-next : closed + closes + 130 < opened + opens → nests_deeper opened closed (w ∷ ws) ≡ true
+  deep-next many =
+      let exceeds : nat_lt (closed + closes + 130) (opened + opens) ≡ true = grind (arith, nat_tests) in
+      next ∙ ap (λ b. b || nests_deeper (opened + opens) (closed + closes) ws) exceeds

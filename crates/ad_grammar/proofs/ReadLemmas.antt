@@ -1,7 +1,7 @@
 -- Reading all words of a text.
 use Rattle.std.proofs.Common.{◌≡◌, ℕ, suc, ◌+◌, ◌<◌, List, [], ◌∷◌, length, Option, None, Some, Result, Ok, Err, IsErr, IsErrAnd, refl, sym, ap, ◌∙◌, arith}
 use Rattle.ad_tree.specs.Inline.{Inline, inner, no_defs}
-use Rattle.ad_grammar.specs.declared.mark.Mark.TheVariants.{OpenBracket}
+use Rattle.ad_lexer.specs.declared.mark.Mark.TheVariants.{OpenBracket}
 use Rattle.ad_builder.specs.declared.instruction.Instruction.{Instruction}
 use Rattle.ad_grammar.specs.declared.stop.Stop.{Stop}
 use Rattle.ad_grammar.specs.declared.stop.Stop.TheVariants as stops

@@ -1,8 +1,8 @@
 -- Readings: what holds of all that a reading gives, and a reading that is known.
 use Rattle.std.proofs.Common.{◌≡◌, ℕ, List, ◌∷◌, None, Some, refl, ap}
 use Rattle.pool_text.specs.declared.language.UnOp.{UnOp}
-use Rattle.ad_grammar.specs.declared.mark.Mark.{Mark}
-use Rattle.ad_grammar.specs.declared.mark.Mark.TheVariants.{CloseParen, CloseBracket, CloseBrace, Assign, Colon}
+use Rattle.ad_lexer.specs.declared.mark.Mark.{Mark}
+use Rattle.ad_lexer.specs.declared.mark.Mark.TheVariants.{CloseParen, CloseBracket, CloseBrace, Assign, Colon}
 use Rattle.ad_grammar.specs.Grammar.{IsName, plain_name, quoted_name}
 use Rattle.ad_grammar.specs.Operators.{prefix_of}
 use Rattle.ad_grammar.specs.Words.{Word, plain, quoted, mark}

@@ -4,11 +4,12 @@ use Rattle.std.proofs.lemmas.Slice.Eq.{bytes_eq-Decides}
 use Rattle.std.specs.Prelude.{is_some}
 use Rattle.std.specs.Str.{bytes_eq}
 use Rattle.pool_text.specs.Folding.{folded}
+use Rattle.ad_lexer.specs.Marks.{marks, meaning_of}
 use Rattle.ad_lexer.specs.Symbols.{is_symbol}
 use Rattle.ad_lexer.specs.Words.{is_reserved, reserved}
 use Rattle.ad_lexer.proofs.Runs.{any_all}
 use Rattle.ad_lexer.proofs.SymbolLemmas.{symbol_passes}
-use Rattle.ad_grammar.specs.Words.{marks, meaning_of, reserved_words}
+use Rattle.ad_grammar.specs.Words.{reserved_words}
 
 pub symbol-mark : (bytes : List ℕ) → is_symbol bytes ≡ true → IsSome (meaning_of marks bytes)
 symbol-mark bytes is = symbol_passes (λ b. is_some (meaning_of marks b)) bytes refl is

@@ -1,104 +1,105 @@
--- Steps of the loops that read words, and the words at a place.
-use Rattle.std.proofs.Common.{refl, arith, ◌≡◌, inl, inr, ℕ, zero, suc, ◌+◌, ◌^◌, ◌<◌, ◌≤◌, List, [], ◌∷◌, ◌++◌, map, take, drop, length, get_or, ap, subst, sym, ◌∙◌, Option, None, Some, slice_get, add-one}
-use Rattle.std.proofs.lemmas.Bool.{and_parts, ltb-true}
+-- The words of tokens, and the word and the mark at a place.
+use Rattle.std.proofs.Common.{refl, arith, ◌≡◌, inl, inr, ℕ, zero, suc, ◌+◌, ◌^◌, ◌<◌, ◌≤◌, Bool, true, false, if◌then◌else◌, List, [], ◌∷◌, codes, drop, length, ap, subst, sym, ◌∙◌, Option, None, Some, slice_get, add-one}
+use Rattle.std.proofs.lemmas.Bool.{and_parts, cases_Bool, ltb-true}
+use Rattle.std.proofs.lemmas.List.{drop_all}
+use Rattle.std.proofs.lemmas.Slice.Eq.{bytes_eq-Decides}
+use Rattle.std.specs.Str.{bytes_eq}
+use Rattle.pool_text.specs.Folding.{folded}
+use Rattle.pool_text.specs.declared.language.Lit.TheVariants.{Undefined, Error, Boolean}
 use Rattle.ad_lexer.specs.Lexeme.{Lexeme}
+use Rattle.ad_lexer.specs.Marks.{meaning_of, marks, mark_words, mark_of_kind, mark_of_lexeme, marks_of}
 use Rattle.ad_lexer.specs.Numbers.{value}
 use Rattle.ad_lexer.specs.Spelling.{Spells}
+use Rattle.ad_lexer.specs.declared.mark.Mark.{Mark}
 use Rattle.ad_lexer.specs.declared.token.TokenKind.{TokenKind}
 use Rattle.ad_lexer.specs.declared.token.TokenKind.TheVariants as kinds
-use Rattle.ad_grammar.specs.declared.mark.Mark.{Mark}
 use Rattle.ad_grammar.specs.Meaning.{AreSpelled}
 use Rattle.ad_lexer.specs.Quoted.{IsQuotation}
-use Rattle.ad_grammar.specs.HeldMarks.{front, front_mark, mark_in, unmarked, known_words}
-use Rattle.ad_grammar.specs.Words.{Word, plain, quoted, constant, mark, word, words}
-
--- the marks of one token more from the front
-pub marks-next : (ts : List Lexeme) (i : ℕ) (t : Lexeme) → slice_get ts i ≡ Some t → map mark_in (words (take (i + 1) ts)) ≡ map mark_in (words (take i ts)) ++ mark_in (word t) ∷ []
-marks-next ts i t h = ap (λ n. map mark_in (words (take n ts))) (add-one i) ∙ by ts i h
-  where
-    by : (us : List Lexeme) (k : ℕ) → slice_get us k ≡ Some t → map mark_in (words (take (suc k) us)) ≡ map mark_in (words (take k us)) ++ mark_in (word t) ∷ []
-    by [] k e = absurd (cc)
-    by (u ∷ us) zero e = let same : u ≡ t = cc in ap (λ x. mark_in (word x) ∷ []) same
-    by (u ∷ us) (suc k) e = ap (λ ms. mark_in (word u) ∷ ms) (by us k e)
+use Rattle.ad_grammar.specs.HeldMarks.{front, front_mark, mark_in, unmarked}
+use Rattle.ad_grammar.specs.Words.{Word, plain, quoted, constant, mark, or_undefined, mark_word, reserved_words, word, word_of_kind, words}
 
 pub spelled-at : (ts : List Lexeme) (i : ℕ) (t : Lexeme) → slice_get ts i ≡ Some t → AreSpelled ts → Spells t.kind t.text
 spelled-at [] i t e are = absurd (cc)
 spelled-at (u ∷ us) zero t e are = let same : u ≡ t = cc in subst (λ x. Spells x.kind x.text) same are.0
 spelled-at (u ∷ us) (suc i) t e are = spelled-at us i t e are.1
 
--- the words are those of the tokens, where the marks are theirs
-known-next : (w : Word) (t : Lexeme) (ts : List Lexeme) (ms : List (Option Mark)) → word t ≡ w → known_words ms ts ≡ words ts → known_words (mark_in w ∷ ms) (t ∷ ts) ≡ w ∷ words ts
-known-next (plain text) t ts ms is h = ap (λ x. unmarked x ∷ known_words ms ts) is ∙ ap (λ ws. plain text ∷ ws) h
-known-next (quoted text) t ts ms is h = ap (λ x. unmarked x ∷ known_words ms ts) is ∙ ap (λ ws. quoted text ∷ ws) h
-known-next (constant lit) t ts ms is h = ap (λ x. unmarked x ∷ known_words ms ts) is ∙ ap (λ ws. constant lit ∷ ws) h
-known-next (mark m) t ts ms is h = ap (λ ws. mark m ∷ ws) h
+-- the mark that a word is, is the mark of its token
+no-operator : (p q r s : Bool) → mark_in (or_undefined (if p then Some (constant (Boolean true)) else (if q then Some (constant (Boolean false)) else (if r then Some (constant Undefined) else (if s then Some (constant Error) else None))))) ≡ None
+no-operator true q r s = refl
+no-operator false true r s = refl
+no-operator false false true s = refl
+no-operator false false false true = refl
+no-operator false false false false = refl
 
-pub known-all : (ts : List Lexeme) → known_words (map mark_in (words ts)) ts ≡ words ts
-known-all [] = refl
-known-all (t ∷ ts) = known-next (word t) t ts (map mark_in (words ts)) refl (known-all ts)
+reserved-mark : (b : List ℕ) → mark_in (or_undefined (meaning_of reserved_words b)) ≡ meaning_of mark_words b
+reserved-mark b =
+    elim (cases_Bool (bytes_eq b (codes "is"))) [
+      | inl is ↦ subst (λ (c : List ℕ). mark_in (or_undefined (meaning_of reserved_words c)) ≡ meaning_of mark_words c) (sym ((bytes_eq-Decides b (codes "is")).0 is)) refl
+      | inr isnt ↦ elim (cases_Bool (bytes_eq b (codes "isnt"))) [
+        | inl is ↦ subst (λ (c : List ℕ). mark_in (or_undefined (meaning_of reserved_words c)) ≡ meaning_of mark_words c) (sym ((bytes_eq-Decides b (codes "isnt")).0 is)) refl
+        | inr neither ↦ rw (isnt, neither) (no-operator (bytes_eq b (codes "true")) (bytes_eq b (codes "false")) (bytes_eq b (codes "undefined")) (bytes_eq b (codes "error")))
+      ]
+    ]
 
-pub known-many : (ms : List (Option Mark)) (ts : List Lexeme) → length ms ≡ length ts → length (known_words ms ts) ≡ length ts
-known-many [] [] h = refl
-known-many [] (t ∷ ts) h = absurd (omega arith)
-known-many (m ∷ ms) [] h = absurd (omega arith)
-known-many (Some m ∷ ms) (t ∷ ts) h = ap suc (known-many ms ts (omega arith))
-known-many (None ∷ ms) (t ∷ ts) h = ap suc (known-many ms ts (omega arith))
+symbol-mark : (found : Option Mark) → mark_in (mark_word found) ≡ found
+symbol-mark None = refl
+symbol-mark (Some m) = refl
+
+kind-mark : (kind : TokenKind) (bytes : List ℕ) → mark_in (word_of_kind kind bytes) ≡ mark_of_kind kind bytes
+kind-mark kinds.Plain bytes = refl
+kind-mark kinds.Reserved bytes = reserved-mark (folded bytes)
+kind-mark kinds.Quoted bytes = refl
+kind-mark kinds.Str bytes = refl
+kind-mark kinds.Int bytes = refl
+kind-mark kinds.Symbol bytes = symbol-mark (meaning_of marks bytes)
+
+-- the word at a place, with what stands behind it, and the mark that it is
+pub record Stands (ts : List Lexeme) (i : ℕ) (m : Option Mark) : Type 0 where
+  pub here : Word
+  pub behind : drop i (words ts) ≡ here ∷ drop (i + 1) (words ts)
+  pub marked : mark_in here ≡ m
+
+pub stands : (ts : List Lexeme) (i : ℕ) (m : Option Mark) → slice_get (marks_of ts) i ≡ Some m → Stands ts i m
+stands [] i m e = absurd (cc)
+stands (t ∷ ts) zero m e = let same : mark_of_lexeme t ≡ m = cc in record { here = word t; behind = refl; marked = kind-mark t.kind t.text ∙ same }
+stands (t ∷ ts) (suc i) m e =
+    let rest = stands ts i m e in
+    let next : suc (i + 1) ≡ suc i + 1 = omega arith in
+    record { here = rest.here; behind = rest.behind ∙ ap (λ (n : ℕ). rest.here ∷ drop n (words (t ∷ ts))) next; marked = rest.marked }
+
+pub mark-at : (ts : List Lexeme) (i : ℕ) (m : Option Mark) → slice_get (marks_of ts) i ≡ Some m → m ≡ front_mark (drop i (words ts))
+mark-at ts i m e = let s = stands ts i m e in sym (ap front_mark s.behind ∙ s.marked)
 
 -- the first word behind a place, where a mark is known and where none is
-pub marked-front : (ms : List (Option Mark)) (ts : List Lexeme) (i : ℕ) (d : Option Mark) (m : Mark) → length ms ≡ length ts → i < length ms → get_or ms i d ≡ Some m → front (drop i (known_words ms ts)) ≡ Some (mark m)
-marked-front [] ts i d m h l e = absurd (omega arith)
-marked-front (n ∷ ms) [] i d m h l e = absurd (omega arith)
-marked-front (Some n ∷ ms) (t ∷ ts) zero d m h l e = let same : n ≡ m = cc in ap (λ x. Some (mark x)) same
-marked-front (None ∷ ms) (t ∷ ts) zero d m h l e = absurd (cc)
-marked-front (Some n ∷ ms) (t ∷ ts) (suc i) d m h l e = marked-front ms ts i d m (omega arith) (omega arith) e
-marked-front (None ∷ ms) (t ∷ ts) (suc i) d m h l e = marked-front ms ts i d m (omega arith) (omega arith) e
+is-mark : (w : Word) (m : Mark) → mark_in w ≡ Some m → w ≡ mark m
+is-mark (plain text) m e = absurd (cc)
+is-mark (quoted text) m e = absurd (cc)
+is-mark (constant lit) m e = absurd (cc)
+is-mark (mark n) m e = let same : n ≡ m = cc in ap mark same
 
-pub unmarked-front : (ms : List (Option Mark)) (ts : List Lexeme) (i : ℕ) (d : Option Mark) (t : Lexeme) → i < length ms → get_or ms i d ≡ None → slice_get ts i ≡ Some t → front (drop i (known_words ms ts)) ≡ Some (unmarked (word t))
-unmarked-front [] ts i d t l e f = absurd (omega arith)
-unmarked-front (n ∷ ms) [] i d t l e f = absurd (cc)
-unmarked-front (Some n ∷ ms) (u ∷ ts) zero d t l e f = absurd (cc)
-unmarked-front (None ∷ ms) (u ∷ ts) zero d t l e f = let same : u ≡ t = cc in ap (λ x. Some (unmarked (word x))) same
-unmarked-front (Some n ∷ ms) (u ∷ ts) (suc i) d t l e f = unmarked-front ms ts i d t (omega arith) e f
-unmarked-front (None ∷ ms) (u ∷ ts) (suc i) d t l e f = unmarked-front ms ts i d t (omega arith) e f
+pub marked-front : (ts : List Lexeme) (i : ℕ) (m : Mark) → slice_get (marks_of ts) i ≡ Some (Some m) → front (drop i (words ts)) ≡ Some (mark m)
+marked-front ts i m e = let s = stands ts i (Some m) e in ap front s.behind ∙ ap Some (is-mark s.here m s.marked)
 
-unmarked-none : (w : Word) → mark_in (unmarked w) ≡ None
-unmarked-none (plain text) = refl
-unmarked-none (quoted text) = refl
-unmarked-none (constant lit) = refl
-unmarked-none (mark m) = refl
+is-unmarked : (w : Word) → mark_in w ≡ None → w ≡ unmarked w
+is-unmarked (plain text) e = refl
+is-unmarked (quoted text) e = refl
+is-unmarked (constant lit) e = refl
+is-unmarked (mark m) e = absurd (cc)
 
--- the marks of the words behind a place
-pub marks-behind : (ms : List (Option Mark)) (ts : List Lexeme) (i : ℕ) → length ms ≡ length ts → map mark_in (drop i (known_words ms ts)) ≡ drop i ms
-marks-behind [] [] zero h = refl
-marks-behind [] [] (suc i) h = refl
-marks-behind [] (t ∷ ts) i h = absurd (omega arith)
-marks-behind (m ∷ ms) [] i h = absurd (omega arith)
-marks-behind (Some m ∷ ms) (t ∷ ts) zero h = ap (λ ns. Some m ∷ ns) (marks-behind ms ts zero (omega arith))
-marks-behind (None ∷ ms) (t ∷ ts) zero h = ap (λ n. n ∷ map mark_in (known_words ms ts)) (unmarked-none (word t)) ∙ ap (λ ns. None ∷ ns) (marks-behind ms ts zero (omega arith))
-marks-behind (Some m ∷ ms) (t ∷ ts) (suc i) h = marks-behind ms ts i (omega arith)
-marks-behind (None ∷ ms) (t ∷ ts) (suc i) h = marks-behind ms ts i (omega arith)
-
--- the mark at a place is that of the first word behind it
-pub mark-at : (ms : List (Option Mark)) (ts : List Lexeme) (i : ℕ) (d : Option Mark) → length ms ≡ length ts → i < length ms → get_or ms i d ≡ front_mark (drop i (known_words ms ts))
-mark-at [] ts i d h l = absurd (omega arith)
-mark-at (n ∷ ms) [] i d h l = absurd (omega arith)
-mark-at (Some n ∷ ms) (t ∷ ts) zero d h l = refl
-mark-at (None ∷ ms) (t ∷ ts) zero d h l = sym (unmarked-none (word t))
-mark-at (Some n ∷ ms) (t ∷ ts) (suc i) d h l = mark-at ms ts i d (omega arith) (omega arith)
-mark-at (None ∷ ms) (t ∷ ts) (suc i) d h l = mark-at ms ts i d (omega arith) (omega arith)
+pub unmarked-front : (ts : List Lexeme) (i : ℕ) (t : Lexeme) → slice_get (marks_of ts) i ≡ Some None → slice_get ts i ≡ Some t → front (drop i (words ts)) ≡ Some (unmarked (word t))
+unmarked-front [] i t e f = absurd (cc)
+unmarked-front (u ∷ us) zero t e f =
+    let none : mark_of_lexeme u ≡ None = cc in
+    let same : u ≡ t = cc in
+    ap Some (is-unmarked (word u) (kind-mark u.kind u.text ∙ none) ∙ ap (λ (x : Lexeme). unmarked (word x)) same)
+unmarked-front (u ∷ us) (suc i) t e f = unmarked-front us i t e f
 
 pub words-many : (ts : List Lexeme) → length (words ts) ≡ length ts
 words-many [] = refl
 words-many (t ∷ ts) = ap suc (words-many ts)
 
-pub none-behind : (ms : List (Option Mark)) (ts : List Lexeme) (i : ℕ) → length ms ≤ i → drop i (known_words ms ts) ≡ []
-none-behind [] ts zero h = refl
-none-behind [] ts (suc i) h = refl
-none-behind (m ∷ ms) ts zero h = absurd (omega arith)
-none-behind (Some m ∷ ms) [] (suc i) h = refl
-none-behind (None ∷ ms) [] (suc i) h = refl
-none-behind (Some m ∷ ms) (t ∷ ts) (suc i) h = none-behind ms ts i (omega arith)
-none-behind (None ∷ ms) (t ∷ ts) (suc i) h = none-behind ms ts i (omega arith)
+pub none-behind : (ts : List Lexeme) (i : ℕ) → length ts ≤ i → drop i (words ts) ≡ []
+none-behind ts i h = drop_all i (words ts) (omega (arith, h, words-many ts))
 
 pub drop-next : {A : Type 0} (xs : List A) (i : ℕ) → drop (i + 1) xs ≡ drop 1 (drop i xs)
 drop-next xs i = ap (λ n. drop n xs) (add-one i) ∙ by xs i

@@ -1,14 +1,13 @@
--- Words as the code holds them: which marks they are is known beforehand, and only the other words are made.
+-- Words as the code reads them: which marks they are the tokens tell, and only the other words are made.
 use Rattle.std.specs.Prelude.{◌≡◌, Bool, true, false, List, [], ◌∷◌, Option, None, Some}
 use Rattle.std.specs.Option.{option_and_then}
 use Rattle.pool_text.specs.declared.language.Lit.TheVariants.{Undefined}
-use Rattle.ad_lexer.specs.Lexeme.{Lexeme}
-use Rattle.ad_grammar.specs.declared.mark.Mark.{Mark}
-use Rattle.ad_grammar.specs.declared.mark.Mark.TheVariants.{CloseParen, CloseBracket, CloseBrace, Comma, Semicolon}
+use Rattle.ad_lexer.specs.declared.mark.Mark.{Mark}
+use Rattle.ad_lexer.specs.declared.mark.Mark.TheVariants.{CloseParen, CloseBracket, CloseBrace, Comma, Semicolon}
 use Rattle.ad_grammar.specs.declared.nesting.Turn.{Turn}
 use Rattle.ad_grammar.specs.declared.nesting.Turn.TheVariants as turns
 use Rattle.ad_grammar.specs.Nesting.{opening, closing}
-use Rattle.ad_grammar.specs.Words.{Word, constant, mark, word}
+use Rattle.ad_grammar.specs.Words.{Word, constant, mark}
 
 -- the first word, and the mark that a word is
 abbrev pub front : List Word → Option Word
@@ -38,12 +37,6 @@ ends_at ws = ends (front_mark ws)
 abbrev pub unmarked : Word → Word
 unmarked (mark m) = constant Undefined
 unmarked w = w
-
--- the words of tokens of which it is known which marks they are
-abbrev pub known_words : List (Option Mark) → List Lexeme → List Word
-known_words (Some m ∷ ms) (token ∷ tokens) = mark m ∷ known_words ms tokens
-known_words (None ∷ ms) (token ∷ tokens) = unmarked (word token) ∷ known_words ms tokens
-known_words ms tokens = []
 
 -- what a word does with constructs
 abbrev pub IsTurn : Turn → Word → Type 0

@@ -1,6 +1,6 @@
 -- How many constructs of a text are open at once.
 use Rattle.std.specs.Prelude.{ℕ, ◌+◌, Bool, false, ◌||◌, nat_lt, List, [], ◌∷◌}
-use Rattle.ad_grammar.specs.declared.mark.Mark.TheVariants.{OpenParen, CloseParen, OpenBracket, CloseBracket, OpenBrace, CloseBrace, Question, Colon}
+use Rattle.ad_lexer.specs.declared.mark.Mark.TheVariants.{OpenParen, CloseParen, OpenBracket, CloseBracket, OpenBrace, CloseBrace, Question, Colon}
 use Rattle.ad_grammar.specs.Words.{Word, mark}
 
 -- how many constructs may be open at once

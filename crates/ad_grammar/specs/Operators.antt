@@ -6,8 +6,8 @@ use Rattle.pool_text.specs.declared.language.UnOp.{UnOp}
 use Rattle.pool_text.specs.declared.language.UnOp.TheVariants as before
 use Rattle.ad_builder.specs.declared.instruction.Infix.{Infix}
 use Rattle.ad_builder.specs.declared.instruction.Infix.TheVariants as infixes
-use Rattle.ad_grammar.specs.declared.mark.Mark.{Mark}
-use Rattle.ad_grammar.specs.declared.mark.Mark.TheVariants.{And, Or, Not, Complement, Binary}
+use Rattle.ad_lexer.specs.declared.mark.Mark.{Mark}
+use Rattle.ad_lexer.specs.declared.mark.Mark.TheVariants.{And, Or, Not, Complement, Binary}
 
 -- the precedence of an operator: how loosely it binds, from 1 for `*` to 8 for `|`
 abbrev pub precedence : BinOp → ℕ

@@ -6,20 +6,20 @@ use Rattle.ad_tree.specs.Inline.{Inline, Inlines, Defs, no_defs, def}
 use Rattle.ad_tree.specs.Tree.{unary, name, select}
 use Rattle.ad_tree.specs.declared.tree.Scope.{Scope}
 use Rattle.ad_tree.specs.declared.tree.Scope.TheVariants.{Bare}
-use Rattle.ad_grammar.specs.declared.mark.Mark.{Mark}
-use Rattle.ad_grammar.specs.declared.mark.Mark.TheVariants.{Dot}
+use Rattle.ad_lexer.specs.declared.mark.Mark.{Mark}
+use Rattle.ad_lexer.specs.declared.mark.Mark.TheVariants.{Dot}
 use Rattle.ad_grammar.specs.declared.reader.Reader.{Reader}
 use Rattle.ad_grammar.specs.declared.stop.Stop.{Stop}
 use Rattle.ad_grammar.specs.declared.stop.Stop.TheVariants as stops
 use Rattle.ad_builder.specs.Machine.{top, below, with_elements, with_definitions}
 use Rattle.ad_grammar.specs.Rules.{Reading, Rule, and_then, name_at, prefix_word, arguments, assigned, named_in, definitions_behind}
 use Rattle.ad_builder.specs.Shapes.{leaf, over_one}
-use Rattle.ad_grammar.specs.HeldMarks.{known_words, ends_at}
-use Rattle.ad_grammar.specs.Words.{Word, constant, mark, scope_of}
+use Rattle.ad_grammar.specs.HeldMarks.{ends_at}
+use Rattle.ad_grammar.specs.Words.{Word, constant, mark, scope_of, words}
 
 -- the words that are left
 abbrev pub left : Reader → List Word
-left r = drop r.at (known_words r.marks.items r.tokens)
+left r = drop r.at (words r.tokens)
 
 -- an operator before an operand
 abbrev pub prefix_at : List Word → Reading UnOp

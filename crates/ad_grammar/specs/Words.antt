@@ -1,19 +1,19 @@
 -- The words of the grammar: what a token means to the parser.
-use Rattle.std.specs.Prelude.{ℕ, true, false, pos, List, [], ◌∷◌, map, codes, Option, None, Some, if◌then◌else◌}
-use Rattle.std.specs.Str.{bytes_eq}
+use Rattle.std.specs.Prelude.{ℕ, true, false, pos, List, [], ◌∷◌, map, codes, Option, None, Some}
 use Rattle.pool_text.specs.Folding.{folded}
-use Rattle.pool_text.specs.declared.language.BinOp.TheVariants.{BitOr, BitXor, BitAnd, Equal, Unequal, Same, NotSame, Less, AtMost, Greater, AtLeast, ShiftLeft, ShiftRight, ShiftZero, Add, Sub, Mul, Div, Rem}
+use Rattle.pool_text.specs.declared.language.BinOp.TheVariants.{Same, NotSame}
 use Rattle.pool_text.specs.declared.language.Lit.{Lit}
 use Rattle.pool_text.specs.declared.language.Lit.TheVariants.{Undefined, Error, Boolean, Integer, Str}
 use Rattle.ad_tree.specs.declared.tree.Scope.{Scope}
 use Rattle.ad_tree.specs.declared.tree.Scope.TheVariants.{My, Target}
 use Rattle.ad_lexer.specs.Content.{content}
 use Rattle.ad_lexer.specs.Lexeme.{Lexeme}
+use Rattle.ad_lexer.specs.Marks.{marks, meaning_of}
 use Rattle.ad_lexer.specs.Numbers.{value}
 use Rattle.ad_lexer.specs.declared.token.TokenKind.{TokenKind}
 use Rattle.ad_lexer.specs.declared.token.TokenKind.TheVariants as kinds
-use Rattle.ad_grammar.specs.declared.mark.Mark.{Mark}
-use Rattle.ad_grammar.specs.declared.mark.Mark.TheVariants.{OpenParen, CloseParen, OpenBracket, CloseBracket, OpenBrace, CloseBrace, Comma, Semicolon, Dot, Assign, Question, Colon, And, Or, Not, Complement, Binary}
+use Rattle.ad_lexer.specs.declared.mark.Mark.{Mark}
+use Rattle.ad_lexer.specs.declared.mark.Mark.TheVariants.{Binary}
 
 -- a plain name, a name that stood in quotes, a literal, or a symbol
 pub data Word : Type 0 where
@@ -21,24 +21,6 @@ pub data Word : Type 0 where
   quoted : List ℕ → Word
   constant : Lit → Word
   mark : Mark → Word
-
--- the meaning of a spelling in a table
-abbrev pub meaning_of : {M : Type 0} → List (List ℕ × M) → List ℕ → Option M
-meaning_of [] bytes = None
-meaning_of (row ∷ rows) bytes = if bytes_eq bytes row.0 then Some row.1 else meaning_of rows bytes
-
--- the symbols
-abbrev pub marks : List (List ℕ × Mark)
-marks =
-    (codes "(", OpenParen) ∷ (codes ")", CloseParen) ∷ (codes "[", OpenBracket) ∷ (codes "]", CloseBracket)
-    ∷ (codes "{", OpenBrace) ∷ (codes "}", CloseBrace) ∷ (codes ",", Comma) ∷ (codes ";", Semicolon) ∷ (codes ".", Dot)
-    ∷ (codes "=", Assign) ∷ (codes "?", Question) ∷ (codes ":", Colon) ∷ (codes "||", Or) ∷ (codes "&&", And)
-    ∷ (codes "|", Binary BitOr) ∷ (codes "^", Binary BitXor) ∷ (codes "&", Binary BitAnd)
-    ∷ (codes "==", Binary Equal) ∷ (codes "!=", Binary Unequal) ∷ (codes "=?=", Binary Same) ∷ (codes "=!=", Binary NotSame)
-    ∷ (codes "<", Binary Less) ∷ (codes "<=", Binary AtMost) ∷ (codes ">", Binary Greater) ∷ (codes ">=", Binary AtLeast)
-    ∷ (codes "<<", Binary ShiftLeft) ∷ (codes ">>", Binary ShiftRight) ∷ (codes ">>>", Binary ShiftZero)
-    ∷ (codes "+", Binary Add) ∷ (codes "-", Binary Sub) ∷ (codes "*", Binary Mul) ∷ (codes "/", Binary Div)
-    ∷ (codes "%", Binary Rem) ∷ (codes "!", Not) ∷ (codes "~", Complement) ∷ []
 
 -- the reserved words, which are literals or operators
 abbrev pub reserved_words : List (List ℕ × Word)

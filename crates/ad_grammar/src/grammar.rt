@@ -10,7 +10,6 @@ ghost use Rattle.ad_grammar.specs.Rules.{Rule};
 ghost use Rattle.ad_grammar.specs.Steps.{left, Puts, wrapped, applied, extended, completed};
 ghost use Rattle.ad_grammar.specs.Words.{mark as mark_word};
 
-use crate::mark::Mark;
 use crate::phrase::{attribute, defined, finished, lone, selection, worded};
 use crate::reader::Reader;
 use crate::stop::Stop;

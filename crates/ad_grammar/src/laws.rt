@@ -1,13 +1,14 @@
 // Laws of the definitions, each on a function that does nothing.
 ghost use Rattle.std.specs.Prelude.{◌≡◌, true, List, Some, IsSome};
 ghost use Rattle.pool_text.specs.Folding.{folded};
+ghost use Rattle.ad_lexer.specs.Marks.{marks, meaning_of};
 ghost use Rattle.ad_lexer.specs.Symbols.{is_symbol};
 ghost use Rattle.ad_lexer.specs.Words.{is_reserved};
 ghost use Rattle.ad_tree.specs.Inline.{Inline, Defs, inner};
 ghost use Rattle.ad_grammar.specs.Grammar.{IsExpr, IsAd, IsRoot};
 ghost use Rattle.ad_grammar.specs.Made.{IsMade, AreMade};
 ghost use Rattle.ad_grammar.specs.Rules.{parsed_expr, parsed_ad};
-ghost use Rattle.ad_grammar.specs.Words.{Word, marks, meaning_of, reserved_words};
+ghost use Rattle.ad_grammar.specs.Words.{Word, reserved_words};
 
 /// No words spell two trees: an expression groups in one way, and so does an ad.
 pub fn words_spell_one_tree()

@@ -3,21 +3,19 @@
 
 mod grammar;
 mod laws;
-mod mark;
 mod nesting;
 mod operators;
 mod phrase;
 mod read;
 mod reader;
 mod stop;
-mod symbol;
 mod word;
 
+pub use ad_lexer::Mark;
 pub use laws::{
     symbols_and_reserved_words_have_meanings, words_are_read_by_the_grammar,
     words_make_parsed_trees, words_spell_one_tree,
 };
-pub use mark::Mark;
 pub use read::{read_ad, read_expression};
 pub use reader::Reader;
 pub use stop::Stop;

@@ -1,10 +1,10 @@
 // How many constructs are open at once.
-ghost use Rattle.std.specs.Prelude.{◌≡◌, List, map};
+ghost use Rattle.std.specs.Prelude.{◌≡◌, ◌≤◌, drop, length};
 ghost use Rattle.ad_grammar.specs.Nesting.{nests_too_deep};
 ghost use Rattle.ad_grammar.specs.HeldMarks.{mark_in, IsTurn};
-ghost use Rattle.ad_grammar.specs.Words.{Word as MeantWord};
+ghost use Rattle.ad_grammar.specs.Words.{Word as MeantWord, words};
 
-use crate::mark::Mark;
+use ad_lexer::{Mark, Tokens};
 
 const NESTING_LIMIT: usize = 130;
 
@@ -16,13 +16,15 @@ pub enum Turn {
     Neither,
 }
 
-/// Whether after some word more constructs are open than the limit. The words that aren't marks open and close none.
-pub fn nest_too_deep(marks: &[Option<Mark>]) -> bool
-    ensures { (ws : List MeantWord) → map mark_in ws ≡ marks.now → result ≡ nests_too_deep ws }
+/// Whether after some word from place `from` on more constructs are open than the limit. The words that aren't marks open
+/// and close none.
+pub fn nest_too_deep(tokens: &Tokens<'_>, from: usize) -> bool
+    requires { from ≤ length tokens.now }
+    ensures { result ≡ nests_too_deep (drop from (words tokens.now)) }
 {
     let mut room = NESTING_LIMIT;
-    for mark in marks {
-        match turn_of(*mark) {
+    for i in from..tokens.len() {
+        match turn_of(tokens.mark(i)) {
             Turn::Opens => {
                 if room == 0 {
                     return true;

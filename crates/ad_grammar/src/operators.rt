@@ -3,7 +3,7 @@ ghost use Rattle.std.specs.Prelude.{◌≡◌};
 ghost use Rattle.ad_grammar.specs.Operators.{infix_of, precedence, prefix_of};
 ghost use Rattle.ad_grammar.specs.HeldMarks.{ends};
 
-use crate::mark::Mark;
+use ad_lexer::Mark;
 use ad_builder::Infix;
 use pool_text::{BinOp, UnOp};
 

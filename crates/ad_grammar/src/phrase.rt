@@ -8,7 +8,7 @@ ghost use Rattle.ad_grammar.specs.Rules.{expression, plain_at, primary};
 ghost use Rattle.ad_grammar.specs.Steps.{left, Begins, Continues, Gives, Puts, attribute_at, defined_at, reference, selected};
 ghost use Rattle.ad_grammar.specs.Words.{scope_of};
 
-use crate::mark::Mark;
+use ad_lexer::Mark;
 use crate::reader::Reader;
 use crate::stop::Stop;
 use crate::word::Word;

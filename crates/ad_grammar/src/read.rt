@@ -4,7 +4,7 @@ ghost use Rattle.ad_grammar.specs.Rules.{parsed_expr, parsed_ad};
 ghost use Rattle.ad_grammar.specs.Steps.{left};
 
 use crate::grammar::{definitions, expression};
-use crate::mark::Mark;
+use ad_lexer::Mark;
 use crate::reader::Reader;
 use crate::stop::Stop;
 use ad_builder::Machine;

@@ -2,28 +2,25 @@
 ghost use Rattle.std.specs.Prelude.{◌≡◌, ◌≤◌, length};
 ghost use Rattle.ad_grammar.specs.Meaning.{AreSpelled};
 
-use crate::mark::Mark;
 use crate::nesting::{Turn, nest_too_deep, turn_of};
 use crate::operators::{ends, infix_of, prefix_of};
 use crate::stop::Stop;
-use crate::word::{Word, read_marks, unmarked_word};
+use crate::word::{Word, unmarked_word};
 use ad_builder::Infix;
-use ad_lexer::Tokens;
+use ad_lexer::{Mark, Tokens};
 use pool_text::{Lit, OutOfMemory, Text, UnOp};
 use std::alloc::Global;
 
 /// How many words are looked at to tell how many elements a list has.
 const LOOKED_AHEAD: usize = 64;
 
-/// The words of a text, from a place on. A token is made a word when it is taken; which tokens are marks is known before,
+/// The words of a text, from a place on. A token is made a word when it is taken; the token itself tells which mark it is,
 /// since the rules look at the next one many times.
 #[derive(Drop)]
 pub struct Reader<'a> {
     tokens: Tokens<'a>,
-    marks: Vec<Option<Mark>>,
     at: usize,
     ghost spelled: { ∥ AreSpelled tokens ∥₁ },
-    ghost paired: { length marks.items ≡ length tokens },
     ghost within: { at ≤ length tokens },
 }
 
@@ -45,19 +42,14 @@ impl<'a> Reader<'a> {
         requires { AreSpelled tokens }
         ensures { IfOk result (λ reader. left reader ≡ words tokens.entry) }
     {
-        let marks = read_marks(alloc, &tokens)?;
-        Ok(Reader {
-            tokens,
-            marks,
-            at: 0,
-        })
+        Ok(Reader { tokens, at: 0 })
     }
 
     /// Whether after some word more than 130 brackets and question marks are open.
     pub fn nests_too_deep(&self) -> bool
         ensures { result ≡ nests_too_deep (left self.now) }
     {
-        nest_too_deep(&self.marks[self.at..])
+        nest_too_deep(&self.tokens, self.at)
     }
 
     /// How many words are left.
@@ -65,7 +57,7 @@ impl<'a> Reader<'a> {
         ensures value { result ≡ length (left self.now) }
         ensures few { result < 2 ^ 63 }
     {
-        self.marks.len() - self.at
+        self.tokens.len() - self.at
     }
 
     /// Takes the next word.
@@ -83,10 +75,10 @@ impl<'a> Reader<'a> {
     fn next(&self, alloc: Global) -> Result<Option<Word<'a>>, OutOfMemory>
         ensures { IfOk result (λ w. option_map meaning w ≡ front (left self.now)) }
     {
-        if self.at >= self.marks.len() {
+        if self.at >= self.tokens.len() {
             return Ok(None);
         }
-        match self.marks[self.at] {
+        match self.tokens.mark(self.at) {
             Some(mark) => Ok(Some(Word::Mark(mark))),
             None => Ok(Some(unmarked_word(alloc, &self.tokens.at(self.at))?)),
         }
@@ -114,9 +106,10 @@ impl<'a> Reader<'a> {
     fn ends_behind_next(&self) -> bool
         ensures { result ≡ ends_at (drop 1 (left self.now)) }
     {
+        let len = self.tokens.len();
         let place = self.at + 1;
-        if place < self.marks.len() {
-            ends(self.marks[place])
+        if place < len {
+            ends(self.tokens.mark(place))
         } else {
             false
         }
@@ -126,8 +119,8 @@ impl<'a> Reader<'a> {
     pub(crate) fn mark(&self) -> Option<Mark>
         ensures { result ≡ front_mark (left self.now) }
     {
-        if self.at < self.marks.len() {
-            self.marks[self.at]
+        if self.at < self.tokens.len() {
+            self.tokens.mark(self.at)
         } else {
             None
         }
@@ -167,7 +160,7 @@ impl<'a> Reader<'a> {
     fn skip(&mut self)
         ensures { left self.new ≡ drop 1 (left self.old) }
     {
-        if self.at < self.marks.len() {
+        if self.at < self.tokens.len() {
             self.at += 1;
         }
     }

@@ -1,16 +1,15 @@
 // The words of a text: what its tokens mean to the parser.
-ghost use Rattle.std.specs.Prelude.{◌≡◌, map, IfOk};
+ghost use Rattle.std.specs.Prelude.{◌≡◌, IfOk};
 ghost use Rattle.ad_lexer.specs.Spelling.{Spells};
 ghost use Rattle.ad_lexer.specs.Lexeme.{lexeme};
+ghost use Rattle.ad_lexer.specs.Marks.{meaning_of};
 ghost use Rattle.ad_grammar.specs.Meaning.{meaning};
-ghost use Rattle.ad_grammar.specs.HeldMarks.{mark_in, unmarked};
-ghost use Rattle.ad_grammar.specs.Words.{or_undefined, constant, meaning_of, reserved_words, word, words};
+ghost use Rattle.ad_grammar.specs.HeldMarks.{unmarked};
+ghost use Rattle.ad_grammar.specs.Words.{or_undefined, constant, reserved_words, word};
 ghost use Rattle.pool_text.specs.Folding.{folded};
 
-use crate::mark::Mark;
-use crate::symbol::mark_of;
-use ad_lexer::{Token, TokenKind, Tokens, content, integer};
-use pool_text::{BinOp, Lit, OutOfMemory, Text};
+use ad_lexer::{Mark, Token, TokenKind, content, integer};
+use pool_text::{Lit, OutOfMemory, Text};
 use std::alloc::Global;
 
 /// A plain name, a name that stood in quotes, a literal, or a mark.
@@ -62,40 +61,5 @@ fn reserved(text: &[u8]) -> Lit
         Lit::Error
     } else {
         Lit::Undefined
-    }
-}
-
-/// The marks that tokens are.
-pub fn read_marks(alloc: Global, tokens: &Tokens<'_>) -> Result<Vec<Option<Mark>>, OutOfMemory>
-    ensures { IfOk result (λ marks. marks.items ≡ map mark_in (words tokens.now)) }
-{
-    let mut marks = Vec::with_capacity(alloc, tokens.len())?;
-    for i in 0..tokens.len() {
-        marks.push(mark_of_token(&tokens.at(i)))?;
-    }
-    Ok(marks)
-}
-
-/// The mark that a token is.
-fn mark_of_token(token: &Token<'_>) -> Option<Mark>
-    ensures { result ≡ mark_in (word (lexeme token.now)) }
-{
-    match token.kind {
-        TokenKind::Symbol => mark_of(token.text),
-        TokenKind::Reserved => mark_of_reserved(token.text),
-        _ => None,
-    }
-}
-
-/// `is` and `isnt` are operators.
-fn mark_of_reserved(text: &[u8]) -> Option<Mark>
-    ensures { result ≡ mark_in (or_undefined (meaning_of reserved_words (folded text.now))) }
-{
-    if text.eq_ignore_ascii_case(b"is") {
-        Some(Mark::Binary(BinOp::Same))
-    } else if text.eq_ignore_ascii_case(b"isnt") {
-        Some(Mark::Binary(BinOp::NotSame))
-    } else {
-        None
     }
 }

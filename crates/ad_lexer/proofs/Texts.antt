@@ -1,5 +1,5 @@
 -- Whole texts: one token list or one fault, and not both, and how far a text was divided. Nothing here knows of the kinds of tokens.
-use Rattle.std.proofs.Common.{◌≡◌, ◌⊎◌, ℕ, zero, suc, ◌<◌, ◌≤◌, false, List, length, take, IsUtf8, sym, ◌∙◌, subst, inl, inr, arith, take_all, ◌+◌, [], ◌∷◌, ◌++◌, refl, ap, length-append, ◌-◌, true, drop, Result, Ok, Err, append_assoc}
+use Rattle.std.proofs.Common.{◌≡◌, ◌⊎◌, ℕ, zero, suc, ◌<◌, ◌≤◌, false, List, length, take, IsUtf8, sym, ◌∙◌, subst, inl, inr, arith, take_all, ◌+◌, [], ◌∷◌, ◌++◌, refl, ap, length-append, ◌-◌, true, drop, Option, Result, Ok, Err, append_assoc}
 use Rattle.std.proofs.lemmas.Bool.{cases_Bool, cases_lt, true≢false, le-leb}
 use Rattle.std.proofs.lemmas.Str.{IsUtf8-from_is_utf8, is_utf8-from_IsUtf8, IsUtf8-nil, utf8_valid_len-IsValidUpTo}
 use Rattle.std.specs.Str.{IsValidUpTo, is_utf8}
@@ -8,15 +8,17 @@ use Rattle.std.specs.List.{flat_map, slice_range}
 use Rattle.std.proofs.lemmas.List.Folds.{list_all-append}
 use Rattle.ad_lexer.specs.declared.fault.LexKind.{LexKind}
 use Rattle.ad_lexer.specs.declared.fault.LexKind.TheVariants.{Encoding}
+use Rattle.ad_lexer.specs.declared.mark.Mark.{Mark}
 use Rattle.ad_lexer.specs.declared.next.Step.{Step}
 use Rattle.ad_lexer.specs.Faults.{Wrong}
 use Rattle.ad_lexer.specs.Lexeme.{Lexeme}
+use Rattle.ad_lexer.specs.Marks.{mark_of_kind, mark_of_lexeme, marks_of}
 use Rattle.ad_lexer.specs.Tokens.{Item, blank, token, bytes_of, IsItem, Divides, lexemes, Tokens, IsIllFormed, HasFault, Fault, Answers, IsOrMemory}
 use Rattle.ad_lexer.specs.Reading.{next}
 use Rattle.ad_lexer.specs.declared.fault.LexFault.{LexFault}
 use Rattle.ad_lexer.specs.declared.token.Span.{Span}
 use Rattle.ad_lexer.specs.declared.token.TokenKind.{TokenKind}
-use Rattle.ad_lexer.specs.Spans.{lexeme_of, lexemes_of, is_within, are_within}
+use Rattle.ad_lexer.specs.Spans.{lexeme_of, lexemes_of, is_within, are_within, AreMarked}
 use Rattle.ad_lexer.specs.declared.next.Step.TheVariants as steps
 use Rattle.ad_lexer.specs.declared.fault.LexFault.TheVariants as faults
 use Rattle.ad_lexer.proofs.ItemLemmas.{step_of, item_next, item_same, token_found, spelled_some}
@@ -295,20 +297,31 @@ reached_slice text rest list at n reached =
     let len : at + n - at ≡ n = omega arith in
     ap (λ (l : List ℕ). take (at + n - at) l) gone ∙ ap (λ (k : ℕ). take k rest) len
 
-abbrev pub span_at : TokenKind → ℕ → ℕ → Span
-span_at kind start end = record { kind = kind; start = start; end = end }
+abbrev pub span_at : TokenKind → Option Mark → ℕ → ℕ → Span
+span_at kind mark start end = record { kind = kind; mark = mark; start = start; end = end }
 
-pub reached_span : (text rest : List ℕ) (spans : List Span) (at : ℕ) (kind : TokenKind) (n : ℕ) → Reached text rest (lexemes_of text spans) at → steps.Token kind n ≡ next rest
-    → Reached text (drop n rest) (lexemes_of text (spans ++ span_at kind at (at + n) ∷ [])) (at + n)
-reached_span text rest spans at kind n reached reads =
+pub reached_span : (text rest : List ℕ) (spans : List Span) (at : ℕ) (kind : TokenKind) (mark : Option Mark) (n : ℕ) → Reached text rest (lexemes_of text spans) at → steps.Token kind n ≡ next rest
+    → Reached text (drop n rest) (lexemes_of text (spans ++ span_at kind mark at (at + n) ∷ [])) (at + n)
+reached_span text rest spans at kind mark n reached reads =
     let slice : take n rest ≡ slice_range text at (at + n) = sym (reached_slice text rest (lexemes_of text spans) at n reached) in
-    let pushed : lexemes_of text spans ++ lexeme_at kind at (at + n) (take n rest) ∷ [] ≡ lexemes_of text (spans ++ span_at kind at (at + n) ∷ []) =
-    ap (λ (l : List ℕ). lexemes_of text spans ++ lexeme_at kind at (at + n) l ∷ []) slice ∙ sym (map-append (lexeme_of text) spans (span_at kind at (at + n) ∷ [])) in
+    let pushed : lexemes_of text spans ++ lexeme_at kind at (at + n) (take n rest) ∷ [] ≡ lexemes_of text (spans ++ span_at kind mark at (at + n) ∷ []) =
+    ap (λ (l : List ℕ). lexemes_of text spans ++ lexeme_at kind at (at + n) l ∷ []) slice ∙ sym (map-append (lexeme_of text) spans (span_at kind mark at (at + n) ∷ [])) in
     subst (λ (list : List Lexeme). Reached text (drop n rest) list (at + n)) pushed (reached_token text rest (lexemes_of text spans) at kind n reached reads)
 
-pub within_push : (len : ℕ) (spans : List Span) (kind : TokenKind) (start end : ℕ) → are_within len spans ≡ true → start ≤ end → end ≤ len → are_within len (spans ++ span_at kind start end ∷ []) ≡ true
-within_push len spans kind start end before ordered within =
-    rw (list_all-append (is_within len) spans (span_at kind start end ∷ []), before, le-leb start end ordered, le-leb end len within) refl
+pub marked_push : (text rest : List ℕ) (spans : List Span) (at : ℕ) (kind : TokenKind) (mark : Option Mark) (n : ℕ) → Reached text rest (lexemes_of text spans) at → AreMarked text spans → mark ≡ mark_of_kind kind (take n rest)
+    → AreMarked text (spans ++ span_at kind mark at (at + n) ∷ [])
+marked_push text rest spans at kind mark n reached before is =
+    let span = span_at kind mark at (at + n) in
+    let here : mark ≡ mark_of_lexeme (lexeme_of text span) = is ∙ ap (mark_of_kind kind) (sym (reached_slice text rest (lexemes_of text spans) at n reached)) in
+    map-append (λ (s : Span). s.mark) spans (span ∷ [])
+    ∙ ap (λ (ms : List (Option Mark)). ms ++ mark ∷ []) before
+    ∙ ap (λ (m : Option Mark). marks_of (lexemes_of text spans) ++ m ∷ []) here
+    ∙ sym (map-append mark_of_lexeme (lexemes_of text spans) (lexeme_of text span ∷ []))
+    ∙ ap marks_of (sym (map-append (lexeme_of text) spans (span ∷ [])))
+
+pub within_push : (len : ℕ) (spans : List Span) (kind : TokenKind) (mark : Option Mark) (start end : ℕ) → are_within len spans ≡ true → start ≤ end → end ≤ len → are_within len (spans ++ span_at kind mark start end ∷ []) ≡ true
+within_push len spans kind mark start end before ordered within =
+    rw (list_all-append (is_within len) spans (span_at kind mark start end ∷ []), before, le-leb start end ordered, le-leb end len within) refl
 
 -- ---- the ends
 

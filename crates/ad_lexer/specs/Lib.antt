@@ -4,6 +4,7 @@ pub mod Content
 pub mod FaultNumbers
 pub mod Faults
 pub mod Lexeme
+pub mod Marks
 pub mod Numbers
 pub mod Quoted
 pub mod Reading

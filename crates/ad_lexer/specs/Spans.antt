@@ -1,8 +1,9 @@
 -- Tokens as the list of them is kept: where they stand in their source.
-use Rattle.std.specs.Prelude.{ℕ, Bool, ◌&&◌, nat_le, List, map, slice_range}
+use Rattle.std.specs.Prelude.{◌≡◌, ℕ, Bool, ◌&&◌, nat_le, List, map, slice_range}
 use Rattle.std.specs.List.{list_all}
 use Rattle.ad_lexer.specs.declared.token.Span.{Span}
 use Rattle.ad_lexer.specs.Lexeme.{Lexeme}
+use Rattle.ad_lexer.specs.Marks.{marks_of}
 
 -- the token at a span of a source
 abbrev pub lexeme_of : List ℕ → Span → Lexeme
@@ -20,3 +21,7 @@ is_within len span = nat_le span.start span.end && nat_le span.end len
 -- each of the spans does
 abbrev pub are_within : ℕ → List Span → Bool
 are_within len spans = list_all (is_within len) spans
+
+-- each span holds the mark of its token
+abbrev pub AreMarked : List ℕ → List Span → Type 0
+AreMarked source spans = map (λ span. span.mark) spans ≡ marks_of (lexemes_of source spans)

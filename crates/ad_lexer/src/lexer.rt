@@ -4,8 +4,9 @@ ghost use Rattle.ad_lexer.specs.declared.fault.LexKind.{LexKind};
 ghost use Rattle.ad_lexer.specs.Lexeme.{Lexeme};
 ghost use Rattle.ad_lexer.specs.Tokens as spec;
 
-use crate::bytes::behind;
+use crate::bytes::{behind, front};
 use crate::fault::{LexFault, LexKind};
+use crate::mark::mark_of;
 use crate::next::{Step, next};
 use crate::token::{Span, Tokens};
 use std::alloc::Global;
@@ -51,6 +52,7 @@ fn divide(alloc: Global, text: &[u8]) -> Result<Tokens<'_>, LexFault>
                 let end = at + len;
                 spans.push(Span {
                     kind,
+                    mark: mark_of(kind, front(rest, len)),
                     start: at as u32,
                     end: end as u32,
                 })?;

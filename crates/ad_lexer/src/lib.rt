@@ -7,6 +7,7 @@ mod escape;
 mod fault;
 mod laws;
 mod lexer;
+mod mark;
 mod next;
 mod number;
 mod quoted;
@@ -20,4 +21,5 @@ pub use laws::{
     spelling_stands, tokens_are_slices, tokens_mean_texts,
 };
 pub use lexer::lex;
+pub use mark::Mark;
 pub use token::{Token, TokenKind, Tokens};

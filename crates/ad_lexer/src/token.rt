@@ -1,4 +1,5 @@
 // Tokens and lists of them.
+use crate::mark::Mark;
 use std::marker::Model;
 
 /// What a token is: a plain name, a reserved word, a name in single quotes, a string in double quotes, an integer or a
@@ -23,10 +24,11 @@ pub struct Token<'a> {
     pub text: &'a [u8],
 }
 
-/// A token without its bytes, which the source holds.
+/// A token without its bytes, which the source holds, and with the mark that it is.
 #[derive(Clone, Copy)]
 pub(crate) struct Span {
     pub kind: TokenKind,
+    pub mark: Option<Mark>,
     pub start: u32,
     pub end: u32,
 }
@@ -41,33 +43,46 @@ pub struct Tokens<'a> {
 impl<'a> Model for Tokens<'a> {
     ghost use Rattle.std.specs.Prelude.{◌≡◌, List, length, true};
     ghost use Rattle.ad_lexer.specs.Lexeme.{Lexeme};
-    ghost use Rattle.ad_lexer.specs.Spans.{are_within, lexemes_of};
+    ghost use Rattle.ad_lexer.specs.Spans.{are_within, lexemes_of, AreMarked};
 
     ghost Value = { List Lexeme };
 
     ghost view = { λ t. lexemes_of t.source.now t.spans.items };
 
-    ghost invariant = { λ t. are_within (length t.source.now) t.spans.items ≡ true };
+    ghost invariant = { λ t. (are_within (length t.source.now) t.spans.items ≡ true) × AreMarked t.source.now t.spans.items };
 }
 
 impl<'a> Tokens<'a> {
-    ghost use Rattle.std.specs.Prelude.{◌≡◌, ◌<◌, length, slice_get, Some, true};
+    ghost use Rattle.std.specs.Prelude.{◌≡◌, ◌<◌, ◌^◌, length, slice_get, Some, true};
     ghost use Rattle.ad_lexer.specs.Lexeme.{lexeme};
-    ghost use Rattle.ad_lexer.specs.Spans.{are_within, lexemes_of};
+    ghost use Rattle.ad_lexer.specs.Marks.{marks_of};
+    ghost use Rattle.ad_lexer.specs.Spans.{are_within, lexemes_of, AreMarked};
 
     // The tokens that stand in the source at these spans.
     pub(crate) fn of(source: &'a [u8], spans: Vec<Span>) -> Tokens<'a>
-        requires { are_within (length source.now) spans.items ≡ true }
+        requires within { are_within (length source.now) spans.items ≡ true }
+        requires marked { AreMarked source.now spans.items }
         ensures { result ≡ lexemes_of source.now spans.items }
     {
         Tokens { source, spans }
     }
 
     /// How many tokens there are.
+    #[inline]
     pub fn len(&self) -> usize
-        ensures { result ≡ length self.now }
+        ensures value { result ≡ length self.now }
+        ensures few { result < 2 ^ 63 }
     {
         self.spans.len()
+    }
+
+    /// The mark that the token at place `i` is, counted from 0.
+    #[inline(always)]
+    pub fn mark(&self, i: usize) -> Option<Mark>
+        requires { i < length self.now }
+        ensures { slice_get (marks_of self.now) i ≡ Some result }
+    {
+        self.spans[i].mark
     }
 
     /// The token at place `i`, counted from 0.

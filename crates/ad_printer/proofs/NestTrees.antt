@@ -14,7 +14,7 @@ use Rattle.ad_tree.specs.declared.tree.Scope.{Scope}
 use Rattle.ad_tree.specs.declared.tree.Scope.TheVariants as scopes
 use Rattle.ad_grammar.specs.Nesting.{nesting_limit, opening, closing, nests_deeper, nests_too_deep}
 use Rattle.ad_grammar.specs.Words.{Word, plain, constant, mark, word_of_kind}
-use Rattle.ad_grammar.specs.declared.mark.Mark.TheVariants as marks
+use Rattle.ad_lexer.specs.declared.mark.Mark.TheVariants as marks
 use Rattle.ad_printer.specs.Pieces.{space, symbol, spaced, then_space, is_plain_name, name_piece, scoped, literal_piece, prefix_bytes, infix_bytes, behind, divided, enclosed}
 use Rattle.ad_printer.specs.Printed.{loose, first_bound, other_bound, grouped, around, pieces, operands, definition_pieces}
 use Rattle.ad_printer.proofs.WordLemmas.{word_in, words_of, words_of-append, infix_word}

@@ -17,8 +17,8 @@ use Rattle.ad_grammar.specs.Made.{begins_with_all, begins_with_any}
 use Rattle.ad_builder.specs.Shapes.{over_one, over_two, followed_by, joined}
 use Rattle.ad_grammar.specs.Operators.{precedence, infix_of, prefix_of}
 use Rattle.ad_grammar.specs.Words.{Word, plain, quoted, constant, mark, word_of_kind}
-use Rattle.ad_grammar.specs.declared.mark.Mark.{Mark}
-use Rattle.ad_grammar.specs.declared.mark.Mark.TheVariants as marks
+use Rattle.ad_lexer.specs.declared.mark.Mark.{Mark}
+use Rattle.ad_lexer.specs.declared.mark.Mark.TheVariants as marks
 use Rattle.ad_printer.specs.Pieces.{symbol, spaced, prefix_bytes, infix_bytes, behind, divided}
 use Rattle.ad_printer.specs.Printed.{loose, grouped, pieces, operands}
 use Rattle.ad_printer.proofs.WordLemmas.{words_of, words_of-append, infix_word}

@@ -14,7 +14,7 @@ use Rattle.ad_grammar.specs.Made.{IsNameText, IsWritten, IsNode, IsMade, AllMade
 use Rattle.ad_builder.specs.Shapes.{leaf, over_one, over_two, over_three}
 use Rattle.ad_grammar.specs.Operators.{precedence}
 use Rattle.ad_grammar.specs.Words.{Word, plain, constant, mark, word_of_kind}
-use Rattle.ad_grammar.specs.declared.mark.Mark.TheVariants as marks
+use Rattle.ad_lexer.specs.declared.mark.Mark.TheVariants as marks
 use Rattle.ad_printer.specs.Pieces.{space, symbol, spaced, then_space, name_piece, scoped, literal_piece, infix_bytes, behind, divided, enclosed}
 use Rattle.ad_printer.specs.Printed.{label_precedence, loose, first_bound, other_bound, grouped, around, pieces, operands, definition_pieces}
 use Rattle.ad_printer.proofs.WordLemmas.{word_in, words_of, words_of-append, name_word, literal_word}

@@ -19,7 +19,7 @@ use Rattle.ad_grammar.specs.Grammar.{IsName, plain_name, quoted_name, IsNoScope}
 use Rattle.ad_grammar.specs.Made.{IsNameText, IsWritten}
 use Rattle.ad_grammar.specs.Operators.{precedence}
 use Rattle.ad_grammar.specs.Words.{Word, plain, quoted, constant, mark, word_of_kind, words, scope_of}
-use Rattle.ad_grammar.specs.declared.mark.Mark.TheVariants.{Binary}
+use Rattle.ad_lexer.specs.declared.mark.Mark.TheVariants.{Binary}
 use Rattle.ad_printer.specs.Pieces.{is_plain_name, name_piece, literal_piece, infix_bytes}
 use Rattle.ad_printer.specs.Quotes.{in_quotes}
 use Rattle.ad_printer.proofs.QuoteLemmas.{quotes_stand}

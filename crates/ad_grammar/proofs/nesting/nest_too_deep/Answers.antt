@@ -1,47 +1,47 @@
-use Rattle.std.proofs.Common.{arith, ◌≡◌, get_or, None, subst, sym, ◌∙◌}
-use Rattle.ad_grammar.specs.HeldMarks.{mark_in, IsTurn}
-use Rattle.ad_grammar.specs.Words.{Word}
+use Rattle.std.proofs.Common.{arith, ◌≡◌, ◌+◌, ◌∷◌, drop, ap, subst, sym, ◌∙◌}
+use Rattle.ad_grammar.specs.HeldMarks.{IsTurn}
+use Rattle.ad_grammar.specs.Nesting.{nests_deeper, nests_too_deep}
+use Rattle.ad_grammar.specs.Words.{words}
 use Rattle.ad_grammar.proofs.NestingLemmas.{level, opened-next, passed-next, deep-next}
+use Rattle.ad_grammar.proofs.WordLemmas.{stands}
 use Rattle.ad_grammar.proofs.nesting.nest_too_deep.Goals as goal
 use Rattle.ad_grammar.proofs.nesting.nest_too_deep.Goals.{in-Opens+else-room-eq0, in-Closes, in-Neither}
 
-pub loop-mark-init : goal.loop-mark-init
-loop-mark-init c = record { rest = λ ws is. level 130 ws; few = omega arith }
+pub loop-i-init : goal.loop-i-init
+loop-i-init c = record { rest = level 130 (drop c.args.from (words c.args.tokens.now)); few = omega arith }
 
 pub returns-then-room-eq0 : goal.returns-then-room-eq0
-returns-then-room-eq0 c = λ ws is.
-    let turned = λ (w : Word) (e : mark_in w ≡ get_or c.args.marks.now c.loop-mark.mark-index None). subst (λ t. IsTurn t w) c.in-Opens.is (c.turn_of.ensures w e) in
-    sym (deep-next 130 c.loop-mark.room c.loop-mark.mark-index ws c.args.marks.now 1 0 is c.loop-mark-test.true (λ w e. sym (turned w e).0) (λ w e. sym (turned w e).1) (omega (arith, c.if-room-eq0.true)))
-    ∙ c.loop-mark.invariant.rest ws is
+returns-then-room-eq0 c =
+    let room = c.loop-i.room in
+    let at = stands c.args.tokens.now c.loop-i.i c.mark.result c.mark.ensures in
+    let turned = subst (λ t. IsTurn t at.here) c.in-Opens.is (c.turn_of.ensures at.here at.marked) in
+    sym (deep-next 130 room at.here (drop (c.loop-i.i + 1) (words c.args.tokens.now)) 1 0 turned.0 turned.1 (omega (arith, c.if-room-eq0.true)))
+    ∙ sym (ap (nests_deeper 130 room) at.behind) ∙ c.loop-i.invariant.rest
 
-pub loop-mark-preserved : goal.loop-mark-preserved
-loop-mark-preserved c =
-    let i = c.loop-mark.mark-index in
-    let room = c.loop-mark.room in
-    let marks = c.args.marks.now in
+pub loop-i-preserved : goal.loop-i-preserved
+loop-i-preserved c =
+    let room = c.loop-i.room in
+    let next = c.match-turn_of.room in
+    let at = stands c.args.tokens.now c.loop-i.i c.mark.result c.mark.ensures in
+    let more = drop (c.loop-i.i + 1) (words c.args.tokens.now) in
+    let here : nests_deeper 130 room (at.here ∷ more) ≡ nests_too_deep (drop c.args.from (words c.args.tokens.now)) = sym (ap (nests_deeper 130 room) at.behind) ∙ c.loop-i.invariant.rest in
     elim c.match-turn_of.branch [
       | in-Opens+else-room-eq0 b ↦
-          let turned = λ (w : Word) (e : mark_in w ≡ get_or marks i None). subst (λ t. IsTurn t w) b.in-Opens.is (c.turn_of.ensures w e) in
+          let turned = subst (λ t. IsTurn t at.here) b.in-Opens.is (c.turn_of.ensures at.here at.marked) in
           record {
-            rest = λ ws is.
-                sym (opened-next 130 room i ws marks 1 0 is c.loop-mark-test.true (λ w e. sym (turned w e).0) (λ w e. sym (turned w e).1) c.match-turn_of.room (omega arith) (omega arith) (omega (arith, b.if-room-eq0.false, b.room-is)))
-                ∙ c.loop-mark.invariant.rest ws is;
-            few = omega (arith, b.room-is, c.loop-mark.invariant.few);
+            rest = sym (opened-next 130 room at.here more 1 0 turned.0 turned.1 next (omega arith) (omega arith) (omega (arith, b.if-room-eq0.false, b.room-is))) ∙ here;
+            few = omega (arith, b.room-is, c.loop-i.invariant.few);
           }
       | in-Closes b ↦
-          let turned = λ (w : Word) (e : mark_in w ≡ get_or marks i None). subst (λ t. IsTurn t w) b.in-Closes.is (c.turn_of.ensures w e) in
+          let turned = subst (λ t. IsTurn t at.here) b.in-Closes.is (c.turn_of.ensures at.here at.marked) in
           record {
-            rest = λ ws is.
-                sym (passed-next 130 room i ws marks 0 1 is c.loop-mark-test.true (λ w e. sym (turned w e).0) (λ w e. sym (turned w e).1) c.match-turn_of.room (omega arith) (omega arith) (omega (arith, b.room-is)))
-                ∙ c.loop-mark.invariant.rest ws is;
-            few = omega (arith, b.room-is, c.loop-mark.invariant.few);
+            rest = sym (passed-next 130 room at.here more 0 1 turned.0 turned.1 next (omega arith) (omega arith) (omega (arith, b.room-is))) ∙ here;
+            few = omega (arith, b.room-is, c.loop-i.invariant.few);
           }
       | in-Neither b ↦
-          let turned = λ (w : Word) (e : mark_in w ≡ get_or marks i None). subst (λ t. IsTurn t w) b.in-Neither.is (c.turn_of.ensures w e) in
+          let turned = subst (λ t. IsTurn t at.here) b.in-Neither.is (c.turn_of.ensures at.here at.marked) in
           record {
-            rest = λ ws is.
-                sym (passed-next 130 room i ws marks 0 0 is c.loop-mark-test.true (λ w e. sym (turned w e).0) (λ w e. sym (turned w e).1) c.match-turn_of.room (omega arith) (omega arith) (omega (arith, b.room-is)))
-                ∙ c.loop-mark.invariant.rest ws is;
-            few = omega (arith, b.room-is, c.loop-mark.invariant.few);
+            rest = sym (passed-next 130 room at.here more 0 0 turned.0 turned.1 next (omega arith) (omega arith) (omega (arith, b.room-is))) ∙ here;
+            few = omega (arith, b.room-is, c.loop-i.invariant.few);
           }
     ]

@@ -1,11 +1,10 @@
-use Rattle.std.proofs.Common.{◌≡◌, ◌≤◌, ◌+◌, List, drop, map}
+use Rattle.std.proofs.Common.{◌≡◌, ◌≤◌, ◌+◌, drop}
 use Rattle.ad_grammar.specs.Nesting.{nests_deeper, nests_too_deep}
-use Rattle.ad_grammar.specs.HeldMarks.{mark_in}
-use Rattle.ad_grammar.specs.Words.{Word}
+use Rattle.ad_grammar.specs.Words.{words}
 use Rattle.ad_grammar.proofs.nesting.nest_too_deep.Given as goal
 
-abbrev pub invariant-loop-mark : goal.invariant-loop-mark
-invariant-loop-mark l = record {
-  rest : (ws : List Word) → map mark_in ws ≡ l.marks → nests_deeper 130 l.room (drop l.mark-index ws) ≡ nests_too_deep ws;
-  few : l.room ≤ l.mark-index + 130;
+abbrev pub invariant-loop-i : goal.invariant-loop-i
+invariant-loop-i l = record {
+  rest : nests_deeper 130 l.room (drop l.i (words l.tokens)) ≡ nests_too_deep (drop l.from (words l.tokens));
+  few : l.room ≤ l.i + 130;
 }

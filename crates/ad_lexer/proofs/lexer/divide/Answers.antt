@@ -1,8 +1,9 @@
-use Rattle.std.proofs.Common.{◌≡◌, ℕ, ◌+◌, ◌-◌, true, List, ◌∷◌, [], ◌++◌, drop, length, sym, ◌∙◌, ap, subst, Err, arith, length-drop}
+use Rattle.std.proofs.Common.{◌≡◌, ℕ, ◌+◌, ◌-◌, true, List, ◌∷◌, [], ◌++◌, drop, take, length, sym, ◌∙◌, ap, subst, Err, arith, length-drop}
 use Rattle.ad_lexer.specs.declared.token.Span.{Span}
-use Rattle.ad_lexer.specs.Spans.{lexemes_of, are_within}
+use Rattle.ad_lexer.specs.Marks.{mark_of_kind}
+use Rattle.ad_lexer.specs.Spans.{lexemes_of, are_within, AreMarked}
 use Rattle.ad_lexer.specs.Tokens.{Tokens, Answers}
-use Rattle.ad_lexer.proofs.Texts.{Reached, span_at, reached_blank, reached_span, within_push, reached_end, reached_fault}
+use Rattle.ad_lexer.proofs.Texts.{Reached, span_at, reached_blank, reached_span, marked_push, within_push, reached_end, reached_fault}
 use Rattle.ad_lexer.proofs.lexer.divide.Goals as goal
 
 pub returns-in-End : goal.returns-in-End
@@ -22,6 +23,7 @@ loop-spans-preserved-in-Blank c =
       subst (λ (l : List ℕ). Reached text l tokens (at + n)) (sym c.behind-rest.ensures) (reached_blank text rest tokens at n c.loop-spans.invariant.0 c.in-Blank.ensures.value),
       omega (arith, c.in-Blank.ensures.within.1),
       c.loop-spans.invariant.2,
+      c.loop-spans.invariant.3,
     )
 
 pub loop-spans-preserved : goal.loop-spans-preserved
@@ -29,16 +31,20 @@ loop-spans-preserved c =
     let text = c.args.text.now in
     let rest = c.loop-spans.rest.now in
     let kind = c.in-Token.kind in
+    let mark = c.mark_of.result in
     let n = c.in-Token.len in
     let at = c.loop-spans.at in
     let spans = c.loop-spans.spans.items in
     let shorter : length c.behind-rest-in-Token.result.now ≡ length rest - n = ap (λ (l : List ℕ). length l) c.behind-rest-in-Token.ensures ∙ length-drop n rest in
-    let pushed : spans ++ span_at kind at (at + n) ∷ [] ≡ c.push.new.self.items = sym c.in_ok-push-in-Token.ensures.items in
-    let reached = reached_span text rest spans at kind n c.loop-spans.invariant.0 c.in-Token.ensures.value in
-    let within = within_push (length text) spans kind at (at + n) c.loop-spans.invariant.2 (omega arith) (omega (arith, c.in-Token.ensures.within.1)) in (
+    let pushed : spans ++ span_at kind mark at (at + n) ∷ [] ≡ c.push.new.self.items = sym c.in_ok-push-in-Token.ensures.items in
+    let reached = reached_span text rest spans at kind mark n c.loop-spans.invariant.0 c.in-Token.ensures.value in
+    let within = within_push (length text) spans kind mark at (at + n) c.loop-spans.invariant.2 (omega arith) (omega (arith, c.in-Token.ensures.within.1)) in
+    let is : mark ≡ mark_of_kind kind (take n rest) = c.mark_of.ensures ∙ ap (mark_of_kind kind) c.front.ensures in
+    let marked = marked_push text rest spans at kind mark n c.loop-spans.invariant.0 c.loop-spans.invariant.3 is in (
       subst (λ (l : List ℕ). Reached text l (lexemes_of text c.push.new.self.items) (at + n)) (sym c.behind-rest-in-Token.ensures) (subst (λ (ss : List Span). Reached text (drop n rest) (lexemes_of text ss) (at + n)) pushed reached),
       omega (arith, c.in-Token.ensures.within.1),
       subst (λ (ss : List Span). are_within (length text) ss ≡ true) pushed within,
+      subst (λ (ss : List Span). AreMarked text ss) pushed marked,
     )
 
 pub returns-in-Fault : goal.returns-in-Fault

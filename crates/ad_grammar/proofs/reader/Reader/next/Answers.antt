@@ -6,18 +6,15 @@ use Rattle.ad_grammar.proofs.WordLemmas.{spelled-at, marked-front, unmarked-fron
 use Rattle.ad_grammar.proofs.reader.Reader.next.Goals as goal
 
 pub returns-then-self-len : goal.returns-then-self-len
-returns-then-self-len c =
-    sym (ap front (none-behind c.args.self.now.marks.items c.args.self.now.tokens c.args.self.now.at (omega (arith, c.if-self-len.true, c.len.ensures))))
+returns-then-self-len c = sym (ap front (none-behind c.args.self.now.tokens c.args.self.now.at (omega (arith, c.if-self-len.true, c.len.ensures.value))))
 
 pub unmarked_word-requires : goal.unmarked_word-requires
-unmarked_word-requires c = let x = c.index.ensures in let y = c.in-None.is in
-    ∥∥₁_map c.args.self.now.spelled (λ are. spelled-at c.args.self.now.tokens c.args.self.now.at (lexeme c.at.result) c.at.ensures are)
+unmarked_word-requires c = ∥∥₁_map c.args.self.now.spelled (λ are. spelled-at c.args.self.now.tokens c.args.self.now.at (lexeme c.at.result) c.at.ensures are)
 
 pub returns-in-Some : goal.returns-in-Some
-returns-in-Some c =
-    sym (marked-front c.args.self.now.marks.items c.args.self.now.tokens c.args.self.now.at c.index.result.now c.in-Some.mark c.args.self.now.paired (omega (arith, c.if-self-len.false, c.len.ensures)) (sym c.index.ensures ∙ c.in-Some.is))
+returns-in-Some c = sym (marked-front c.args.self.now.tokens c.args.self.now.at c.in-Some.mark (c.mark.ensures ∙ ap Some c.in-Some.is))
 
 pub returns-in_ok-unmarked_word-in-None : goal.returns-in_ok-unmarked_word-in-None
 returns-in_ok-unmarked_word-in-None c =
     ap Some c.in_ok-unmarked_word-in-None.ensures
-    ∙ sym (unmarked-front c.args.self.now.marks.items c.args.self.now.tokens c.args.self.now.at c.index.result.now (lexeme c.at.result) (omega (arith, c.if-self-len.false, c.len.ensures)) (sym c.index.ensures ∙ c.in-None.is) c.at.ensures)
+    ∙ sym (unmarked-front c.args.self.now.tokens c.args.self.now.at (lexeme c.at.result) (c.mark.ensures ∙ ap Some c.in-None.is) c.at.ensures)

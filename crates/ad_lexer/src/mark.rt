@@ -1,12 +1,61 @@
-// The marks that symbols spell.
+// The marks that tokens are.
 ghost use Rattle.std.specs.Prelude.{◌≡◌, ◌∷◌, []};
-ghost use Rattle.ad_grammar.specs.Words.{marks, meaning_of};
+ghost use Rattle.pool_text.specs.Folding.{folded};
+ghost use Rattle.ad_lexer.specs.Marks.{mark_of_kind, mark_words, marks, meaning_of};
 
-use crate::mark::Mark;
+use crate::token::TokenKind;
 use pool_text::BinOp;
 
+/// What a token is that is a symbol, or one of the words `is` and `isnt`. A `Binary` mark stands between two operands;
+/// `+` and `-` may also stand before one.
+#[derive(Clone, Copy, PartialEq, Eq)]
+pub enum Mark {
+    OpenParen,
+    CloseParen,
+    OpenBracket,
+    CloseBracket,
+    OpenBrace,
+    CloseBrace,
+    Comma,
+    Semicolon,
+    Dot,
+    Assign,
+    Question,
+    Colon,
+    And,
+    Or,
+    Not,
+    Complement,
+    Binary(BinOp),
+}
+
+/// The mark that a token of the kind with these bytes is.
+#[inline(always)]
+pub(crate) fn mark_of(kind: TokenKind, text: &[u8]) -> Option<Mark>
+    ensures { result ≡ mark_of_kind kind text.now }
+{
+    match kind {
+        TokenKind::Symbol => mark_of_symbol(text),
+        TokenKind::Reserved => mark_of_reserved(text),
+        _ => None,
+    }
+}
+
+/// `is` and `isnt` are operators.
+fn mark_of_reserved(text: &[u8]) -> Option<Mark>
+    ensures { result ≡ meaning_of mark_words (folded text.now) }
+{
+    if text.eq_ignore_ascii_case(b"is") {
+        Some(Mark::Binary(BinOp::Same))
+    } else if text.eq_ignore_ascii_case(b"isnt") {
+        Some(Mark::Binary(BinOp::NotSame))
+    } else {
+        None
+    }
+}
+
 /// The mark that the bytes spell. `None` exactly where they are no symbol.
-pub fn mark_of(text: &[u8]) -> Option<Mark>
+fn mark_of_symbol(text: &[u8]) -> Option<Mark>
     ensures { result ≡ meaning_of marks text.now }
 {
     match text {

@@ -25,14 +25,14 @@ pub struct Reader<'a> {
 }
 
 impl<'a> Reader<'a> {
-    ghost use Rattle.std.specs.Prelude.{◌<◌, ◌∷◌, ◌^◌, ℕ, List, drop, map, option_map, Some, None, Ok, Err, IfOk, OnOk};
+    ghost use Rattle.std.specs.Prelude.{◌<◌, ◌∷◌, ◌^◌, ℕ, List, drop, option_map, Some, None, Ok, Err, IfOk, OnOk};
     ghost use Rattle.std.specs.Bool.{Decides};
     ghost use Rattle.ad_grammar.specs.Levels.{precedence_at};
     ghost use Rattle.ad_grammar.specs.Meaning.{meaning};
     ghost use Rattle.ad_grammar.specs.Nesting.{nests_too_deep};
     ghost use Rattle.ad_grammar.specs.Rules.{name_at, infix_at};
     ghost use Rattle.ad_grammar.specs.Steps.{left, prefix_at, IsLone, Takes, Gives, Finds, Continues};
-    ghost use Rattle.ad_grammar.specs.HeldMarks.{front, front_mark, mark_in, ends_at};
+    ghost use Rattle.ad_grammar.specs.HeldMarks.{front, front_mark, ends_at};
     ghost use Rattle.ad_grammar.specs.Words.{Word as MeantWord, mark as mark_word, words};
     ghost use Rattle.pool_text.specs.declared.language.Lit.{Lit as MeantLit};
     ghost use Rattle.ad_grammar.specs.declared.stop.Stop.{Stop};

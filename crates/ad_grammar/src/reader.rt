@@ -38,11 +38,11 @@ impl<'a> Reader<'a> {
     ghost use Rattle.ad_grammar.specs.declared.stop.Stop.{Stop};
 
     /// The place in front of the words of these tokens.
-    pub fn new(alloc: Global, tokens: Tokens<'a>) -> Result<Reader<'a>, OutOfMemory>
+    pub fn new(tokens: Tokens<'a>) -> Reader<'a>
         requires { AreSpelled tokens }
-        ensures { IfOk result (λ reader. left reader ≡ words tokens.entry) }
+        ensures { left result ≡ words tokens.entry }
     {
-        Ok(Reader { tokens, at: 0 })
+        Reader { tokens, at: 0 }
     }
 
     /// Whether after some word more than 130 brackets and question marks are open.

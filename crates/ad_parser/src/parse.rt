@@ -76,7 +76,7 @@ fn shallow_reader<'a>(alloc: Global, text: &'a [u8]) -> Result<Reader<'a>, Parse
     ensures err { IfErr result (λ fault. IsEarlyFault text.now fault) }
 {
     let tokens = lex(alloc, text)?;
-    let reader = Reader::new(alloc, tokens)?;
+    let reader = Reader::new(tokens);
     if reader.nests_too_deep() {
         return Err(ParseFault::Nesting);
     }

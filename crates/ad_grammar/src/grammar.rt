@@ -13,6 +13,7 @@ ghost use Rattle.ad_grammar.specs.Words.{mark as mark_word};
 use crate::phrase::{attribute, defined, finished, lone, selection, worded};
 use crate::reader::Reader;
 use crate::stop::Stop;
+use ad_lexer::Mark;
 use ad_builder::{Instruction, Machine};
 use ad_tree::Scope;
 use pool_text::{OutOfMemory, UnOp};

@@ -1,5 +1,5 @@
 // How many constructs are open at once.
-ghost use Rattle.std.specs.Prelude.{◌≡◌, ◌≤◌, drop, length};
+ghost use Rattle.std.specs.Prelude.{◌≡◌, true, false, None, IsSome};
 ghost use Rattle.ad_grammar.specs.Nesting.{nests_too_deep};
 ghost use Rattle.ad_grammar.specs.HeldMarks.{mark_in, IsTurn};
 ghost use Rattle.ad_grammar.specs.Words.{Word as MeantWord, words};
@@ -7,6 +7,9 @@ ghost use Rattle.ad_grammar.specs.Words.{Word as MeantWord, words};
 use ad_lexer::{Mark, Tokens};
 
 const NESTING_LIMIT: usize = 130;
+
+/// How many words are looked at to tell how many elements a list has.
+const LOOKED_AHEAD: usize = 64;
 
 /// What a word does with constructs.
 #[derive(Clone, Copy)]
@@ -16,18 +19,22 @@ pub enum Turn {
     Neither,
 }
 
-/// Whether after some word from place `from` on more constructs are open than the limit. The words that aren't marks open
-/// and close none.
-pub fn nest_too_deep(tokens: &Tokens<'_>, from: usize) -> bool
-    requires { from ≤ length tokens.now }
-    ensures { result ≡ nests_too_deep (drop from (words tokens.now)) }
+/// How many definitions an ad has, as the semicolons in its own brackets tell, so that there is room for them at once; nothing
+/// else rests on the number. `None` exactly where after some word more constructs are open than the limit. The words that
+/// aren't marks open and close none.
+pub fn definitions_within(tokens: &Tokens<'_>) -> Option<usize>
+    ensures some { IsSome result → nests_too_deep (words tokens.now) ≡ false }
+    ensures none { result ≡ None → nests_too_deep (words tokens.now) ≡ true }
 {
+    let mut definitions: usize = 1;
     let mut room = NESTING_LIMIT;
-    for i in from..tokens.len() {
-        match turn_of(tokens.mark(i)) {
+    for i in 0..tokens.len() {
+        let mark = tokens.mark(i);
+        definitions = definitions.saturating_add(definitions_ended(room, mark));
+        match turn_of(mark) {
             Turn::Opens => {
                 if room == 0 {
-                    return true;
+                    return None;
                 }
                 room -= 1;
             }
@@ -35,9 +42,41 @@ pub fn nest_too_deep(tokens: &Tokens<'_>, from: usize) -> bool
             Turn::Neither => {}
         }
     }
-    false
+    Some(definitions)
 }
 
+/// How many definitions of the first brackets end at a mark, where so many constructs may still be opened.
+#[inline(always)]
+fn definitions_ended(room: usize, mark: Option<Mark>) -> usize {
+    if mark == Some(Mark::Semicolon) && room == NESTING_LIMIT - 1 {
+        1
+    } else {
+        0
+    }
+}
+
+/// How many elements stand before the closing mark of what was opened before a place, as far as the next words tell, so that
+/// there is room for them at once. Nothing else rests on it.
+pub fn elements_ahead(tokens: &Tokens<'_>, from: usize) -> usize {
+    let last = tokens.len().min(from.saturating_add(LOOKED_AHEAD));
+    let mut elements: usize = 0;
+    let mut open: usize = 0;
+    for i in from..last {
+        let mark = tokens.mark(i);
+        match turn_of(mark) {
+            Turn::Opens => open = open.saturating_add(1),
+            Turn::Closes if open == 0 => break,
+            Turn::Closes => open -= 1,
+            Turn::Neither => {}
+        }
+        if open == 0 && (elements == 0 || mark == Some(Mark::Comma)) {
+            elements = elements.saturating_add(1);
+        }
+    }
+    elements
+}
+
+#[inline]
 pub fn turn_of(mark: Option<Mark>) -> Turn
     ensures { (w : MeantWord) → mark_in w ≡ mark → IsTurn result w }
 {

@@ -44,7 +44,7 @@ fn whole_ad(alloc: Global, reader: &mut Reader<'_>) -> Result<Machine, Stop>
 {
     reader.expect(Mark::OpenBracket)?;
     let fuel = reader.count() + 1;
-    let mut machine = Machine::of_ad(alloc, reader.definitions_ahead())?;
+    let mut machine = Machine::of_ad(alloc, reader.room())?;
     definitions(alloc, reader, &mut machine, fuel)?;
     if reader.count() > 0 {
         return Err(Stop::Grammar);

@@ -2,7 +2,7 @@
 ghost use Rattle.std.specs.Prelude.{◌≡◌, ◌≤◌, length};
 ghost use Rattle.ad_grammar.specs.Meaning.{AreSpelled};
 
-use crate::nesting::{Turn, nest_too_deep, turn_of};
+use crate::nesting::{definitions_within, elements_ahead};
 use crate::operators::{ends, infix_of, prefix_of};
 use crate::stop::Stop;
 use crate::word::{Word, unmarked_word};
@@ -11,21 +11,19 @@ use ad_lexer::{Mark, Tokens};
 use pool_text::{Lit, OutOfMemory, Text, UnOp};
 use std::alloc::Global;
 
-/// How many words are looked at to tell how many elements a list has.
-const LOOKED_AHEAD: usize = 64;
-
 /// The words of a text, from a place on. A token is made a word when it is taken; the token itself tells which mark it is,
 /// since the rules look at the next one many times.
 #[derive(Drop)]
 pub struct Reader<'a> {
     tokens: Tokens<'a>,
     at: usize,
+    definitions: usize,
     ghost spelled: { ∥ AreSpelled tokens ∥₁ },
     ghost within: { at ≤ length tokens },
 }
 
 impl<'a> Reader<'a> {
-    ghost use Rattle.std.specs.Prelude.{◌<◌, ◌∷◌, ◌^◌, ℕ, List, drop, option_map, Some, None, Ok, Err, IfOk, OnOk};
+    ghost use Rattle.std.specs.Prelude.{◌<◌, ◌∷◌, ◌^◌, ℕ, List, drop, option_map, Some, None, Ok, Err, IfOk, OnOk, IfSome, true, false};
     ghost use Rattle.std.specs.Bool.{Decides};
     ghost use Rattle.ad_grammar.specs.Levels.{precedence_at};
     ghost use Rattle.ad_grammar.specs.Meaning.{meaning};
@@ -37,19 +35,19 @@ impl<'a> Reader<'a> {
     ghost use Rattle.pool_text.specs.declared.language.Lit.{Lit as MeantLit};
     ghost use Rattle.ad_grammar.specs.declared.stop.Stop.{Stop};
 
-    /// The place in front of the words of these tokens.
-    pub fn new(tokens: Tokens<'a>) -> Reader<'a>
+    /// The place in front of the words of these tokens. `None` exactly where after some word more than 130 brackets and
+    /// question marks are open.
+    pub fn new(tokens: Tokens<'a>) -> Option<Reader<'a>>
         requires { AreSpelled tokens }
-        ensures { left result ≡ words tokens.entry }
+        ensures some { IfSome result (λ reader. (left reader ≡ words tokens.entry) × (nests_too_deep (words tokens.entry) ≡ false)) }
+        ensures none { result ≡ None → nests_too_deep (words tokens.entry) ≡ true }
     {
-        Reader { tokens, at: 0 }
-    }
-
-    /// Whether after some word more than 130 brackets and question marks are open.
-    pub fn nests_too_deep(&self) -> bool
-        ensures { result ≡ nests_too_deep (left self.now) }
-    {
-        nest_too_deep(&self.tokens, self.at)
+        let definitions = definitions_within(&tokens)?;
+        Some(Reader {
+            tokens,
+            at: 0,
+            definitions,
+        })
     }
 
     /// How many words are left.
@@ -236,41 +234,13 @@ impl<'a> Reader<'a> {
         Ok(!self.takes(Mark::CloseBracket))
     }
 
-    /// How many elements stand before the closing mark of what was opened last, as far as the next words tell, so that there
-    /// is room for them at once. Nothing else rests on it.
+    /// How many elements stand before the closing mark of what was opened last, so far as the next words tell.
     pub(crate) fn elements_ahead(&self) -> usize {
-        let last = self.marks.len().min(self.at.saturating_add(LOOKED_AHEAD));
-        let mut elements: usize = 0;
-        let mut open: usize = 0;
-        for mark in &self.marks[self.at..last] {
-            match turn_of(*mark) {
-                Turn::Opens => open = open.saturating_add(1),
-                Turn::Closes if open == 0 => break,
-                Turn::Closes => open -= 1,
-                Turn::Neither => {}
-            }
-            if open == 0 && (elements == 0 || *mark == Some(Mark::Comma)) {
-                elements = elements.saturating_add(1);
-            }
-        }
-        elements
+        elements_ahead(&self.tokens, self.at)
     }
 
-    /// How many definitions an ad has behind its opening mark, so that there is room for them at once. Nothing else rests on
-    /// it.
-    pub(crate) fn definitions_ahead(&self) -> usize {
-        let mut definitions: usize = 1;
-        let mut open: usize = 0;
-        for mark in &self.marks[self.at..] {
-            match turn_of(*mark) {
-                Turn::Opens => open = open.saturating_add(1),
-                Turn::Closes => open = open.saturating_sub(1),
-                Turn::Neither if open == 0 && *mark == Some(Mark::Semicolon) => {
-                    definitions = definitions.saturating_add(1);
-                }
-                Turn::Neither => {}
-            }
-        }
-        definitions
+    /// How many definitions an ad has at the most.
+    pub(crate) fn room(&self) -> usize {
+        self.definitions
     }
 }

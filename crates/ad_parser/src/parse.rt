@@ -76,11 +76,7 @@ fn shallow_reader<'a>(alloc: Global, text: &'a [u8]) -> Result<Reader<'a>, Parse
     ensures err { IfErr result (λ fault. IsEarlyFault text.now fault) }
 {
     let tokens = lex(alloc, text)?;
-    let reader = Reader::new(tokens);
-    if reader.nests_too_deep() {
-        return Err(ParseFault::Nesting);
-    }
-    Ok(reader)
+    Reader::new(tokens).ok_or(ParseFault::Nesting)
 }
 
 /// Tests how high the tree of a machine is, and how many frames and definitions it spells. An expression stands in a

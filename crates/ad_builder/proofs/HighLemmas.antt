@@ -1,10 +1,10 @@
 -- A tree that is too high stays part of a tree that is, whatever is carried out.
-use Rattle.std.proofs.Common.{◌≡◌, ℕ, zero, suc, ◌+◌, ◌<◌, ◌≤◌, max, ◌⊎◌, List, [], ◌∷◌, inl, inr, refl, arith}
-use Rattle.ad_tree.specs.Inline.{Inline, Inlines, shape, inner, end, next, Defs, no_defs, def, height, highest, highest_def}
+use Rattle.std.proofs.Common.{◌≡◌, ℕ, ◌<◌, ◌≤◌, ◌⊎◌, List, [], ◌∷◌, inl, inr, arith}
+use Rattle.ad_tree.specs.Inline.{Inline, shape, inner, height}
 use Rattle.ad_tree.specs.Tree.{all, any, unary, select, subscript, choice}
 use Rattle.ad_builder.specs.Carried.{IsHigh}
-use Rattle.ad_builder.specs.Machine.{top, below, step, defined_last, with_element, with_definition}
-use Rattle.ad_builder.specs.Shapes.{over_one, over_two, over_three, followed_by, joined}
+use Rattle.ad_builder.specs.Machine.{top, below, step, with_element, with_definition}
+use Rattle.ad_builder.specs.Shapes.{over_one, over_two, over_three, joined}
 use Rattle.ad_builder.specs.Sizes.{tallest_built}
 use Rattle.ad_builder.specs.declared.instruction.Infix.{Infix}
 use Rattle.ad_builder.specs.declared.instruction.Infix.TheVariants as infixes

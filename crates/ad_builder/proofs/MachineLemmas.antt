@@ -1,12 +1,12 @@
 -- What instructions make of a stack, one after another, and what a machine keeps of it.
-use Rattle.std.proofs.Common.{◌≡◌, ℕ, zero, suc, ◌+◌, ◌<◌, ◌≤◌, nat_lt, min, Bool, true, false, List, [], ◌∷◌, ◌++◌, refl, sym, subst, ap, ◌∙◌, add-one, arith}
+use Rattle.std.proofs.Common.{◌≡◌, ℕ, zero, suc, ◌+◌, nat_lt, min, Bool, true, false, List, [], ◌∷◌, ◌++◌, refl, sym, subst, ap, ◌∙◌, add-one, arith}
 use Rattle.std.proofs.lemmas.Bool.Decides.{nat_tests}
 use Rattle.ad_tree.specs.Inline.{Inline, height, count, definitions}
 use Rattle.ad_builder.specs.Builds.{Holds}
 use Rattle.ad_builder.specs.Carried.{IsHigh, IsCarried}
 use Rattle.ad_builder.specs.Counts.{tallest_measured, counting_limit, AreCounted}
 use Rattle.ad_builder.specs.Machine.{top, below, step, run, stack, chosen}
-use Rattle.ad_builder.specs.Sizes.{tallest_built, IsSize}
+use Rattle.ad_builder.specs.Sizes.{IsSize}
 use Rattle.ad_builder.specs.declared.builder.Builder.{Builder}
 use Rattle.ad_builder.specs.declared.instruction.Instruction.{Instruction}
 use Rattle.ad_builder.specs.declared.instruction.Instruction.TheVariants as instructions
@@ -42,10 +42,10 @@ module _ (is_ad : Bool) {is_high : Bool} (old new : Builder) (is js : List Instr
       let held : Holds is_ad new st = carried (subst (λ b. IsCarried is_ad b old (stack is)) low h).0 in
       let is_height = tall st held in
       let by : (b : Bool) → nat_lt 64 n ≡ b → IsCarried is_ad b new st =
-          λ b. elim b as (λ a. nat_lt 64 n ≡ a → IsCarried is_ad a new st) [
-            | true ↦ λ test. top-high st (grind (arith, nat_tests))
-            | false ↦ λ test. (held, grind (arith, nat_tests))
-          ] in
+      λ b. elim b as (λ a. nat_lt 64 n ≡ a → IsCarried is_ad a new st) [
+        | true ↦ λ test. top-high st (grind (arith, nat_tests))
+        | false ↦ λ test. (held, grind (arith, nat_tests))
+      ] in
       subst (λ s. IsCarried is_ad (nat_lt 64 n) new s) (sym (stack-next is js i more)) (by (nat_lt 64 n) refl)
 
 -- ---- the size of the only tree

@@ -1,5 +1,5 @@
 -- What the numbers of parts tell of a whole.
-use Rattle.std.proofs.Common.{◌≡◌, ℕ, suc, ◌+◌, min, max, List, [], ◌∷◌, refl, sym, ◌∙◌, arith}
+use Rattle.std.proofs.Common.{◌≡◌, ℕ, ◌+◌, min, max, List, [], ◌∷◌, refl, sym, ◌∙◌, arith}
 use Rattle.ad_tree.specs.Inline.{Inline, Inlines, shape, inner, end, next, Defs, no_defs, def, height, highest, highest_def}
 use Rattle.ad_tree.specs.Tree.{Label, all, any, list}
 use Rattle.ad_builder.specs.Machine.{top, below, defined_last, with_element, with_definition}

@@ -1,5 +1,5 @@
 -- What a machine keeps of its stack.
-use Rattle.std.specs.Prelude.{ℕ, ◌<◌, ◌≤◌, ◌⊎◌, Bool, true, false, List, [], ◌∷◌}
+use Rattle.std.specs.Prelude.{◌<◌, ◌≤◌, ◌⊎◌, Bool, true, false, List, [], ◌∷◌}
 use Rattle.ad_tree.specs.Inline.{Inline, height}
 use Rattle.ad_builder.specs.Builds.{Holds}
 use Rattle.ad_builder.specs.Machine.{top}

@@ -1,5 +1,5 @@
 -- What a rule leaves on a stack.
-use Rattle.std.proofs.Common.{refl, ◌≡◌, ℕ, zero, suc, ◌+◌, List, [], ◌∷◌, None, Some, ap, sym, ◌∙◌, add-one}
+use Rattle.std.proofs.Common.{refl, ◌≡◌, ℕ, zero, suc, ◌+◌, List, ◌∷◌, None, Some, ap, sym, ◌∙◌, add-one}
 use Rattle.ad_tree.specs.Inline.{Inline, Inlines, Defs, shape, inner, end, next, no_defs, def}
 use Rattle.ad_tree.specs.Tree.{Label, choice}
 use Rattle.ad_builder.specs.Machine.{top, below, chosen, defined_last, with_element, with_elements, with_definition, with_definitions}

@@ -3,8 +3,8 @@ ghost use Rattle.std.specs.Prelude.{◌≡◌};
 ghost use Rattle.ad_grammar.specs.Operators.{infix_of, precedence, prefix_of};
 ghost use Rattle.ad_grammar.specs.HeldMarks.{ends};
 
-use ad_lexer::Mark;
 use ad_builder::Infix;
+use ad_lexer::Mark;
 use pool_text::{BinOp, UnOp};
 
 /// The operator that a mark is between two operands, and its precedence.

@@ -8,11 +8,11 @@ ghost use Rattle.ad_grammar.specs.Rules.{expression, plain_at, primary};
 ghost use Rattle.ad_grammar.specs.Steps.{left, Begins, Continues, Gives, Puts, attribute_at, defined_at, reference, selected};
 ghost use Rattle.ad_grammar.specs.Words.{scope_of};
 
-use ad_lexer::Mark;
 use crate::reader::Reader;
 use crate::stop::Stop;
 use crate::word::Word;
 use ad_builder::{Instruction, Machine};
+use ad_lexer::Mark;
 use ad_tree::Scope;
 use pool_text::{OutOfMemory, Text};
 use std::alloc::Global;

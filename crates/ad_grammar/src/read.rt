@@ -4,10 +4,10 @@ ghost use Rattle.ad_grammar.specs.Rules.{parsed_expr, parsed_ad};
 ghost use Rattle.ad_grammar.specs.Steps.{left};
 
 use crate::grammar::{definitions, expression};
-use ad_lexer::Mark;
 use crate::reader::Reader;
 use crate::stop::Stop;
 use ad_builder::Machine;
+use ad_lexer::Mark;
 use std::alloc::Global;
 
 /// The machine that has built words that are an expression. `Grammar` exactly where they are none.

@@ -11,6 +11,9 @@ use ad_lexer::{Mark, Tokens};
 use pool_text::{Lit, OutOfMemory, Text, UnOp};
 use std::alloc::Global;
 
+/// No ad with more definitions is within the limits of a parse.
+const MOST_ROOM: usize = 1_024;
+
 /// The words of a text, from a place on. A token is made a word when it is taken; the token itself tells which mark it is,
 /// since the rules look at the next one many times.
 #[derive(Drop)]
@@ -239,8 +242,8 @@ impl<'a> Reader<'a> {
         elements_ahead(&self.tokens, self.at)
     }
 
-    /// How many definitions an ad has at the most.
+    /// How many definitions an ad may have, so that there is room for them at once.
     pub(crate) fn room(&self) -> usize {
-        self.definitions
+        self.definitions.min(MOST_ROOM)
     }
 }

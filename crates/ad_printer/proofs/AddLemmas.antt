@@ -5,7 +5,7 @@ use Rattle.std.proofs.lemmas.Option.{slice_get_past}
 use Rattle.ad_lexer.specs.Tokens.{Item, blank, token, bytes_of}
 use Rattle.ad_lexer.specs.declared.token.TokenKind.TheVariants as kinds
 use Rattle.ad_tree.specs.Frames.{Frame, attributes_in, attributes_at}
-use Rattle.ad_tree.specs.Inline.{Inline, inner, Defs, no_defs, inlined_all, inside, opened, defs_of}
+use Rattle.ad_tree.specs.Inline.{inner, Defs, no_defs, inlined_all, inside, opened, defs_of}
 use Rattle.ad_tree.specs.Tree.{Tree, node, all, any, call, list, pack, size}
 use Rattle.ad_tree.proofs.Measures.{attributes_size, attributes_size-at, weight, weight-at}
 use Rattle.ad_printer.specs.Pieces.{text_of, space, symbol, spaced, then_space, behind, divided, enclosed}

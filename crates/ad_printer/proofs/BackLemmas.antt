@@ -1,15 +1,15 @@
 -- The printed text of a tree that a parse can give spells that tree, so what a parse answered is read back from its text.
-use Rattle.std.proofs.Common.{◌≡◌, ℕ, ◌*◌, ◌≤◌, false, List, [], ◌∷◌, Result, Ok, Err, refl, sym, ◌∙◌, ap, subst, arith, append-nil}
+use Rattle.std.proofs.Common.{◌≡◌, ℕ, ◌≤◌, false, List, [], ◌∷◌, Result, Ok, Err, refl, sym, ◌∙◌, ap, subst, arith, append-nil}
 use Rattle.ad_lexer.specs.Tokens.{Divides, lexemes}
 use Rattle.ad_tree.specs.declared.ad.Ad.{Ad}
 use Rattle.ad_tree.specs.declared.phrase.Phrase.{Phrase}
 use Rattle.ad_tree.specs.Ad.{ad_frames}
 use Rattle.ad_tree.specs.Frames.{empty_frame}
-use Rattle.ad_tree.specs.Inline.{Inline, Defs, inner, height, frames, number, spelled, spelled_tree, settled, ad_of, phrase_of, phrase_tree, opened}
+use Rattle.ad_tree.specs.Inline.{Inline, Defs, inner, height, frames, number, spelled, spelled_tree, settled, ad_of}
 use Rattle.ad_tree.specs.Tree.{tree}
 use Rattle.ad_tree.proofs.SpellingLemmas.{settled-settled}
 use Rattle.ad_parser.specs.declared.fault.ParseFault.{ParseFault}
-use Rattle.ad_parser.specs.Answers.{HasWords, Spells, IsWithin, frames_of_expr, frames_of_ad, AnswersAd, AnswersExpr}
+use Rattle.ad_parser.specs.Answers.{HasWords, Spells, frames_of_expr, frames_of_ad, AnswersAd, AnswersExpr}
 use Rattle.ad_grammar.specs.Grammar.{IsExpr, IsRoot}
 use Rattle.ad_grammar.specs.Nesting.{nests_too_deep}
 use Rattle.ad_parser.specs.Limits.{height_limit}

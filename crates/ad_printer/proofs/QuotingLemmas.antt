@@ -1,9 +1,9 @@
 -- Bytes that stand between quotes as they are.
-use Rattle.std.proofs.Common.{◌≡◌, ℕ, zero, suc, ◌-◌, ◌≤◌, length, slice_index, append_assoc, take_all, Bool, true, false, not, eqb, ltb, ◌||◌, List, [], ◌∷◌, ◌++◌, map, take, drop, refl, sym, ◌∙◌, ap, inl, inr, arith}
+use Rattle.std.proofs.Common.{◌≡◌, ℕ, suc, ◌-◌, ◌≤◌, length, slice_index, append_assoc, take_all, true, false, eqb, ltb, ◌||◌, List, [], ◌∷◌, ◌++◌, map, take, drop, refl, sym, ◌∙◌, ap, inl, inr, arith}
 use Rattle.std.proofs.lemmas.Bool.{cases_Bool, or_parts, not-true}
 use Rattle.std.proofs.lemmas.Bool.Decides.{nat_tests}
 use Rattle.std.specs.List.{prefix_len}
-use Rattle.ad_lexer.specs.Quoted.{Letter, plain, spelling, spellings}
+use Rattle.ad_lexer.specs.Quoted.{plain, spelling, spellings}
 use Rattle.ad_printer.specs.Quotes.{letter_for}
 use Rattle.ad_printer.specs.Writing.{stands_plain}
 

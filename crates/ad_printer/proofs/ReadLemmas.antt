@@ -1,11 +1,11 @@
 -- What words read as by the grammar, by how loosely the tree that they spell binds.
-use Rattle.std.proofs.Common.{◌≡◌, ℕ, zero, suc, ◌+◌, ◌-◌, ◌<◌, ◌≤◌, Bool, true, false, leb, List, [], ◌∷◌, ◌++◌, codes, None, Some, refl, sym, ◌∙◌, ap, subst, arith, append_assoc, append-nil}
+use Rattle.std.proofs.Common.{◌≡◌, ℕ, zero, suc, ◌+◌, ◌-◌, ◌<◌, ◌≤◌, Bool, true, false, leb, List, [], ◌∷◌, ◌++◌, codes, Some, refl, sym, ◌∙◌, ap, subst, arith, append_assoc, append-nil}
 use Rattle.std.proofs.lemmas.Bool.{leb-true, true≢false}
 use Rattle.pool_text.specs.declared.language.BinOp.{BinOp}
 use Rattle.pool_text.specs.declared.language.BinOp.TheVariants as between
 use Rattle.pool_text.specs.declared.language.UnOp.{UnOp}
 use Rattle.pool_text.specs.declared.language.UnOp.TheVariants as before
-use Rattle.ad_lexer.specs.Tokens.{Item, token}
+use Rattle.ad_lexer.specs.Tokens.{Item}
 use Rattle.ad_lexer.specs.declared.token.TokenKind.TheVariants as kinds
 use Rattle.ad_tree.specs.Inline.{Inline, shape, inner, Inlines, end, next}
 use Rattle.ad_tree.specs.Tree.{Label, unary, binary, all, any}
@@ -15,7 +15,7 @@ use Rattle.ad_builder.specs.declared.instruction.Infix.{Infix}
 use Rattle.ad_builder.specs.declared.instruction.Infix.TheVariants as infixes
 use Rattle.ad_grammar.specs.Made.{begins_with_all, begins_with_any}
 use Rattle.ad_builder.specs.Shapes.{over_one, over_two, followed_by, joined}
-use Rattle.ad_grammar.specs.Operators.{precedence, infix_of, prefix_of}
+use Rattle.ad_grammar.specs.Operators.{precedence, infix_of}
 use Rattle.ad_grammar.specs.Words.{Word, plain, quoted, constant, mark, word_of_kind}
 use Rattle.ad_lexer.specs.declared.mark.Mark.{Mark}
 use Rattle.ad_lexer.specs.declared.mark.Mark.TheVariants as marks

@@ -1,6 +1,5 @@
 -- The words of every tree that a parse can give spell that tree.
-use Rattle.std.proofs.Common.{◌≡◌, ℕ, suc, ◌+◌, ◌≤◌, leb, List, [], ◌∷◌, ◌++◌, codes, refl, sym, ◌∙◌, ap, subst, arith, append_assoc, append-nil}
-use Rattle.ad_lexer.specs.Spelling.{Spells}
+use Rattle.std.proofs.Common.{◌≡◌, ℕ, ◌+◌, leb, List, [], ◌∷◌, ◌++◌, codes, refl, sym, ◌∙◌, ap, subst, arith, append-nil}
 use Rattle.ad_lexer.specs.Tokens.{Item, token}
 use Rattle.ad_lexer.specs.declared.token.TokenKind.TheVariants as kinds
 use Rattle.ad_tree.specs.Inline.{Inline, shape, inner, Inlines, end, next, Defs, no_defs, def}
@@ -15,9 +14,9 @@ use Rattle.ad_builder.specs.Shapes.{leaf, over_one, over_two, over_three}
 use Rattle.ad_grammar.specs.Operators.{precedence}
 use Rattle.ad_grammar.specs.Words.{Word, plain, constant, mark, word_of_kind}
 use Rattle.ad_lexer.specs.declared.mark.Mark.TheVariants as marks
-use Rattle.ad_printer.specs.Pieces.{space, symbol, spaced, then_space, name_piece, scoped, literal_piece, infix_bytes, behind, divided, enclosed}
+use Rattle.ad_printer.specs.Pieces.{space, symbol, spaced, then_space, name_piece, scoped, literal_piece, behind, divided, enclosed}
 use Rattle.ad_printer.specs.Printed.{label_precedence, loose, first_bound, other_bound, grouped, around, pieces, operands, definition_pieces}
-use Rattle.ad_printer.proofs.WordLemmas.{word_in, words_of, words_of-append, name_word, literal_word}
+use Rattle.ad_printer.proofs.WordLemmas.{words_of, words_of-append, name_word, literal_word}
 use Rattle.ad_printer.proofs.ReadLemmas.{ReadsAs, from_postfix, from_primary, from_expr, reads-by, no_scope-with, closed-words, part_reads, EachReads, unary_reads, spaced-words, binary_reads, all_reads, any_reads}
 
 -- ---- leaves

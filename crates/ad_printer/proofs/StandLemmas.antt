@@ -1,5 +1,5 @@
 -- Pieces stand side by side as the lexer's items: each stands before the text of those behind it.
-use Rattle.std.proofs.Common.{◌≡◌, ℕ, zero, suc, ◌+◌, ◌<◌, ◌≤◌, ◌^◌, Bool, true, false, not, eqb, ◌&&◌, ◌||◌, pos, negsuc, decimal, codes, List, [], ◌∷◌, ◌++◌, length, slice_index, refl, sym, ◌∙◌, ap, subst, inl, inr, arith, append_assoc, append-nil, IsUtf8}
+use Rattle.std.proofs.Common.{◌≡◌, ℕ, suc, ◌<◌, ◌≤◌, ◌^◌, Bool, true, false, not, eqb, pos, negsuc, decimal, codes, List, [], ◌∷◌, ◌++◌, slice_index, refl, sym, ◌∙◌, ap, subst, inl, inr, arith, append_assoc, append-nil, IsUtf8}
 use Rattle.std.proofs.lemmas.Bool.{cases_Bool, and_parts, or_right, true≢false}
 use Rattle.std.proofs.lemmas.Bool.Decides.{nat_tests}
 use Rattle.std.proofs.lemmas.Grind.{flat_map-append}
@@ -15,7 +15,7 @@ use Rattle.ad_lexer.specs.Alone.{Ends, ends_word, ends_integer, ends_symbol}
 use Rattle.ad_lexer.specs.Numbers.{is_hexadecimal}
 use Rattle.ad_lexer.specs.Spelling.{Spells}
 use Rattle.ad_lexer.specs.Symbols.{is_symbol}
-use Rattle.ad_lexer.specs.Tokens.{Item, blank, token, bytes_of, IsItem, IsToken, Divides}
+use Rattle.ad_lexer.specs.Tokens.{Item, token, bytes_of, IsItem, Divides}
 use Rattle.ad_lexer.specs.Words.{begins_word, is_word, is_word_byte, is_reserved}
 use Rattle.ad_lexer.specs.declared.token.TokenKind.{TokenKind}
 use Rattle.ad_lexer.specs.declared.token.TokenKind.TheVariants as kinds

@@ -1,5 +1,5 @@
 -- The pieces of every tree that a parse can give stand side by side.
-use Rattle.std.proofs.Common.{◌≡◌, ℕ, suc, ◌+◌, ◌<◌, ◌≤◌, Bool, true, false, eqb, leb, List, [], ◌∷◌, ◌++◌, codes, slice_index, refl, sym, ap, subst, arith, append_assoc, IsUtf8}
+use Rattle.std.proofs.Common.{◌≡◌, ℕ, suc, ◌+◌, ◌<◌, ◌≤◌, Bool, true, false, eqb, leb, List, [], ◌∷◌, ◌++◌, codes, slice_index, refl, arith, append_assoc, IsUtf8}
 use Rattle.std.proofs.lemmas.Bool.{leb-true}
 use Rattle.std.proofs.lemmas.Bool.Decides.{nat_tests}
 use Rattle.std.specs.Char.{is_ascii}
@@ -9,7 +9,7 @@ use Rattle.ad_lexer.specs.Alone.{ends_symbol}
 use Rattle.ad_lexer.specs.Spelling.{Spells}
 use Rattle.ad_lexer.specs.Symbols.{is_symbol}
 use Rattle.ad_lexer.specs.Tokens.{Item, token, bytes_of}
-use Rattle.ad_lexer.specs.Words.{is_word, is_word_byte}
+use Rattle.ad_lexer.specs.Words.{is_word_byte}
 use Rattle.ad_lexer.specs.declared.token.TokenKind.TheVariants as kinds
 use Rattle.ad_lexer.proofs.Runs.{all_weaker}
 use Rattle.ad_lexer.proofs.WordLemmas.{word_bytes}
@@ -19,7 +19,7 @@ use Rattle.ad_grammar.specs.Made.{IsNameText, IsNode, IsMade, AllMade, DefsMade}
 use Rattle.ad_grammar.specs.Operators.{precedence}
 use Rattle.ad_printer.specs.Pieces.{text_of, space, symbol, spaced, then_space, name_piece, prefix_bytes, infix_bytes, behind, divided, enclosed}
 use Rattle.ad_printer.specs.Printed.{label_precedence, loose, first_bound, other_bound, grouped, around, pieces, operands, definition_pieces}
-use Rattle.ad_printer.proofs.StandLemmas.{text-both, Stand, Stand-append, Ahead, ahead-of, ahead-less, ahead-any, Stands, ascii_utf8, put-token, put-space, no_equals, word_first, name_stands, literal_stands, put-selection, scoped_stands, Divider, spaced-divider, infix-divider, comma-divider, semicolon-divider, put-divided, begins-append, AllStand, row-stands}
+use Rattle.ad_printer.proofs.StandLemmas.{Stand, Stand-append, Ahead, ahead-of, ahead-less, ahead-any, Stands, ascii_utf8, put-token, put-space, no_equals, word_first, name_stands, literal_stands, put-selection, scoped_stands, Divider, spaced-divider, infix-divider, comma-divider, semicolon-divider, put-divided, begins-append, AllStand, row-stands}
 
 stands-less : (j k : ℕ) (items : List Item) → j ≤ k → Stands j items → Stands k items
 stands-less j k items less s = record { stand = λ after a. s.stand after (ahead-less j k after less a); begins = s.begins }

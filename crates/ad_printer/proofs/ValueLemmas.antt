@@ -1,6 +1,6 @@
 -- The texts of a list's elements, one after another.
-use Rattle.std.proofs.Common.{◌≡◌, ℕ, zero, suc, ◌+◌, List, [], ◌∷◌, ◌++◌, codes, drop, slice_get, Some, refl, sym, ◌∙◌, ap, append_assoc, add-one}
-use Rattle.ad_value.specs.Plain.{Plain, Plains, plains_of}
+use Rattle.std.proofs.Common.{◌≡◌, ℕ, zero, suc, ◌+◌, List, [], ◌∷◌, ◌++◌, codes, drop, slice_get, Some, sym, ◌∙◌, ap, append_assoc, add-one}
+use Rattle.ad_value.specs.Plain.{Plain, plains_of}
 use Rattle.ad_printer.specs.Values.{value_text, texts_behind}
 
 drop-at : (ps : List Plain) (i : ℕ) (p : Plain) → slice_get ps i ≡ Some p → drop i ps ≡ p ∷ drop (suc i) ps

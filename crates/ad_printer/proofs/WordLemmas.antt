@@ -1,15 +1,13 @@
 -- The words of pieces, and what the words of names and literals are.
-use Rattle.std.proofs.Common.{◌≡◌, ℕ, ◌+◌, ◌<◌, Bool, true, false, not, ◌&&◌, pos, negsuc, decimal, List, [], ◌∷◌, ◌++◌, length, map, Option, None, Some, refl, sym, ◌∙◌, ap, subst, inl, inr}
+use Rattle.std.proofs.Common.{◌≡◌, ℕ, ◌+◌, Bool, true, false, not, pos, negsuc, List, [], ◌∷◌, ◌++◌, length, Option, None, Some, refl, ap}
 use Rattle.std.specs.Prelude.{is_some}
-use Rattle.std.proofs.lemmas.Bool.{cases_Bool, and_parts, not-true}
+use Rattle.std.proofs.lemmas.Bool.{and_parts, not-true}
 use Rattle.std.proofs.lemmas.Grind.{flat_map-append}
 use Rattle.std.specs.List.{flat_map}
 use Rattle.pool_text.specs.declared.language.BinOp.{BinOp}
 use Rattle.pool_text.specs.declared.language.BinOp.TheVariants as between
 use Rattle.pool_text.specs.declared.language.Lit.{Lit}
 use Rattle.pool_text.specs.declared.language.Lit.TheVariants as literals
-use Rattle.ad_lexer.specs.Content.{content}
-use Rattle.ad_lexer.specs.Numbers.{value}
 use Rattle.ad_lexer.specs.Tokens.{Item, blank, token, lexemes}
 use Rattle.ad_lexer.specs.Words.{is_word, is_reserved}
 use Rattle.ad_lexer.specs.declared.token.TokenKind.TheVariants as kinds
@@ -17,7 +15,6 @@ use Rattle.ad_lexer.proofs.ContentLemmas.{quoted_content}
 use Rattle.ad_lexer.proofs.DecimalLemmas.{decimal_integer}
 use Rattle.ad_grammar.specs.Grammar.{IsName, plain_name, quoted_name, IsNoScope}
 use Rattle.ad_grammar.specs.Made.{IsNameText, IsWritten}
-use Rattle.ad_grammar.specs.Operators.{precedence}
 use Rattle.ad_grammar.specs.Words.{Word, plain, quoted, constant, mark, word_of_kind, words, scope_of}
 use Rattle.ad_lexer.specs.declared.mark.Mark.TheVariants.{Binary}
 use Rattle.ad_printer.specs.Pieces.{is_plain_name, name_piece, literal_piece, infix_bytes}

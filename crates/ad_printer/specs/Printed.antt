@@ -1,13 +1,12 @@
 -- The printed text of a spelled tree.
 use Rattle.std.specs.Prelude.{ℕ, ◌+◌, Bool, true, false, nat_le, List, [], ◌∷◌, ◌++◌, codes}
-use Rattle.pool_text.specs.declared.language.Lit.{Lit}
 use Rattle.pool_text.specs.declared.language.Lit.TheVariants.{Integer}
 use Rattle.ad_lexer.specs.Tokens.{Item, token}
 use Rattle.ad_lexer.specs.declared.token.TokenKind.TheVariants as kinds
 use Rattle.ad_tree.specs.Inline.{Inline, shape, inner, Inlines, end, next, Defs, no_defs, def}
 use Rattle.ad_tree.specs.Tree.{Label, literal, name, unary, binary, all, any, choice, select, subscript, call, list}
 use Rattle.ad_grammar.specs.Operators.{precedence}
-use Rattle.ad_printer.specs.Pieces.{text_of, space, symbol, spaced, then_space, name_piece, scoped, literal_piece, prefix_bytes, infix_bytes, divided, enclosed}
+use Rattle.ad_printer.specs.Pieces.{text_of, symbol, spaced, then_space, name_piece, scoped, literal_piece, prefix_bytes, infix_bytes, divided, enclosed}
 
 -- how loosely a node binds: 0 before a dot and all, 1 an integer, 2 an operator before its operand, then the operators
 -- between two operands, then `&&`, `||` and last `? :`

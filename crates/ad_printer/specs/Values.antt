@@ -1,5 +1,5 @@
 -- The printed text of a value.
-use Rattle.std.specs.Prelude.{ℕ, zero, suc, Bool, true, false, List, [], ◌∷◌, ◌++◌, length, codes, Option, None, Some}
+use Rattle.std.specs.Prelude.{ℕ, zero, suc, true, false, List, [], ◌++◌, length, codes, Option, None, Some}
 use Rattle.std.specs.Fmt.{signed_decimal}
 use Rattle.pool_text.specs.declared.language.AdPlace.{AdPlace}
 use Rattle.ad_tree.specs.Frames.{Frame}

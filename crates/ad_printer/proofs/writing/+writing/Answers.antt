@@ -1,4 +1,4 @@
-use Rattle.std.proofs.Common.{arith, ◌++◌, [], ◌∷◌, codes, Some, sym, ◌∙◌, ap, append-nil, length}
+use Rattle.std.proofs.Common.{arith, ◌++◌, [], ◌∷◌, codes, Some, sym, ◌∙◌, ap, append-nil}
 use Rattle.ad_lexer.specs.Tokens.{blank}
 use Rattle.ad_tree.specs.Ad.{ad_frames}
 use Rattle.ad_tree.specs.Frames.{attributes_at}

@@ -2,10 +2,10 @@
 use Rattle.std.proofs.Common.{◌≡◌, ℕ, ◌<◌, ◌≤◌, ◌⊎◌, List, [], ◌∷◌, inl, inr, arith}
 use Rattle.ad_tree.specs.Inline.{Inline, shape, inner, height}
 use Rattle.ad_tree.specs.Tree.{all, any, unary, select, subscript, choice}
-use Rattle.ad_builder.specs.Carried.{IsHigh}
+use Rattle.ad_builder.specs.Carried.{AreLow}
 use Rattle.ad_builder.specs.Machine.{top, below, step, with_element, with_definition}
 use Rattle.ad_builder.specs.Shapes.{over_one, over_two, over_three, joined}
-use Rattle.ad_builder.specs.Sizes.{tallest_built}
+use Rattle.ad_builder.specs.Sizes.{tallest_built, IsHigh}
 use Rattle.ad_builder.specs.declared.instruction.Infix.{Infix}
 use Rattle.ad_builder.specs.declared.instruction.Infix.TheVariants as infixes
 use Rattle.ad_builder.specs.declared.instruction.Instruction.{Instruction}
@@ -91,3 +91,34 @@ alone-high [] none h = absurd h
 alone-high (x ∷ []) none (inl tall) = tall
 alone-high (x ∷ []) none (inr h) = absurd h
 alone-high (x ∷ y ∷ st) none h = absurd cc
+
+-- ---- stacks without a tree that is too high
+
+below-low : (st : List Inline) → AreLow st → AreLow (below st)
+below-low [] h = tt
+below-low (x ∷ st) h = h.1
+
+-- what an instruction leaves has none, where its last tree isn't too high
+pub step-low : (i : Instruction) (st : List Inline) → AreLow st → height (top (step i st)) ≤ tallest_built → AreLow (step i st)
+step-low (instructions.Literal lit) st h low = (low, h)
+step-low (instructions.Name scope text) st h low = (low, h)
+step-low (instructions.Unary op) st h low = (low, below-low st h)
+step-low (instructions.Infix op) st h low = (low, below-low (below st) (below-low st h))
+step-low instructions.Choice st h low = (low, below-low (below (below st)) (below-low (below st) (below-low st h)))
+step-low (instructions.Select text) st h low = (low, below-low st h)
+step-low instructions.Subscript st h low = (low, below-low (below st) (below-low st h))
+step-low (instructions.List room) st h low = (low, h)
+step-low (instructions.Call text room) st h low = (low, h)
+step-low instructions.Element st h low = (low, below-low (below st) (below-low st h))
+step-low instructions.Ad st h low = (low, h)
+step-low (instructions.Define text) st h low = (low, below-low (below st) (below-low st h))
+step-low instructions.Close st h low = h
+
+pub top-low : (st : List Inline) → AreLow st → height (top st) ≤ tallest_built
+top-low [] h = omega arith
+top-low (x ∷ st) h = h.0
+
+pub low-not-high : (st : List Inline) → AreLow st → IsHigh st → ⊥
+low-not-high [] h high = high
+low-not-high (x ∷ st) h (inl tall) = omega (arith, h.0, tall)
+low-not-high (x ∷ st) h (inr high) = low-not-high st h.1 high

@@ -3,15 +3,15 @@ use Rattle.std.proofs.Common.{◌≡◌, ℕ, zero, suc, ◌+◌, nat_lt, min, B
 use Rattle.std.proofs.lemmas.Bool.Decides.{nat_tests}
 use Rattle.ad_tree.specs.Inline.{Inline, height, count, definitions}
 use Rattle.ad_builder.specs.Builds.{Holds}
-use Rattle.ad_builder.specs.Carried.{IsHigh, IsCarried}
+use Rattle.ad_builder.specs.Carried.{IsCarried}
 use Rattle.ad_builder.specs.Counts.{tallest_measured, counting_limit, AreCounted}
 use Rattle.ad_builder.specs.Machine.{top, below, step, run, stack, chosen}
-use Rattle.ad_builder.specs.Sizes.{IsSize}
+use Rattle.ad_builder.specs.Sizes.{IsHigh, IsSize}
 use Rattle.ad_builder.specs.declared.builder.Builder.{Builder}
 use Rattle.ad_builder.specs.declared.instruction.Instruction.{Instruction}
 use Rattle.ad_builder.specs.declared.instruction.Instruction.TheVariants as instructions
 use Rattle.ad_builder.specs.declared.size.Size.{Size}
-use Rattle.ad_builder.proofs.HighLemmas.{step-high, top-high, alone-high}
+use Rattle.ad_builder.proofs.HighLemmas.{step-high, step-low, top-high, top-low, low-not-high, alone-high}
 
 run-last : (is : List Instruction) (i : Instruction) (st : List Inline) → run (is ++ i ∷ []) st ≡ step i (run is st)
 run-last [] i st = refl
@@ -39,14 +39,19 @@ module _ (is_ad : Bool) {is_high : Bool} (old new : Builder) (is js : List Instr
       → ((st : List Inline) → Holds is_ad new st → n ≡ min tallest_measured (height (top st))) → IsCarried is_ad (nat_lt 64 n) new (stack js)
   goes-on n low carried tall =
       let st : List Inline = step i (stack is) in
-      let held : Holds is_ad new st = carried (subst (λ b. IsCarried is_ad b old (stack is)) low h).0 in
+      let was = subst (λ b. IsCarried is_ad b old (stack is)) low h in
+      let held : Holds is_ad new st = carried was.0 in
       let is_height = tall st held in
       let by : (b : Bool) → nat_lt 64 n ≡ b → IsCarried is_ad b new st =
       λ b. elim b as (λ a. nat_lt 64 n ≡ a → IsCarried is_ad a new st) [
         | true ↦ λ test. top-high st (grind (arith, nat_tests))
-        | false ↦ λ test. (held, grind (arith, nat_tests))
+        | false ↦ λ test. (held, step-low i (stack is) was.1 (grind (arith, nat_tests)))
       ] in
       subst (λ s. IsCarried is_ad (nat_lt 64 n) new s) (sym (stack-next is js i more)) (by (nat_lt 64 n) refl)
+
+-- a machine that builds has no tree that is too high
+pub builds-low : (is_ad : Bool) {is_high : Bool} (b : Builder) (st : List Inline) → IsCarried is_ad is_high b st → is_high ≡ false → IsHigh st → ⊥
+builds-low is_ad b st h low high = low-not-high st (subst (λ a. IsCarried is_ad a b st) low h).1 high
 
 -- ---- the size of the only tree
 
@@ -59,7 +64,7 @@ module _ (is_ad : Bool) (size : Size) (b : Builder) (st : List Inline) (alone : 
   pub sized : size.frames ≡ b.frames → size.definitions ≡ b.definitions → IsCarried is_ad size.is_high b st → IsSize size (top st)
   sized frames defs h = record {
     high = λ high. alone-high st alone (subst (λ a. IsCarried is_ad a b st) high h);
-    low = λ low. (subst (λ a. IsCarried is_ad a b st) low h).1;
+    low = λ low. top-low st (subst (λ a. IsCarried is_ad a b st) low h).1;
     frames = λ low. frames ∙ (counts st alone b.frames b.definitions (subst (λ a. IsCarried is_ad a b st) low h).0.counted).0;
     definitions = λ low. defs ∙ (counts st alone b.frames b.definitions (subst (λ a. IsCarried is_ad a b st) low h).0.counted).1;
   }

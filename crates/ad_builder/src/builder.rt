@@ -258,6 +258,10 @@ impl Builder {
         self.put(measure, Expr::Frame(frame))
     }
 
+    pub fn alloc(&self) -> Global {
+        self.alloc
+    }
+
     /// How many ad literals the trees have.
     pub fn frames(&self) -> u32
         ensures { result ≡ self.now.frames }

@@ -1,10 +1,10 @@
 // The machine.
-ghost use Rattle.std.specs.Prelude.{◌≡◌, ◌∷◌, [], Bool, IfOk, OnOk};
+ghost use Rattle.std.specs.Prelude.{◌≡◌, ◌∷◌, [], IfOk, IsOk, OnErr, OnOk};
 ghost use Rattle.ad_tree.specs.Ad.{ad_frames};
 ghost use Rattle.ad_tree.specs.Inline.{inner, no_defs, ad_of, phrase_of, phrase_tree};
 ghost use Rattle.ad_tree.specs.Tree.{tree};
 ghost use Rattle.ad_builder.specs.Machine.{stack, top, below, step, chosen};
-ghost use Rattle.ad_builder.specs.Sizes.{IsSize};
+ghost use Rattle.ad_builder.specs.Sizes.{IsHigh, IsSize};
 
 use crate::builder::Builder;
 use crate::history::History;
@@ -26,12 +26,11 @@ pub struct Machine {
     builder: Builder,
     is_ad: bool,
     is_high: bool,
-    is_spoiled: bool,
     history: History,
 }
 
 impl Model for Machine {
-    ghost use Rattle.std.specs.Prelude.{◌≡◌, List, false};
+    ghost use Rattle.std.specs.Prelude.{List};
     ghost use Rattle.ad_builder.specs.Carried.{IsCarried};
     ghost use Rattle.ad_builder.specs.Machine.{stack};
     ghost use Rattle.ad_builder.specs.declared.instruction.Instruction.{Instruction};
@@ -40,7 +39,7 @@ impl Model for Machine {
 
     ghost view = { λ m. m.history.instructions };
 
-    ghost invariant = { λ m. m.is_spoiled ≡ false → IsCarried m.is_ad m.is_high m.builder (stack m.history.instructions) };
+    ghost invariant = { λ m. IsCarried m.is_ad m.is_high m.builder (stack m.history.instructions) };
 }
 
 impl Machine {
@@ -52,7 +51,6 @@ impl Machine {
             builder: Builder::of_expression(alloc),
             is_ad: false,
             is_high: false,
-            is_spoiled: false,
             history: History::new(),
         }
     }
@@ -66,15 +64,17 @@ impl Machine {
             builder,
             is_ad: true,
             is_high: false,
-            is_spoiled: false,
             history: History::new().with(&Instruction::Ad),
         })
     }
 
-    /// Carries an instruction out.
+    /// Carries an instruction out. Where memory is wanting, the machine is emptied: what it was building may be in pieces. A
+    /// machine with a tree that is too high builds nothing, and so is refused no memory.
     #[inline(always)]
     pub fn push(&mut self, instruction: Instruction) -> Result<(), OutOfMemory>
-        ensures { OnOk result (stack self.new ≡ step instruction (stack self.old)) }
+        ensures ok { OnOk result (stack self.new ≡ step instruction (stack self.old)) }
+        ensures err { OnErr result (stack self.new ≡ []) }
+        ensures high { IsHigh (stack self.old) → IsOk result }
     {
         self.history = self.history.with(&instruction);
         if self.is_high {
@@ -87,7 +87,7 @@ impl Machine {
                 Ok(())
             }
             Err(error) => {
-                self.is_spoiled = true;
+                *self = Machine::of_expression(self.builder.alloc());
                 Err(error)
             }
         }
@@ -104,18 +104,15 @@ impl Machine {
     }
 
     /// How large the tree is that stands alone on the stack.
-    pub fn size(&self) -> Result<Size, OutOfMemory>
+    pub fn size(&self) -> Size
         requires { below (stack self.now) ≡ [] }
-        ensures { IfOk result (λ size. IsSize size (top (stack self.now))) }
+        ensures { IsSize result (top (stack self.now)) }
     {
-        if self.is_spoiled {
-            return Err(OutOfMemory);
-        }
-        Ok(Size {
+        Size {
             is_high: self.is_high,
             frames: self.builder.frames(),
             definitions: self.builder.definitions(),
-        })
+        }
     }
 
     /// The ad of the ad literal that stands alone on the stack of a machine for an ad.
@@ -126,10 +123,9 @@ impl Machine {
             builder,
             is_ad,
             is_high,
-            is_spoiled,
             ..
         } = self;
-        if !is_ad || is_high || is_spoiled {
+        if !is_ad || is_high {
             drop(builder);
             return Err(OutOfMemory);
         }
@@ -145,10 +141,9 @@ impl Machine {
             builder,
             is_ad,
             is_high,
-            is_spoiled,
             ..
         } = self;
-        if is_ad || is_high || is_spoiled {
+        if is_ad || is_high {
             drop(builder);
             return Err(OutOfMemory);
         }

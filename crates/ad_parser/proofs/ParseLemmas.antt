@@ -43,7 +43,7 @@ module _ (rule : List Word → Inline → Type 0) (frames : Inline → ℕ) (tex
   checked-fault faults.Depth is = (x, has, is)
   checked-fault faults.Frames is = (x, has, is.0, omega arith)
   checked-fault faults.Attributes is = (x, has, is.0, omega arith, is.2)
-  checked-fault faults.OutOfMemory is = tt
+  checked-fault faults.OutOfMemory is = absurd is
 
   pub checked-within : (done : Unit {0}) → IsChecked roots x (Ok done) → IsWithin frames x
   checked-within done is = record { low = is.0; few_frames = omega arith; few_definitions = is.2 }

@@ -30,5 +30,4 @@ IsChecked roots x (Ok done) = IsFit roots x
 IsChecked roots x (Err faults.Depth) = height_limit < height x
 IsChecked roots x (Err faults.Frames) = (height x ≤ height_limit) × (frame_limit < roots + count x)
 IsChecked roots x (Err faults.Attributes) = (height x ≤ height_limit) × (roots + count x ≤ frame_limit) × (definition_limit < definitions x)
-IsChecked roots x (Err faults.OutOfMemory) = Unit {0}
 IsChecked roots x (Err fault) = ⊥

@@ -86,7 +86,7 @@ fn check(machine: &Machine, roots: u32) -> Result<(), ParseFault>
     requires alone { below (stack machine.now) ≡ [] }
     ensures { IsChecked roots (top (stack machine.now)) result }
 {
-    let tree = machine.size()?;
+    let tree = machine.size();
     if tree.is_high {
         return Err(ParseFault::Depth);
     }

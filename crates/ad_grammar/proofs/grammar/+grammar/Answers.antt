@@ -151,8 +151,8 @@ operations-loop-turns-preserved t c =
     record {
       read = operations-more tight w k c.loop-turns.turns before (left c.loop-turns.reader) c.loop-turns.invariant.read
           c.loop-turns-test.true (left c.infix.new.self) c.in-Some.operator (c.in-Some.ensures.some c.in-Some.operator refl)
-          second after (left c.level.new.reader) on (right.ok c.in_ok-level.field-0 refl) c.in_ok-push.ensures;
-      rest = two-below (below start) before second after c.loop-turns.invariant.rest on (ap below c.in_ok-push.ensures);
+          second after (left c.level.new.reader) on (right.ok c.in_ok-level.field-0 refl) c.in_ok-push.ensures.ok;
+      rest = two-below (below start) before second after c.loop-turns.invariant.rest on (ap below c.in_ok-push.ensures.ok);
     }
 
 pub arguments-returns : goal.arguments-returns
@@ -191,7 +191,7 @@ marked-returns-in_ok-push-in-OpenBrace t c =
     let ws = left c.args.reader.now in
     let st = stack c.args.machine.now in
     let pushed = stack c.push.new.self in
-    let put = c.in_ok-push-in-OpenBrace.ensures in
+    let put = c.in_ok-push-in-OpenBrace.ensures.ok in
     reputs (rules.primary e (mark_word c.args.mark ∷ ws)) (left c.elements.new.reader) st (stack c.elements.new.machine) c.elements.result
     (extended (top pushed) (rules.elements e ws)) (below pushed)
     (list-begun e c.args.mark ws st pushed c.in-OpenBrace.is put) (ap below put) c.elements.ensures
@@ -202,9 +202,9 @@ marked-returns-in_ok-push-in-OpenBracket-2 t c =
     let ws = left c.args.reader.now in
     let st = stack c.args.machine.now in
     let pushed = stack c.push-in-OpenBracket.new.self in
-    let put = c.in_ok-push-in-OpenBracket.ensures in
+    let put = c.in_ok-push-in-OpenBracket.ensures.ok in
     let read = c.in_ok-definitions-in-OpenBracket.ensures in
-    let closed = c.in_ok-push-in-OpenBracket-2.ensures in
+    let closed = c.in_ok-push-in-OpenBracket-2.ensures.ok in
     let rest = left c.definitions.new.reader in
     let last = stack c.push-in-OpenBracket-2.new.self in
     puts-ok (rules.primary e (mark_word c.args.mark ∷ ws)) rest st last c.in_ok-push-in-OpenBracket-2.field-0
@@ -253,7 +253,7 @@ several-returns-then-not-takes t c =
     let before = stack c.loop-turns.machine in
     let second = stack c.expression.new.machine in
     let after = stack c.push.new.self in
-    let pushed = c.in_ok-push.ensures in
+    let pushed = c.in_ok-push.ensures.ok in
     let on = c.in_ok-expression.ensures.on c.in_ok-expression.field-0 refl in
     puts-ok w (left c.takes.new.self) (below start) after tt
     (several-end e w c.loop-turns.turns before (left c.loop-turns.reader) c.loop-turns.invariant.read c.loop-turns-test.true
@@ -273,9 +273,9 @@ several-loop-turns-preserved t c =
     let on = c.in_ok-expression.ensures.on c.in_ok-expression.field-0 refl in
     record {
       read = several-more e w c.loop-turns.turns before (left c.loop-turns.reader) c.loop-turns.invariant.read c.loop-turns-test.true
-          second after (left c.expression.new.reader) (left c.takes.new.self) on (c.in_ok-expression.ensures.ok c.in_ok-expression.field-0 refl) c.in_ok-push.ensures
+          second after (left c.expression.new.reader) (left c.takes.new.self) on (c.in_ok-expression.ensures.ok c.in_ok-expression.field-0 refl) c.in_ok-push.ensures.ok
           (c.takes.ensures.taken c.if-not-takes.false);
-      rest = two-below (below start) before second after c.loop-turns.invariant.rest on (ap below c.in_ok-push.ensures);
+      rest = two-below (below start) before second after c.loop-turns.invariant.rest on (ap below c.in_ok-push.ensures.ok);
     }
 
 pub some_definitions-returns-in_err-name : goal.some_definitions-returns-in_err-name
@@ -444,8 +444,8 @@ suffixes-loop-turns-preserved t c =
       read = suffixes-subscript e w c.loop-turns.turns before (left c.loop-turns.reader) c.loop-turns.invariant.read c.loop-turns-test.true
           between (left c.takes-else-takes.new.self)
           (c.takes.ensures.kept c.if-takes.false) (c.takes-else-takes.ensures.taken c.if-takes-2.true) (left c.expression.new.reader) (left c.expect.new.self) place after on (c.in_ok-expression.ensures.ok c.in_ok-expression.field-0 refl)
-          (c.in_ok-expect.ensures.ok _ refl) c.in_ok-push.ensures;
-      rest = two-below (below start) before place after c.loop-turns.invariant.rest on (ap below c.in_ok-push.ensures);
+          (c.in_ok-expect.ensures.ok _ refl) c.in_ok-push.ensures.ok;
+      rest = two-below (below start) before place after c.loop-turns.invariant.rest on (ap below c.in_ok-push.ensures.ok);
     }
 
 pub arguments-returns-in_err-several : goal.arguments-returns-in_err-several
@@ -517,7 +517,7 @@ marked-returns-in_err-definitions-in-OpenBracket t c =
     let e = rules.expression c.args.fuel in
     let start = stack c.args.machine.now in
     stops-by (rules.primary e (mark_word c.args.mark ∷ left c.args.reader.now)) (left c.definitions.new.reader) start (stack c.definitions.new.machine) c.from_residual-in_err-definitions-in-OpenBracket.result c.in_err-definitions-in-OpenBracket.field-0.0 c.from_residual-in_err-definitions-in-OpenBracket.ensures.0 c.from_residual-in_err-definitions-in-OpenBracket.ensures.1
-    (λ stop. ad-begun e c.args.mark (left c.args.reader.now) start (stack c.push-in-OpenBracket.new.self) c.in-OpenBracket.is c.in_ok-push-in-OpenBracket.ensures
+    (λ stop. ad-begun e c.args.mark (left c.args.reader.now) start (stack c.push-in-OpenBracket.new.self) c.in-OpenBracket.is c.in_ok-push-in-OpenBracket.ensures.ok
     ∙ c.in_err-definitions-in-OpenBracket.ensures.none (ap Err stop))
 
 pub marked-returns-in_err-expression-in-OpenParen : goal.marked-returns-in_err-expression-in-OpenParen

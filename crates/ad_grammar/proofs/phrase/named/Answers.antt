@@ -9,7 +9,7 @@ use Rattle.ad_grammar.proofs.phrase.named.Goals as goal
 pub returns-then-takes : goal.returns-then-takes
 returns-then-takes c =
     let st = stack c.args.machine.now in
-    let put = c.in_ok-push.ensures ∙ ap (λ t. step (instructions.Call t 0) st) c.in_ok-function.ensures.text in
+    let put = c.in_ok-push.ensures.ok ∙ ap (λ t. step (instructions.Call t 0) st) c.in_ok-function.ensures.text in
     begins-call (λ e. plain_at e c.args.text.now (left c.args.reader.now)) (left c.takes.new.self) st (stack c.push.new.self)
     (λ e. call-begun e c.args.text.now (left c.args.reader.now) (left c.takes.new.self) st (stack c.push.new.self) (c.takes.ensures.taken c.if-takes.true) put)
     (ap below put)

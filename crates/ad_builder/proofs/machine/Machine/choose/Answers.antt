@@ -6,4 +6,4 @@ use Rattle.ad_builder.proofs.machine.Machine.choose.Goals as goal
 
 pub loop-preserved : goal.loop-preserved
 loop-preserved c =
-    c.in_ok-push.ensures ∙ ap (step instructions.Choice) c.loop.invariant ∙ chosen-more c.loop.counter (stack c.args.self.now)
+    c.in_ok-push.ensures.ok ∙ ap (step instructions.Choice) c.loop.invariant ∙ chosen-more c.loop.counter (stack c.args.self.now)

@@ -4,8 +4,7 @@ use Rattle.std.proofs.lemmas.List.{length-map}
 use Rattle.std.proofs.lemmas.Option.{slice_get_read, slice_get_past, slice_get-map}
 use Rattle.ad_tree.specs.declared.frame.AdFrame.{AdFrame}
 use Rattle.ad_tree.specs.Tree.{Tree}
-use Rattle.ad_tree.specs.Frames.{Frame, attributes_at, attributes_in, defined_in, defined, parent_of}
-use Rattle.ad_tree.specs.Attributes.{attributes_of}
+use Rattle.ad_tree.specs.Frames.{Frame, defined_in, defined, parent_of}
 use Rattle.ad_tree.specs.Table.{frame_of, frames_of}
 
 less_one : (f : ℕ) → suc f - 1 ≡ f
@@ -56,11 +55,9 @@ pub inner-same : (root : Frame) (fs : List AdFrame) (k : ℕ) (x old : AdFrame) 
 inner-same root fs k x old h e d = ap (λ hs. root ∷ hs) (frames_of-set fs k x ∙ same-set fs k x old h e d)
 
 -- the parent of a frame of an ad is read in the frame
-pub parent-read : (fs : List AdFrame) (f : ℕ) (x : AdFrame) → (f ≡ 0 → ⊥) → f < length (frames_of fs) → x ≡ get_or fs f x → parent_of (frames_of fs) f ≡ Some x.parent
-parent-read fs zero x n h e = absurd (n refl)
-parent-read fs (suc f) x n h e =
-    ap (option_map (λ g. g.parent)) (slice_get-map frame_of fs (suc f)
-    ∙ ap (option_map frame_of) (slice_get_read fs (length (frames_of fs)) (suc f) x (length-map fs frame_of) h e))
+pub parent-read : (frames : List Frame) (f : ℕ) (x : AdFrame) → (f ≡ 0 → ⊥) → slice_get frames f ≡ Some (frame_of x) → parent_of frames f ≡ Some x.parent
+parent-read frames zero x n is = absurd (n refl)
+parent-read frames (suc f) x n is = ap (option_map (λ g. g.parent)) is
 
 -- what a result tells, told on
 pub on_ok : {A E : Type 0} (r : Result A E) {P Q : Type 0} → (P → Q) → OnOk r P → OnOk r Q
@@ -75,8 +72,8 @@ pub told_on_err : {A E : Type 0} (r : Result A E) {P : Type 0} → P → OnErr r
 told_on_err (Ok a) h = tt
 told_on_err (Err e) h = h
 
--- the attributes of a frame of an ad are read in the frame
-pub attributes-read : (fs : List AdFrame) (f : ℕ) (x : AdFrame) → f < length (frames_of fs) → x ≡ get_or fs f x → attributes_at (frames_of fs) f ≡ attributes_of x.attributes
-attributes-read fs f x h e =
-    ap attributes_in (slice_get-map frame_of fs f
-    ∙ ap (option_map frame_of) (slice_get_read fs (length (frames_of fs)) f x (length-map fs frame_of) h e))
+-- a frame of an ad is read in its table
+pub frame-read : (fs gs : List AdFrame) (f : ℕ) (x : AdFrame) → gs ≡ fs → f < length (frames_of fs) → x ≡ get_or gs f x → slice_get (frames_of fs) f ≡ Some (frame_of x)
+frame-read fs gs f x same h e =
+    slice_get-map frame_of fs f
+    ∙ ap (option_map frame_of) (slice_get_read fs (length (frames_of fs)) f x (length-map fs frame_of) h (e ∙ ap (λ l. get_or l f x) same))

@@ -6,4 +6,4 @@ use Rattle.ad_tree.specs.Table.{frames_of}
 
 -- the frames of an ad; equal ads are those whose frames are equal
 abbrev pub ad_frames : Ad → List Frame
-ad_frames ad = frames_of ad.frames.items
+ad_frames ad = frames_of ad.frames.value.items

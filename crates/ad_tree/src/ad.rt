@@ -3,20 +3,24 @@ ghost use Rattle.std.specs.Prelude.{◌≡◌, ◌<◌, ◌^◌, length, slice_g
 ghost use Rattle.ad_tree.specs.Tree.{tree};
 ghost use Rattle.ad_tree.specs.Names.{same_name};
 ghost use Rattle.ad_tree.specs.Frames.{IsAd, attributes_at, names_in, parent_of, name_at, expr_at};
-ghost use Rattle.ad_tree.specs.Table.{frames_of};
+ghost use Rattle.ad_tree.specs.Table.{frame_of, frames_of};
 
 use crate::Expr;
 use crate::frame::AdFrame;
 use pool_text::{OutOfMemory, Text};
+use std::alloc::Global;
+use std::rc::Rc;
 
 /// An ad: a table of frames. Frame 0 is the root; every other frame is an ad literal and names a lower frame as its
 /// parent, the frame in whose expressions it stands. The names of a frame differ after folding (ClassAd Language
 /// Reference Manual 2.4, attribute names ignore case). Contracts see the list of frames, `ad_frames`.
+///
+/// An ad doesn't change, so it can be held in several places at once (`share`).
 #[derive(Drop)]
 pub struct Ad {
-    frames: Vec<AdFrame>,
-    pub ghost is_ad: { IsAd (frames_of frames.items) },
-    ghost few: { length frames.items < 2 ^ 32 },
+    frames: Rc<Vec<AdFrame>>,
+    pub ghost is_ad: { IsAd (frames_of frames.value.items) },
+    ghost few: { length frames.value.items < 2 ^ 32 },
 }
 
 impl Ad {
@@ -24,7 +28,7 @@ impl Ad {
 
     // The ad with these frames, which take no more memory than they need. Want of memory is answered too where the numbers
     // of frames end.
-    pub(crate) fn from_frames(mut frames: Vec<AdFrame>) -> Result<Ad, OutOfMemory>
+    pub(crate) fn from_frames(alloc: Global, mut frames: Vec<AdFrame>) -> Result<Ad, OutOfMemory>
         requires { IsAd (frames_of frames.items) }
         ensures { IfOk result (λ ad. ad_frames ad ≡ frames_of frames.items) }
     {
@@ -33,7 +37,25 @@ impl Ad {
         }
         shrink(&mut frames);
         frames.shrink_to_fit();
-        Ok(Ad { frames })
+        Ok(Ad {
+            frames: Rc::new(alloc, frames)?,
+        })
+    }
+
+    /// The same ad for one more holder. Nothing is copied, and the frames are given back with the last holder.
+    pub fn share(&self) -> Result<Ad, OutOfMemory>
+        ensures { IfOk result (λ ad. ad_frames ad ≡ ad_frames self.now) }
+    {
+        Ok(Ad {
+            frames: self.frames.clone()?,
+        })
+    }
+
+    fn frame_at(&self, frame: u32) -> &AdFrame
+        requires { frame < length (ad_frames self.now) }
+        ensures { slice_get (ad_frames self.now) frame ≡ Some (frame_of result.now) }
+    {
+        &self.frames[frame as usize]
     }
 
     /// How many frames there are, the root among them.
@@ -52,7 +74,7 @@ impl Ad {
         if frame == 0 {
             None
         } else {
-            Some(self.frames[frame as usize].parent)
+            Some(self.frame_at(frame).parent)
         }
     }
 
@@ -61,7 +83,7 @@ impl Ad {
         requires { frame < length (ad_frames self.now) }
         ensures { result ≡ length (attributes_at (ad_frames self.now) frame) }
     {
-        self.frames[frame as usize].count()
+        self.frame_at(frame).count()
     }
 
     /// The name of the attribute at place `attr`, counted from 0, in its last spelling.
@@ -70,7 +92,7 @@ impl Ad {
         requires attr { attr < length (attributes_at (ad_frames self.now) frame) }
         ensures { name_at (ad_frames self.now) frame attr ≡ Some result.now }
     {
-        &self.frames[frame as usize].at(attr).name
+        &self.frame_at(frame).at(attr).name
     }
 
     /// The expression of the attribute at place `attr`, counted from 0.
@@ -79,7 +101,7 @@ impl Ad {
         requires attr { attr < length (attributes_at (ad_frames self.now) frame) }
         ensures { expr_at (ad_frames self.now) frame attr ≡ Some (tree result.now) }
     {
-        &self.frames[frame as usize].at(attr).expr
+        &self.frame_at(frame).at(attr).expr
     }
 
     /// The place of the attribute whose name is equal to this one after folding, found with no memory taken.
@@ -88,7 +110,7 @@ impl Ad {
         requires { frame < length (ad_frames self.now) }
         ensures { result ≡ position (same_name name.now) (names_in (ad_frames self.now) frame) }
     {
-        self.frames[frame as usize].position(name)
+        self.frame_at(frame).position(name)
     }
 }
 

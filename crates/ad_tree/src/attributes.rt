@@ -23,11 +23,12 @@ pub struct Attributes {
     kept: Kept,
 }
 
-// A list takes less memory and time than a set while it is short, and most frames have a few attributes alone.
+// A list takes less memory and time than a set while it is short, and most frames have a few attributes alone. The set is
+// in a box, as it would make every frame larger.
 #[derive(Drop)]
 enum Kept {
     Few(Vec<Attribute>),
-    Many(IndexSet<Attribute>),
+    Many(Box<IndexSet<Attribute>>),
 }
 
 impl Model for Attributes {
@@ -143,8 +144,10 @@ impl Attributes {
             return Ok(());
         };
         let set = IndexSet::with_capacity(self.alloc, list.len().saturating_add(more))?;
+        let mut set = Box::new(self.alloc, set)?;
         let list = mem::replace(list, Vec::new(self.alloc));
-        self.kept = Kept::Many(hashed(list, set));
+        fill(&mut set, list);
+        self.kept = Kept::Many(set);
         Ok(())
     }
 
@@ -182,18 +185,16 @@ fn put_in_set(set: &mut IndexSet<Attribute>, attribute: Attribute) -> Result<(),
     Ok(())
 }
 
-// The attributes of a list in a set that has room for them.
-fn hashed(list: Vec<Attribute>, set: IndexSet<Attribute>) -> IndexSet<Attribute>
+// Puts the attributes of a list into a set that has room for them.
+fn fill(set: &mut IndexSet<Attribute>, list: Vec<Attribute>)
     requires apart { IsTrue (are_apart (names_of (attributes_of list.items))) }
-    requires empty { set.keys ≡ [] }
-    requires room { length list.items ≤ spare set }
-    ensures { result.keys ≡ list.items }
+    requires empty { set.old.keys ≡ [] }
+    requires room { length list.items ≤ spare set.old }
+    ensures { set.new.keys ≡ list.items }
 {
-    let mut set = set;
     for attribute in list {
         let _is_new = set.insert(attribute).unwrap();
     }
-    set
 }
 
 // By the hash of the name, if the name takes no memory.

@@ -16,8 +16,8 @@ invariant_of-self c = elim c.match-self.branch [
       (ap (λ k. are_apart (names_of (attributes_of (kept_in k)))) (sym w.in-Few.is) ∙ c.self.invariant)
   | in-Many w ↦
       ap (λ i. are_apart (names_of (attributes_of (kept_in i.kept)))) w.self-inside-is
-      ∙ apart-put w.put_in_set.result c.args.attribute.name (tree c.args.attribute.expr) w.in-Many.set.keys w.put_in_set.new.set.keys w.put_in_set.ensures.ok w.put_in_set.ensures.err
-      (ap (λ k. are_apart (names_of (attributes_of (kept_in k)))) (sym w.in-Many.is) ∙ c.self.invariant)
+      ∙ apart-put w.put_in_set.result c.args.attribute.name (tree c.args.attribute.expr) w.deref_mut.result.now.keys w.put_in_set.new.set.keys w.put_in_set.ensures.ok w.put_in_set.ensures.err
+      (ap (λ s. are_apart (names_of (attributes_of s.keys))) w.deref_mut.ensures.value ∙ ap (λ k. are_apart (names_of (attributes_of (kept_in k)))) (sym w.in-Many.is) ∙ c.self.invariant)
 ]
 
 pub returns-clause-apart : goal.returns-clause-apart

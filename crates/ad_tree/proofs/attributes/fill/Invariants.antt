@@ -1,6 +1,6 @@
 use Rattle.std.proofs.Common.{◌≡◌, ◌≤◌, ◌++◌, length}
 use Rattle.std.specs.HashSet.{spare}
-use Rattle.ad_tree.proofs.attributes.hashed.Given as goal
+use Rattle.ad_tree.proofs.attributes.fill.Given as goal
 
 abbrev pub invariant-loop-attribute : goal.invariant-loop-attribute
 invariant-loop-attribute l =

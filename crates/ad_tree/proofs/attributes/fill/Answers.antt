@@ -6,7 +6,7 @@ use Rattle.ad_tree.specs.Attributes.{attributes_of}
 use Rattle.std.proofs.lemmas.Iterator.Adapters.{YieldsList-from_vec}
 use Rattle.std.proofs.lemmas.Iterator.Consumers.{YieldsList-end}
 use Rattle.ad_tree.proofs.FrameLemmas.{insert_key-new, same_attribute}
-use Rattle.ad_tree.proofs.attributes.hashed.Goals as goal
+use Rattle.ad_tree.proofs.attributes.fill.Goals as goal
 
 pub loop-attribute-init : goal.loop-attribute-init
 loop-attribute-init c =

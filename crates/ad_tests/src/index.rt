@@ -33,6 +33,7 @@ fn indexed(alloc: Global) -> Result<Index, Fail> {
     for i in 0..ADS.len() {
         ad_to(&mut index, alloc, i)?;
     }
+    index.settle()?;
     Ok(index)
 }
 
@@ -107,5 +108,20 @@ fn an_ad_that_is_removed_is_left_out(rt: HostRuntime) -> Result<(), Fail> {
     assert!(rt; tests.len() == 1);
     index.remove(14, &parse_ad(rt.alloc(), b"[ A = 8; B = 6 ]")?);
     assert_hits(&rt, &index, tests.at(0), &[0, 6])?;
+    Ok(())
+}
+
+#[test]
+fn an_ad_that_waits_is_found_once_it_is_settled(rt: HostRuntime) -> Result<(), Fail> {
+    let mut index = indexed(rt.alloc())?;
+    let tests = tests(&rt, rt.alloc(), b"[ Requirements = TARGET.A >= 7 ]")?;
+    assert!(rt; tests.len() == 1);
+    let (kept, removed) = (parse_ad(rt.alloc(), b"[ A = 9 ]")?, parse_ad(rt.alloc(), b"[ A = 7 ]")?);
+    index.add(20, &kept)?;
+    index.add(22, &removed)?;
+    index.remove(22, &removed);
+    assert_hits(&rt, &index, tests.at(0), &[0, 6, 14])?;
+    index.settle()?;
+    assert_hits(&rt, &index, tests.at(0), &[0, 6, 14, 20])?;
     Ok(())
 }

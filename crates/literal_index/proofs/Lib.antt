@@ -9,3 +9,4 @@ mod PairLemmas
 mod RowLemmas
 mod SearchLemmas
 mod SpanLemmas
+mod WaitingLemmas

@@ -17,7 +17,7 @@ use Rattle.literal_index.specs.Rows.{Row, ad_under, row_of}
 use Rattle.literal_index.specs.Entries.{entry_at, entry_in, entry_of, is_place, place_of}
 use Rattle.literal_index.specs.Order.{place_order}
 use Rattle.literal_index.specs.Changes.{HasPut, HasTaken, IsSame, is_place_below}
-use Rattle.literal_index.specs.Shown.{AreIndexed, IsRow}
+use Rattle.literal_index.specs.Shown.{ArePlaced, with_ad}
 use Rattle.literal_index.proofs.Orders.{at_place}
 
 -- ---- numbers
@@ -108,107 +108,93 @@ not-place slot attrs q other = by (is_place slot attrs q) refl
     by false e = e
     by true e = absurd (other (place-slot slot attrs q e))
 
--- ---- an ad comes and goes
+-- ---- what stands under slots changes
 
-module _ (slot : ℕ) (fs : List Frame) (before after : List Row) (m n : BTreeMap Place Entry) (slots more : BTreeSet ℕ) where
-  abbrev rows : List Row
-  rows = before ++ after
+-- all but the ad under this slot
+abbrev pub without_ad : ℕ → (ℕ → Option (List Frame)) → ℕ → Option (List Frame)
+without_ad slot under s = cond (slot == s) None (under s)
 
-  abbrev with_row : List Row
-  with_row = before ++ row_of slot fs ∷ after
+-- what stands at a place of the ad under its slot
+abbrev stood : Place → Option (List Frame) → Option Entry
+stood q = option_and_then (λ gs. entry_in (attributes_at gs 0) q)
 
+-- the same ads under slots are as well those of the entries and the slots
+pub same-placed : (m : BTreeMap Place Entry) (slots : BTreeSet ℕ) (under other : ℕ → Option (List Frame)) → ((s : ℕ) → under s ≡ other s) → ArePlaced m slots under → ArePlaced m slots other
+same-placed m slots under other same placed = record {
+  entries = λ q. placed.entries q ∙ ap (option_and_then (λ gs. entry_in (attributes_at gs 0) q)) (same q.slot);
+  slots = λ s. placed.slots s ∙ ap is_some (same s);
+}
+
+module _ (slot : ℕ) (fs : List Frame) (under : ℕ → Option (List Frame)) (m n : BTreeMap Place Entry) (slots more : BTreeSet ℕ) where
   abbrev attrs : List (List ℕ × Tree)
   attrs = attributes_at fs 0
 
-  pub added : AreIndexed m slots rows → ad_under slot rows ≡ None → IsRow (row_of slot fs) → HasPut (length attrs) slot attrs m n
-      → ((s : ℕ) → contains nat_cmp more s ≡ cond (is_at (nat_cmp slot) s) true (contains nat_cmp slots s)) → AreIndexed n more with_row
-  added index none good put inserted = record {
+  pub entered : ArePlaced m slots under → under slot ≡ None → HasPut (length attrs) slot attrs m n
+      → ((s : ℕ) → contains nat_cmp more s ≡ cond (is_at (nat_cmp slot) s) true (contains nat_cmp slots s)) → ArePlaced n more (with_ad slot fs under)
+  entered placed none put inserted = record {
     entries = λ q. put q ∙ ap (λ b. cond b (option_map entry_of (slice_get attrs q.attr)) (get place_order m q)) (all-below slot attrs q) ∙ at_q q (slot == q.slot) refl;
     slots = λ s. inserted s ∙ ap (λ b. cond b true (contains nat_cmp slots s)) (at_number slot s) ∙ at_s s (slot == s) refl;
-    apart = IsDistinct-IsPermutation nat_eq nat_eq_equiv.symm _ _ (IsPermutation-map (λ row. row.slot) _ _ (IsPermutation-sym _ _ (moved slot fs before after)))
-        (IsDistinct-cons nat_eq slot (map (λ row. row.slot) rows) (all-differ slot rows none) index.apart);
-    ads = All-permutation IsRow _ _ (IsPermutation-sym _ _ (moved slot fs before after)) (All-cons IsRow (row_of slot fs) rows good index.ads);
   }
     where
-      at_s : (s : ℕ) (b : Bool) → (slot == s) ≡ b → cond (slot == s) true (contains nat_cmp slots s) ≡ is_some (ad_under s with_row)
-      at_s s true e = ap (λ b. cond b true (contains nat_cmp slots s)) e ∙ sym (ap is_some (ad_under-middle slot fs before after s none) ∙ ap (λ b. is_some (cond b (Some fs) (ad_under s rows))) e)
-      at_s s false e =
-          ap (λ b. cond b true (contains nat_cmp slots s)) e ∙ index.slots s
-          ∙ sym (ap is_some (ad_under-middle slot fs before after s none) ∙ ap (λ b. is_some (cond b (Some fs) (ad_under s rows))) e)
+      at_s : (s : ℕ) (b : Bool) → (slot == s) ≡ b → cond (slot == s) true (contains nat_cmp slots s) ≡ is_some (with_ad slot fs under s)
+      at_s s true e = ap (λ b. cond b true (contains nat_cmp slots s)) e ∙ sym (ap (λ b. is_some (cond b (Some fs) (under s))) e)
+      at_s s false e = ap (λ b. cond b true (contains nat_cmp slots s)) e ∙ placed.slots s ∙ sym (ap (λ b. is_some (cond b (Some fs) (under s))) e)
 
-      found : (q : Place) → entry_at with_row q ≡ option_and_then (λ gs. entry_in (attributes_at gs 0) q) (cond (slot == q.slot) (Some fs) (ad_under q.slot rows))
-      found q = ap (option_and_then (λ gs. entry_in (attributes_at gs 0) q)) (ad_under-middle slot fs before after q.slot none)
-
-      at_q : (q : Place) (b : Bool) → (slot == q.slot) ≡ b → cond (is_place slot attrs q) (option_map entry_of (slice_get attrs q.attr)) (get place_order m q) ≡ entry_at with_row q
+      at_q : (q : Place) (b : Bool) → (slot == q.slot) ≡ b → cond (is_place slot attrs q) (option_map entry_of (slice_get attrs q.attr)) (get place_order m q) ≡ stood q (with_ad slot fs under q.slot)
       at_q q true e =
           let same : slot ≡ q.slot = agree slot q.slot e in
-          let empty : get place_order m q ≡ None = index.entries q ∙ ap (option_and_then (λ gs. entry_in (attributes_at gs 0) q)) (ap (λ s. ad_under s rows) (sym same) ∙ none) in
+          let empty : get place_order m q ≡ None = placed.entries q ∙ ap (stood q) (ap under (sym same) ∙ none) in
           ap (cond (is_place slot attrs q) (option_map entry_of (slice_get attrs q.attr))) empty
           ∙ ap (λ s. cond (is_place s attrs q) (option_map entry_of (slice_get attrs q.attr)) None) same
-          ∙ sym (found q ∙ ap (λ b. option_and_then (λ gs. entry_in (attributes_at gs 0) q) (cond b (Some fs) (ad_under q.slot rows))) e)
+          ∙ sym (ap (λ b. stood q (cond b (Some fs) (under q.slot))) e)
       at_q q false e =
           let other : is_place slot attrs q ≡ false = not-place slot attrs q (λ same. true≢false (sym (grind (arith, same)) ∙ e)) in
           ap (λ b. cond b (option_map entry_of (slice_get attrs q.attr)) (get place_order m q)) other
-          ∙ index.entries q
-          ∙ sym (found q ∙ ap (λ b. option_and_then (λ gs. entry_in (attributes_at gs 0) q) (cond b (Some fs) (ad_under q.slot rows))) e)
+          ∙ placed.entries q
+          ∙ sym (ap (λ b. stood q (cond b (Some fs) (under q.slot))) e)
 
-  pub taken : AreIndexed m slots with_row → HasTaken (length attrs) slot attrs m n
-      → ((s : ℕ) → contains nat_cmp more s ≡ cond (is_at (nat_cmp slot) s) false (contains nat_cmp slots s)) → AreIndexed n more rows
-  taken index out removed = record {
+  pub left : ArePlaced m slots under → under slot ≡ Some fs → HasTaken (length attrs) slot attrs m n
+      → ((s : ℕ) → contains nat_cmp more s ≡ cond (is_at (nat_cmp slot) s) false (contains nat_cmp slots s)) → ArePlaced n more (without_ad slot under)
+  left placed here out removed = record {
     entries = λ q. out q ∙ ap (λ b. cond b None (get place_order m q)) (all-below slot attrs q) ∙ at_q q (slot == q.slot) refl;
     slots = λ s. removed s ∙ ap (λ b. cond b false (contains nat_cmp slots s)) (at_number slot s) ∙ at_s s (slot == s) refl;
-    apart = IsDistinct-tail nat_eq slot (map (λ row. row.slot) rows) distinct;
-    ads = All-tail IsRow (row_of slot fs) rows (All-permutation IsRow _ _ (moved slot fs before after) index.ads);
   }
     where
-      distinct : IsDistinct nat_eq (slot ∷ map (λ row. row.slot) rows)
-      distinct = IsDistinct-IsPermutation nat_eq nat_eq_equiv.symm _ _ (IsPermutation-map (λ row. row.slot) _ _ (moved slot fs before after)) index.apart
-
-      none : ad_under slot rows ≡ None
-      none = none-under slot rows (IsDistinct-head nat_eq slot (map (λ row. row.slot) rows) distinct)
-
-      at_s : (s : ℕ) (b : Bool) → (slot == s) ≡ b → cond (slot == s) false (contains nat_cmp slots s) ≡ is_some (ad_under s rows)
-      at_s s true e = ap (λ b. cond b false (contains nat_cmp slots s)) e ∙ sym (ap is_some (ap (λ t. ad_under t rows) (sym (agree slot s e)) ∙ none))
-      at_s s false e =
-          ap (λ b. cond b false (contains nat_cmp slots s)) e ∙ index.slots s
-          ∙ ap is_some (ad_under-middle slot fs before after s none) ∙ ap (λ b. is_some (cond b (Some fs) (ad_under s rows))) e
-
-      found : (q : Place) → get place_order m q ≡ option_and_then (λ gs. entry_in (attributes_at gs 0) q) (cond (slot == q.slot) (Some fs) (ad_under q.slot rows))
-      found q = index.entries q ∙ ap (option_and_then (λ gs. entry_in (attributes_at gs 0) q)) (ad_under-middle slot fs before after q.slot none)
+      at_s : (s : ℕ) (b : Bool) → (slot == s) ≡ b → cond (slot == s) false (contains nat_cmp slots s) ≡ is_some (without_ad slot under s)
+      at_s s true e = ap (λ b. cond b false (contains nat_cmp slots s)) e ∙ sym (ap (λ b. is_some (cond b None (under s))) e)
+      at_s s false e = ap (λ b. cond b false (contains nat_cmp slots s)) e ∙ placed.slots s ∙ sym (ap (λ b. is_some (cond b None (under s))) e)
 
       either : (q : Place) (b : Bool) → is_place slot attrs q ≡ b → is_place q.slot attrs q ≡ b → cond (is_place slot attrs q) None (entry_in attrs q) ≡ None
       either q true h k = ap (λ b. cond b None (entry_in attrs q)) h
       either q false h k = ap (λ b. cond b None (entry_in attrs q)) h ∙ ap (λ b. cond b (option_map entry_of (slice_get attrs q.attr)) None) k
 
-      at_q : (q : Place) (b : Bool) → (slot == q.slot) ≡ b → cond (is_place slot attrs q) None (get place_order m q) ≡ entry_at rows q
+      at_q : (q : Place) (b : Bool) → (slot == q.slot) ≡ b → cond (is_place slot attrs q) None (get place_order m q) ≡ stood q (without_ad slot under q.slot)
       at_q q true e =
           let same : slot ≡ q.slot = agree slot q.slot e in
-          ap (cond (is_place slot attrs q) None) (found q ∙ ap (λ b. option_and_then (λ gs. entry_in (attributes_at gs 0) q) (cond b (Some fs) (ad_under q.slot rows))) e)
+          ap (cond (is_place slot attrs q) None) (placed.entries q ∙ ap (stood q) (ap under (sym same) ∙ here))
           ∙ either q (is_place q.slot attrs q) (ap (λ s. is_place s attrs q) same) refl
-          ∙ sym (ap (option_and_then (λ gs. entry_in (attributes_at gs 0) q)) (ap (λ s. ad_under s rows) (sym same) ∙ none))
+          ∙ sym (ap (λ b. stood q (cond b None (under q.slot))) e)
       at_q q false e =
           let other : is_place slot attrs q ≡ false = not-place slot attrs q (λ same. true≢false (sym (grind (arith, same)) ∙ e)) in
           ap (λ b. cond b None (get place_order m q)) other
-          ∙ found q
-          ∙ ap (λ b. option_and_then (λ gs. entry_in (attributes_at gs 0) q) (cond b (Some fs) (ad_under q.slot rows))) e
+          ∙ placed.entries q
+          ∙ sym (ap (λ b. stood q (cond b None (under q.slot))) e)
 
--- what was put under a slot and taken out again leaves the index as it was
-pub unchanged : (slot : ℕ) (attrs : List (List ℕ × Tree)) (rows : List Row) (m n : BTreeMap Place Entry) (slots mid back : BTreeSet ℕ) → AreIndexed m slots rows → ad_under slot rows ≡ None
+-- what was put under a slot and taken out again leaves all as it was
+pub unchanged : (slot : ℕ) (attrs : List (List ℕ × Tree)) (under : ℕ → Option (List Frame)) (m n : BTreeMap Place Entry) (slots mid back : BTreeSet ℕ) → ArePlaced m slots under → under slot ≡ None
     → (((q : Place) → is_place slot attrs q ≡ true → get place_order m q ≡ None) → IsSame m n)
     → ((s : ℕ) → contains nat_cmp mid s ≡ cond (is_at (nat_cmp slot) s) true (contains nat_cmp slots s))
-    → ((s : ℕ) → contains nat_cmp back s ≡ cond (is_at (nat_cmp slot) s) false (contains nat_cmp mid s)) → AreIndexed n back rows
-unchanged slot attrs rows m n slots mid back index none same inserted removed = record {
-  entries = λ q. same empty q ∙ index.entries q;
+    → ((s : ℕ) → contains nat_cmp back s ≡ cond (is_at (nat_cmp slot) s) false (contains nat_cmp mid s)) → ArePlaced n back under
+unchanged slot attrs under m n slots mid back placed none same inserted removed = record {
+  entries = λ q. same empty q ∙ placed.entries q;
   slots = λ s. removed s ∙ ap (λ b. cond b false (contains nat_cmp mid s)) (at_number slot s) ∙ at_s s (slot == s) refl;
-  apart = index.apart;
-  ads = index.ads;
 }
   where
     empty : (q : Place) → is_place slot attrs q ≡ true → get place_order m q ≡ None
-    empty q here = index.entries q ∙ ap (option_and_then (λ gs. entry_in (attributes_at gs 0) q)) (ap (λ s. ad_under s rows) (sym (place-slot slot attrs q here)) ∙ none)
+    empty q here = placed.entries q ∙ ap (stood q) (ap under (sym (place-slot slot attrs q here)) ∙ none)
 
-    at_s : (s : ℕ) (b : Bool) → (slot == s) ≡ b → cond (slot == s) false (contains nat_cmp mid s) ≡ is_some (ad_under s rows)
-    at_s s true e = ap (λ b. cond b false (contains nat_cmp mid s)) e ∙ sym (ap is_some (ap (λ t. ad_under t rows) (sym (agree slot s e)) ∙ none))
+    at_s : (s : ℕ) (b : Bool) → (slot == s) ≡ b → cond (slot == s) false (contains nat_cmp mid s) ≡ is_some (under s)
+    at_s s true e = ap (λ b. cond b false (contains nat_cmp mid s)) e ∙ sym (ap is_some (ap under (sym (agree slot s e)) ∙ none))
     at_s s false e =
         ap (λ b. cond b false (contains nat_cmp mid s)) e ∙ inserted s
-        ∙ ap (λ b. cond b true (contains nat_cmp slots s)) (at_number slot s ∙ e) ∙ index.slots s
+        ∙ ap (λ b. cond b true (contains nat_cmp slots s)) (at_number slot s ∙ e) ∙ placed.slots s

@@ -1,8 +1,10 @@
 // The index of the ads of a pool.
-ghost use Rattle.std.specs.Prelude.{◌≡◌, ◌∷◌, ◌++◌, ◌<◌, [], ℕ, length, min, IfOk, IsTrue, OnOk, OnErr, None, List};
+ghost use Rattle.std.specs.Prelude.{◌≡◌, ◌∷◌, ◌++◌, ◌<◌, [], ℕ, length, min, IfOk, IsTrue, OnOk, OnErr, None, List, Option};
 ghost use Rattle.std.specs.List.Sorted.{IsPermutation, IsStrictlyIncreasing};
 ghost use Rattle.ad_tree.specs.Ad.{ad_frames};
+ghost use Rattle.ad_tree.specs.Frames.{Frame};
 ghost use Rattle.literal_index.specs.Entries.{is_pair};
+ghost use Rattle.literal_index.specs.Shown.{ArePlaced, with_ad};
 ghost use Rattle.literal_index.specs.Rows.{Row, ad_under, passing_both, passing_slots, row_of};
 
 use crate::attributes::{put_attributes, take_attributes};
@@ -26,60 +28,81 @@ const OPEN: Span = Span::At(Kind::Open, 0);
 /// An index of ads, each under a slot of its own, by the literals of the attributes of their roots.
 ///
 /// The attributes of one name stand together in one order, by kind and number of their literals, so those that can make
-/// a test true are found by their place.
+/// a test true are found by their place. An ad that is added waits until it is settled, since a pool may take in many ads
+/// before the first search: so searches ask for an index in which none waits.
 #[derive(Drop)]
 pub struct Index {
     alloc: Global,
     entries: BTreeMap<Place, Entry>,
     slots: BTreeSet<usize>,
     names: NameCache,
+    waiting: BTreeMap<usize, Ad>,
 }
 
 impl Index {
-    ghost use Rattle.literal_index.specs.Shown.{IsIndex};
+    ghost use Rattle.literal_index.specs.Shown.{IsIndex, IsKept};
 
     /// An index of no ads, which takes no memory yet.
     pub fn new(alloc: Global) -> Index
-        ensures { IsIndex result [] }
+        ensures kept { IsKept result [] }
+        ensures settled { IsIndex result [] }
     {
         Index {
             alloc,
             entries: BTreeMap::new(alloc),
             slots: BTreeSet::new(alloc),
             names: NameCache::new(alloc),
+            waiting: BTreeMap::new(alloc),
         }
     }
 
-    /// Adds an ad under a slot under which there is none. Want of memory leaves the index as it was.
+    /// Adds an ad under a slot under which there is none; it waits until it is settled. Want of memory leaves the index as it
+    /// was.
     pub fn add(&mut self, slot: usize, ad: &Ad) -> Result<(), OutOfMemory>
-        ensures ok { OnOk result ((before after : List Row) → IsIndex self.old (before ++ after)
+        ensures ok { OnOk result ((before after : List Row) → IsKept self.old (before ++ after)
             → ad_under slot (before ++ after) ≡ None
-            → IsIndex self.new (before ++ row_of slot (ad_frames ad.now) ∷ after)) }
-        ensures err { OnErr result ((rows : List Row) → IsIndex self.old rows
-            → ad_under slot rows ≡ None → IsIndex self.new rows) }
+            → IsKept self.new (before ++ row_of slot (ad_frames ad.now) ∷ after)) }
+        ensures err { OnErr result ((rows : List Row) → IsKept self.old rows
+            → ad_under slot rows ≡ None → IsKept self.new rows) }
     {
-        self.slots.insert(slot)?;
-        if let Err(refused) = put_attributes(
-            self.alloc,
-            &mut self.names,
-            &mut self.entries,
-            slot,
-            ad,
-        ) {
-            self.slots.remove(&slot);
-            return Err(refused);
-        }
+        // That attributes can be numbered comes with their count.
+        let _few = ad.count(0);
+        self.waiting.insert(slot, ad.share()?)?;
         Ok(())
     }
 
     /// Takes out the ad under a slot, which has to be given as it was added. No memory is taken.
     pub fn remove(&mut self, slot: usize, ad: &Ad)
         ensures { (before after : List Row)
-            → IsIndex self.old (before ++ row_of slot (ad_frames ad.now) ∷ after)
-            → IsIndex self.new (before ++ after) }
+            → IsKept self.old (before ++ row_of slot (ad_frames ad.now) ∷ after)
+            → IsKept self.new (before ++ after) }
     {
+        if self.waiting.remove(&slot).is_some() {
+            return;
+        }
         take_attributes(&mut self.entries, slot, ad, ad.count(0));
         self.slots.remove(&slot);
+    }
+
+    /// Settles the ads that wait, so that the index can be searched. Each ad is settled once. Where memory is wanting, those
+    /// that are left go on waiting.
+    pub fn settle(&mut self) -> Result<(), OutOfMemory>
+        ensures ok { OnOk result ((rows : List Row) → IsKept self.old rows → IsIndex self.new rows) }
+        ensures kept { (rows : List Row) → IsKept self.old rows → IsKept self.new rows }
+    {
+        while let Some((slot, ad)) = self.waiting.first_key_value() {
+            let slot = *slot;
+            enter(
+                self.alloc,
+                &mut self.names,
+                &mut self.entries,
+                &mut self.slots,
+                slot,
+                ad,
+            )?;
+            self.waiting.remove(&slot);
+        }
+        Ok(())
     }
 
     /// The slots of the ads that a test leaves, in rising order and without repeats.
@@ -166,4 +189,26 @@ impl Index {
         let open = count_chosen_within(&self.entries, first, Choice::Open, OPEN, most);
         open + count_chosen_by_both_within(&self.entries, first, second, most - open)
     }
+}
+
+// Puts in what is searched for an ad under a slot. Want of memory leaves all as it was.
+fn enter(
+    alloc: Global,
+    names: &mut NameCache,
+    entries: &mut BTreeMap<Place, Entry>,
+    slots: &mut BTreeSet<usize>,
+    slot: usize,
+    ad: &Ad,
+) -> Result<(), OutOfMemory>
+    ensures ok { OnOk result ((under : ℕ → Option (List Frame)) → ArePlaced entries.old slots.old under
+        → under slot ≡ None → ArePlaced entries.new slots.new (with_ad slot (ad_frames ad.now) under)) }
+    ensures err { OnErr result ((under : ℕ → Option (List Frame)) → ArePlaced entries.old slots.old under
+        → under slot ≡ None → ArePlaced entries.new slots.new under) }
+{
+    slots.insert(slot)?;
+    if let Err(refused) = put_attributes(alloc, names, entries, slot, ad) {
+        slots.remove(&slot);
+        return Err(refused);
+    }
+    Ok(())
 }

@@ -7,7 +7,7 @@ use Rattle.ad_store.specs.Stock.{Advert, Stock, has, is_named, placed, slot_besi
 use Rattle.ad_store.proofs.HeldLemmas.{neither}
 use Rattle.ad_tree.specs.Frames.{Frame}
 use Rattle.literal_index.specs.Rows.{row_of}
-use Rattle.literal_index.specs.Shown.{IsIndex}
+use Rattle.literal_index.specs.Shown.{IsKept}
 use Rattle.literal_index.specs.declared.index.Index.{Index}
 use Rattle.bilateral_match.specs.Rows.{rows_beside, rows_of}
 use Rattle.pool_state.specs.Stocks.{stock_without}
@@ -136,6 +136,6 @@ others_kept (Ok put) advert old new long ads slots added same = others-put adver
 others_kept (Err e) advert old new long ads slots added same = ap (stock_without advert.name) same
 
 -- the index is that of the ads again
-pub remembered : {T E : Type 0} (r : Result T E) (index : Index) (name : List ℕ) (put new : Stock) (A : Type 0) → OnOk r (A → IsIndex index (rows_of put)) → OnOk r (new ≡ put) → OnErr r (A → IsIndex index (rows_of new)) → A → IsIndex index (rows_of new)
-remembered (Ok x) index name put new A all same gone others = subst (λ (s : Stock). IsIndex index (rows_of s)) (sym same) (all others)
+pub remembered : {T E : Type 0} (r : Result T E) (index : Index) (name : List ℕ) (put new : Stock) (A : Type 0) → OnOk r (A → IsKept index (rows_of put)) → OnOk r (new ≡ put) → OnErr r (A → IsKept index (rows_of new)) → A → IsKept index (rows_of new)
+remembered (Ok x) index name put new A all same gone others = subst (λ (s : Stock). IsKept index (rows_of s)) (sym same) (all others)
 remembered (Err e) index name put new A all same gone others = gone others

@@ -1,4 +1,4 @@
--- Which commands change the ads of a state, and which change nothing.
+-- Which commands change the ads of a state, which change nothing, and which search the ads.
 use Rattle.std.specs.Prelude.{Bool, true, false}
 use Rattle.pool_script.specs.declared.command.Command.{Command}
 use Rattle.pool_script.specs.declared.command.Command.TheVariants as command
@@ -20,3 +20,9 @@ changes_nothing command.Negotiate = false
 changes_nothing (command.Claim job) = false
 changes_nothing (command.Release job) = false
 changes_nothing other = true
+
+abbrev pub is_search : Command → Bool
+is_search (command.Query block) = true
+is_search (command.Gang block) = true
+is_search command.Negotiate = true
+is_search other = false

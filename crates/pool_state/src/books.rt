@@ -5,8 +5,10 @@ ghost use Rattle.ad_store.specs.Stock.{first_expired, has, lack, placed, without
 ghost use Rattle.ad_store.specs.Store.{stock_of};
 ghost use Rattle.ad_tree.specs.Ad.{ad_frames};
 ghost use Rattle.ad_tree.specs.Small.{IsSmall};
+ghost use Rattle.bilateral_match.specs.Rows.{rows_of};
 ghost use Rattle.claim_table.specs.Small.{AreSmallJobs};
 ghost use Rattle.claim_table.specs.Table.{jobs_of};
+ghost use Rattle.literal_index.specs.Shown.{IsIndex};
 ghost use Rattle.negotiator.specs.Priorities.{Setting};
 ghost use Rattle.negotiator.specs.Settings.{settings_of};
 ghost use Rattle.pool_replies.specs.declared.rows.SpinRow.{SpinRow};
@@ -205,6 +207,15 @@ impl Books {
         self.claims.remove(name).is_ok()
     }
 
+    /// Makes the index ready for searches. The ads and the jobs stay as they are, also where memory is wanting.
+    pub(crate) fn settle(&mut self) -> Result<(), OutOfMemory>
+        ensures state { (moment : ℕ) (priorities : List Setting)
+            → state_with moment priorities self.new ≡ state_with moment priorities self.old }
+        ensures ok { OnOk result (IsIndex self.new.ads.index (rows_of (stock_of self.new.ads.store))) }
+    {
+        self.ads.settle()
+    }
+
     /// Goes through a cycle of negotiation, which offers resources to idle jobs.
     pub(crate) fn negotiate<F: Ledger, E: Ledger, T: Ledger>(
         &mut self,
@@ -215,6 +226,7 @@ impl Books {
         entry: &mut Steps<E>,
         touch: &mut Steps<T>,
     ) -> Result<Cycle, OutOfMemory>
+        requires { IsIndex self.old.ads.index (rows_of (stock_of self.old.ads.store)) }
         ensures ads { self.new.ads ≡ self.old.ads }
         ensures cycle { IfOk result (λ spins. (rows : List SpinRow) → rows ≡ map (spin_row (stock_of self.old.ads.store)) spins
             → steps.negotiate (state_with moment (settings_of priorities.now) self.old) ≡ (state_with moment (settings_of priorities.now) self.new, Reply.Cycle rows)) }

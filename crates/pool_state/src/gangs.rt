@@ -1,11 +1,14 @@
 // Gangs: the resources that the ports of a request are given.
 ghost use Rattle.std.specs.Prelude.{◌≡◌, ◌+◌, ◌*◌, ◌≤◌, IfOk, IfSome, IsTrue, Some};
 ghost use Rattle.ad_parser.proofs.Outcomes.{ad_outcome};
+ghost use Rattle.ad_store.specs.Store.{stock_of};
 ghost use Rattle.ad_tree.specs.Ad.{ad_frames};
 ghost use Rattle.ad_tree.specs.Requests.{ArePorts};
 ghost use Rattle.ad_tree.specs.Small.{IsSmall};
+ghost use Rattle.bilateral_match.specs.Rows.{rows_of};
 ghost use Rattle.gang_ports.specs.Gangs.{looks_most};
 ghost use Rattle.gang_ports.specs.Ports.{ports_of};
+ghost use Rattle.literal_index.specs.Shown.{IsIndex};
 ghost use Rattle.pool_script.specs.Form.{is_block_text};
 ghost use Rattle.pool_replies.specs.Replies.{is_printable};
 ghost use Rattle.pool_state.specs.Books.{queue_of};
@@ -39,7 +42,8 @@ pub(crate) fn gang<F: Ledger, E: Ledger, T: Ledger>(
     entry: &mut Steps<E>,
     touch: &mut Steps<T>,
 ) -> Result<Reply, OutOfMemory>
-    requires { IsTrue (is_block_text block.now) }
+    requires block { IsTrue (is_block_text block.now) }
+    requires index { IsIndex books.now.ads.index (rows_of (stock_of books.now.ads.store)) }
     ensures reply { IfOk result (λ reply. steps.gang moment (ads_of books.now.ads) (queue_of books.now) (ad_outcome block.now) ≡ reply) }
     ensures printable { IfOk result (λ reply. IsTrue (is_printable reply)) }
     ensures cost { tops.new ≤ tops.old + 3 * steps.undecided_for_gang moment (ads_of books.now.ads) (queue_of books.now) (ad_outcome block.now) }
@@ -81,7 +85,8 @@ fn gang_names<F: Ledger, E: Ledger, T: Ledger>(
     entry: &mut Steps<E>,
     touch: &mut Steps<T>,
 ) -> Result<Option<Names>, OutOfMemory>
-    requires { ports_of (ad_frames request.now.ad) ≡ Some request.now.ports }
+    requires ports { ports_of (ad_frames request.now.ad) ≡ Some request.now.ports }
+    requires index { IsIndex books.now.ads.index (rows_of (stock_of books.now.ads.store)) }
     ensures names { IfOk result (λ names. names
         ≡ steps.gang_names moment (ads_of books.now.ads) (queue_of books.now) (ad_frames request.now.ad) request.now.ports) }
     ensures cost { tops.new ≤ tops.old

@@ -1,12 +1,11 @@
 // The ads of a pool with the index of their literals.
 ghost use Rattle.std.specs.Prelude.{◌≡◌, ◌≢◌, ◌+◌, ◌≤◌, [], true, false, not, IfErr, IfOk, None, OnErr, OnOk, Some};
-ghost use Rattle.std.proofs.Props.{props};
 ghost use Rattle.ad_store.specs.Answers.{is_added, slots_put};
 ghost use Rattle.ad_store.specs.Stock.{has, lack, placed, slots_without, without};
 ghost use Rattle.ad_store.specs.Store.{stock_of};
 ghost use Rattle.ad_tree.specs.Ad.{ad_frames};
 ghost use Rattle.ad_tree.specs.Small.{IsSmall};
-ghost use Rattle.literal_index.specs.Shown.{IsIndex};
+ghost use Rattle.literal_index.specs.Shown.{IsIndex, IsKept};
 ghost use Rattle.bilateral_match.specs.Rows.{rows_of};
 ghost use Rattle.bilateral_match.specs.Small.{AreSmallAds};
 ghost use Rattle.pool_state.specs.Stocks.{stock_without};
@@ -24,7 +23,7 @@ use std::sync::ledger::Ledger;
 pub(crate) struct IndexedStore {
     pub(crate) store: Store,
     pub(crate) index: Index,
-    ghost indexed: { IsIndex index (rows_of (stock_of store)) } by { Prim.hlevel props },
+    ghost indexed: { ∥ IsKept index (rows_of (stock_of store)) ∥₁ },
     ghost small: { AreSmallAds (stock_of store).ads },
 }
 
@@ -88,12 +87,20 @@ impl IndexedStore {
         self.store.withdraw(name)?;
         Ok(())
     }
+
+    /// Makes the index ready for searches. The ads stay as they are, also where memory is wanting.
+    pub(crate) fn settle(&mut self) -> Result<(), OutOfMemory>
+        ensures store { self.new.store ≡ self.old.store }
+        ensures ok { OnOk result (IsIndex self.new.index (rows_of (stock_of self.new.store))) }
+    {
+        self.index.settle()
+    }
 }
 
 // Takes the ad of a name out of the index, so that the index is that of the other ads.
 fn forget<T: Ledger>(store: &Store, index: &mut Index, name: &[u8], touch: &mut Steps<T>)
-    ensures others { IsIndex index.old (rows_of (stock_of store.now))
-        → IsIndex index.new (rows_of (stock_without name.now (stock_of store.now))) }
+    ensures others { IsKept index.old (rows_of (stock_of store.now))
+        → IsKept index.new (rows_of (stock_without name.now (stock_of store.now))) }
     ensures looks { touch.new ≤ touch.old + 1 }
 {
     if let Some(slot) = store.slot_of(name) {
@@ -108,11 +115,11 @@ fn remember<T: Ledger>(
     name: &[u8],
     touch: &mut Steps<T>,
 ) -> Result<(), OutOfMemory>
-    ensures all { OnOk result (IsIndex index.old (rows_of (stock_without name.now (stock_of store.old)))
-        → IsIndex index.new (rows_of (stock_of store.old))) }
+    ensures all { OnOk result (IsKept index.old (rows_of (stock_without name.now (stock_of store.old)))
+        → IsKept index.new (rows_of (stock_of store.old))) }
     ensures same { OnOk result (stock_of store.new ≡ stock_of store.old) }
-    ensures gone { OnErr result (IsIndex index.old (rows_of (stock_without name.now (stock_of store.old)))
-        → IsIndex index.new (rows_of (stock_of store.new))) }
+    ensures gone { OnErr result (IsKept index.old (rows_of (stock_without name.now (stock_of store.old)))
+        → IsKept index.new (rows_of (stock_of store.new))) }
     ensures small { AreSmallAds (stock_of store.old).ads → AreSmallAds (stock_of store.new).ads }
     ensures looks { touch.new ≤ touch.old + 1 }
 {

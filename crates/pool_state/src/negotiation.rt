@@ -1,6 +1,8 @@
 // Negotiation: a cycle that offers resources to idle jobs, and its rows.
 ghost use Rattle.std.specs.Prelude.{◌≡◌, ◌+◌, ◌*◌, ◌≤◌, map, All, Contains, IfOk, IsTrue};
 ghost use Rattle.ad_store.specs.Store.{stock_of};
+ghost use Rattle.bilateral_match.specs.Rows.{rows_of};
+ghost use Rattle.literal_index.specs.Shown.{IsIndex};
 ghost use Rattle.negotiator.specs.Settings.{settings_of};
 ghost use Rattle.pool_replies.specs.Replies.{is_printable};
 ghost use Rattle.pool_state.specs.Negotiation as steps;
@@ -30,6 +32,7 @@ pub(crate) fn negotiate<F: Ledger, E: Ledger, T: Ledger>(
     entry: &mut Steps<E>,
     touch: &mut Steps<T>,
 ) -> Result<Reply, OutOfMemory>
+    requires { IsIndex books.old.ads.index (rows_of (stock_of books.old.ads.store)) }
     ensures step { IfOk result (λ reply. steps.negotiate (state_with moment (settings_of priorities.now) books.old)
         ≡ (state_with moment (settings_of priorities.now) books.new, reply)) }
     ensures printable { IfOk result (λ reply. IsTrue (is_printable reply)) }

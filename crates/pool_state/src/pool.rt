@@ -1,6 +1,9 @@
 // The pool and its steps.
 ghost use Rattle.std.specs.Prelude.{◌≡◌, ◌+◌, ◌*◌, ◌≤◌, true, false, IfOk, IsErr, IsTrue, OnErr, OnOk};
 ghost use Rattle.std.specs.List.{AllZip};
+ghost use Rattle.ad_store.specs.Store.{stock_of};
+ghost use Rattle.bilateral_match.specs.Rows.{rows_of};
+ghost use Rattle.literal_index.specs.Shown.{IsIndex};
 ghost use Rattle.notice_desk.specs.Desk.{without};
 ghost use Rattle.pool_script.specs.Form.{is_within_form};
 ghost use Rattle.pool_replies.specs.Refusals.{is_fault_of_text};
@@ -8,7 +11,7 @@ ghost use Rattle.pool_replies.specs.Replies.{is_printable};
 ghost use Rattle.pool_replies.specs.declared.refusal.Refusal.TheVariants as why;
 ghost use Rattle.pool_replies.specs.declared.reply.Reply.TheVariants as replies;
 ghost use Rattle.pool_state.specs.Apart.{AreGivenApart};
-ghost use Rattle.pool_state.specs.Changes.{changes_nothing, keeps_ads};
+ghost use Rattle.pool_state.specs.Changes.{changes_nothing, is_search, keeps_ads};
 ghost use Rattle.pool_state.specs.Heard as rules;
 ghost use Rattle.pool_state.specs.Heard.{heard, kept_by, step_heard};
 ghost use Rattle.pool_state.specs.Notices.{notices};
@@ -219,15 +222,6 @@ impl Pool {
             }
             Command::Remove(job) => remove(&mut self.books, job),
             Command::Priority { user, n } => set_priority(&mut self.priorities, user, *n),
-            Command::Negotiate => negotiate(
-                self.alloc,
-                &mut self.books,
-                &self.priorities,
-                self.moment,
-                tops,
-                entry,
-                touch,
-            ),
             Command::Claim(job) => claim(
                 self.alloc,
                 &mut self.books,
@@ -238,11 +232,64 @@ impl Pool {
                 touch,
             ),
             Command::Release(job) => release(&mut self.books, job),
+            Command::Query(_) | Command::Gang(_) | Command::Negotiate => {
+                self.books.settle()?;
+                self.search(command, tops, entry, touch)
+            }
             _ => self.tell(command, tops, entry, touch),
         }
     }
 
-    // Runs a command that changes nothing.
+    // Runs a command that looks for ads, by the index.
+    #[tactic(auto, unfolding(crate::specs::Pool::state_of, crate::specs::Step::step, crate::specs::Step::allowance, crate::specs::Step::undecided, crate::specs::Step::looks, pool_script::specs::Form::is_within_form, pool_replies::specs::Replies::is_printable, pool_replies::specs::Refusals::is_printable_refusal))]
+    fn search<F: Ledger, E: Ledger, T: Ledger>(
+        &mut self,
+        command: &Command,
+        tops: &mut Steps<F>,
+        entry: &mut Steps<E>,
+        touch: &mut Steps<T>,
+    ) -> Result<Reply, OutOfMemory>
+        requires form { IsTrue (is_within_form command.now) }
+        requires searches { IsTrue (is_search command.now) }
+        requires index { IsIndex self.old.books.ads.index (rows_of (stock_of self.old.books.ads.store)) }
+        ensures step { IfOk result (λ reply. steps.step (state_of self.old) command.now ≡ (state_of self.new, reply)) }
+        ensures printable { IfOk result (λ reply. IsTrue (is_printable reply)) }
+        ensures cost { tops.new ≤ tops.old + steps.allowance (state_of self.old) command.now }
+        ensures ratio { entry.new + 9216 * tops.old ≤ entry.old + 9216 * tops.new }
+        ensures looks { touch.new ≤ touch.old + steps.looks (state_of self.old) command.now }
+    {
+        match command {
+            Command::Query(block) => query(
+                self.alloc,
+                &self.books.ads,
+                self.moment,
+                block.bytes(),
+                tops,
+                entry,
+                touch,
+            ),
+            Command::Gang(block) => gang(
+                self.alloc,
+                &self.books,
+                self.moment,
+                block.bytes(),
+                tops,
+                entry,
+                touch,
+            ),
+            _ => negotiate(
+                self.alloc,
+                &mut self.books,
+                &self.priorities,
+                self.moment,
+                tops,
+                entry,
+                touch,
+            ),
+        }
+    }
+
+    // Runs a command that changes nothing and searches nothing.
     #[tactic(auto, unfolding(crate::specs::Pool::state_of, crate::specs::Step::step, crate::specs::Step::allowance, crate::specs::Step::undecided, crate::specs::Step::looks, pool_script::specs::Form::is_within_form, pool_replies::specs::Replies::is_printable, pool_replies::specs::Refusals::is_printable_refusal))]
     fn tell<F: Ledger, E: Ledger, T: Ledger>(
         &self,
@@ -253,6 +300,7 @@ impl Pool {
     ) -> Result<Reply, OutOfMemory>
         requires form { IsTrue (is_within_form command.now) }
         requires kept { IsTrue (changes_nothing command.now) }
+        requires other { is_search command.now ≡ false }
         ensures step { IfOk result (λ reply. steps.step (state_of self.now) command.now ≡ (state_of self.now, reply)) }
         ensures printable { IfOk result (λ reply. IsTrue (is_printable reply)) }
         ensures cost { tops.new ≤ tops.old + steps.allowance (state_of self.now) command.now }
@@ -271,24 +319,6 @@ impl Pool {
                 self.moment,
                 name.bytes(),
                 expr.bytes(),
-                tops,
-                entry,
-                touch,
-            ),
-            Command::Query(block) => query(
-                alloc,
-                &self.books.ads,
-                self.moment,
-                block.bytes(),
-                tops,
-                entry,
-                touch,
-            ),
-            Command::Gang(block) => gang(
-                alloc,
-                &self.books,
-                self.moment,
-                block.bytes(),
                 tops,
                 entry,
                 touch,

@@ -6,8 +6,10 @@ ghost use Rattle.ad_tree.specs.Ad.{ad_frames};
 ghost use Rattle.ad_tree.specs.Small.{IsSmall};
 ghost use Rattle.bilateral_match.specs.Answers.{answers, hit_of};
 ghost use Rattle.bilateral_match.specs.Counts.{least_left, undecided_count};
+ghost use Rattle.bilateral_match.specs.Rows as rows;
 ghost use Rattle.bilateral_match.specs.declared.hit.Match.{Match};
 ghost use Rattle.conjunct_plan.specs.Tests.{tests_of};
+ghost use Rattle.literal_index.specs.Shown.{IsIndex};
 ghost use Rattle.pool_script.specs.Form.{is_block_text};
 ghost use Rattle.pool_replies.specs.Replies.{is_printable};
 ghost use Rattle.pool_state.specs.Indexed.{ads_of};
@@ -39,7 +41,8 @@ pub(crate) fn query<F: Ledger, E: Ledger, T: Ledger>(
     entry: &mut Steps<E>,
     touch: &mut Steps<T>,
 ) -> Result<Reply, OutOfMemory>
-    requires { IsTrue (is_block_text block.now) }
+    requires block { IsTrue (is_block_text block.now) }
+    requires index { IsIndex ads.now.index (rows.rows_of (stock_of ads.now.store)) }
     ensures reply { IfOk result (λ reply. steps.query moment (ads_of ads.now) (ad_outcome block.now) ≡ reply) }
     ensures printable { IfOk result (λ reply. IsTrue (is_printable reply)) }
     ensures cost { tops.new ≤ tops.old + 5 * steps.undecided_docks (ads_of ads.now) (ad_outcome block.now) }
@@ -69,7 +72,8 @@ fn hit_rows<F: Ledger, E: Ledger, T: Ledger>(
     entry: &mut Steps<E>,
     touch: &mut Steps<T>,
 ) -> Result<HitRows, OutOfMemory>
-    requires { request.now.ports ≡ [] }
+    requires ports { request.now.ports ≡ [] }
+    requires index { IsIndex ads.now.index (rows.rows_of (stock_of ads.now.store)) }
     ensures rows { IfOk result (λ rows. rows
         ≡ map (steps.hit_row (ads_of ads.now)) (answers moment (ad_frames request.now.ad) (ads_of ads.now))) }
     ensures cost { tops.new ≤ tops.old + 3 * undecided_count (ad_frames request.now.ad) (ads_of ads.now) }

@@ -3,7 +3,7 @@ use Rattle.ad_store.specs.Stock.{Stock, is_named}
 use Rattle.ad_store.specs.Store.{stock_of}
 use Rattle.ad_tree.specs.Ad.{ad_frames}
 use Rattle.literal_index.specs.Rows.{ad_under, row_of}
-use Rattle.literal_index.specs.Shown.{IsIndex}
+use Rattle.literal_index.specs.Shown.{IsKept}
 use Rattle.bilateral_match.specs.Rows.{rows_of}
 use Rattle.bilateral_match.proofs.RowLemmas.{alone-under, rows-round}
 use Rattle.pool_state.specs.Stocks.{stock_without}
@@ -15,7 +15,7 @@ use Rattle.pool_state.proofs.indexed.remember.Goals as goal
 pub returns-in_default-clause-all : goal.returns-in_default-clause-all
 returns-in_default-clause-all g c = λ index.
     let stock : Stock = stock_of c.args.store.now in
-    subst (IsIndex c.args.index.now) (rows-unnamed c.args.name.now stock.ads stock.slots (sym c.in_default.ensures.slot)) index
+    subst (IsKept c.args.index.now) (rows-unnamed c.args.name.now stock.ads stock.slots (sym c.in_default.ensures.slot)) index
 
 pub returns-then-is_err-clause-gone : goal.returns-then-is_err-clause-gone
 returns-then-is_err-clause-gone g c = λ index.
@@ -29,7 +29,7 @@ returns-then-is_err-clause-gone g c = λ index.
     let beside = slot_beside-found (is_named name) stock.ads stock.slots slot (sym c.in-Some.ensures.slot) in
     let held = has_at name stock.ads beside.place beside.advert beside.at (sym (named name beside.advert beside.passes)) in
     let gone = withdrawn_stock c.withdraw.result name stock (stock_of c.withdraw.new.self) held c.withdraw.ensures.ads c.withdraw.ensures.slots c.withdraw.ensures.none in
-    subst (λ (s : Stock). IsIndex c.add.new.self (rows_of s)) (sym gone) same
+    subst (λ (s : Stock). IsKept c.add.new.self (rows_of s)) (sym gone) same
 
 pub returns-then-is_err-clause-small : goal.returns-then-is_err-clause-small
 returns-then-is_err-clause-small g c = small-withdrawn c.withdraw.result c.args.name.now (stock_of c.args.store.now) (stock_of c.withdraw.new.self) c.withdraw.ensures.ads c.withdraw.ensures.err
@@ -40,7 +40,7 @@ returns-clause-all g c = λ index.
     let slot = c.in-Some.slot in
     let round = rows-round c.args.name.now stock.ads stock.slots slot (sym c.in-Some.ensures.slot) in
     let frames = here_frames stock.ads round.place round.old (ad_frames c.look.result.now) round.ad_there (c.look.ensures.ad round.place round.slot_there) in
-    let others = subst (IsIndex c.args.index.now) round.withdrawn index in
+    let others = subst (IsKept c.args.index.now) round.withdrawn index in
     let alone = alone-under stock.ads stock.slots round.before slot round.old.ad round.after (stock-length c.args.store.now) c.slots_are_apart.ensures round.rows in
     let added = on_ok c.add.result _ (sym c.is_err.ensures.value ∙ c.if-is_err.false) c.add.ensures.ok round.before round.after others alone in
-    subst (IsIndex c.add.new.self) (sym (round.rows ∙ ap (λ f. round.before ++ row_of slot f ∷ round.after) frames)) added
+    subst (IsKept c.add.new.self) (sym (round.rows ∙ ap (λ f. round.before ++ row_of slot f ∷ round.after) frames)) added

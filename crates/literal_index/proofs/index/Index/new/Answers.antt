@@ -1,15 +1,13 @@
-use Rattle.std.proofs.Common.{ap, arith, nat_cmp}
-use Rattle.std.specs.List.{IsDistinct, list_any}
+use Rattle.std.proofs.Common.{ap, nat_cmp, []}
 use Rattle.std.specs.Map.{lookup}
 use Rattle.std.specs.BTreeMap.{is_at}
-use Rattle.literal_index.specs.Order.{place_order}
+use Rattle.literal_index.proofs.WaitingLemmas.{all-settled, none-kept}
 use Rattle.literal_index.proofs.index.Index.new.Goals as goal
 
-pub returns : goal.returns
-unfolding IsDistinct
-returns c = record {
-  entries = λ q. ap (lookup (is_at (place_order q))) c.new.ensures.empty;
-  slots = λ slot. ap (list_any (is_at (nat_cmp slot))) c.new-2.ensures.empty;
-  apart = tt;
-  ads = λ k d less. absurd (omega (arith, less));
-}
+pub returns-clause-kept : goal.returns-clause-kept
+returns-clause-kept c = none-kept c.new.result c.new-2.result c.new-4.result c.new.ensures.empty c.new-2.ensures.empty c.new-4.ensures.empty
+
+pub returns-clause-settled : goal.returns-clause-settled
+returns-clause-settled c =
+    all-settled c.new.result c.new-2.result c.new-4.result [] (λ s. ap (lookup (is_at (nat_cmp s))) c.new-4.ensures.empty)
+    (none-kept c.new.result c.new-2.result c.new-4.result c.new.ensures.empty c.new-2.ensures.empty c.new-4.ensures.empty)

@@ -1,8 +1,9 @@
 use Rattle.std.proofs.Common.{sym, subst}
+use Rattle.std.proofs.Math.Logic.{∥∥₁_map}
 use Rattle.ad_tree.specs.Ad.{ad_frames}
 use Rattle.ad_store.specs.Stock.{Advert, Stock}
 use Rattle.ad_store.specs.Store.{stock_of}
-use Rattle.literal_index.specs.Shown.{IsIndex}
+use Rattle.literal_index.specs.Shown.{IsKept}
 use Rattle.bilateral_match.specs.Rows.{rows_of}
 use Rattle.pool_state.specs.Stocks.{stock_without}
 use Rattle.pool_state.proofs.AdLemmas.{stock-length}
@@ -18,9 +19,9 @@ invariant_of-self g c =
     let advert : Advert = record { name = name; born = c.args.born; lifetime = c.args.lifetime; size = c.args.text_len; ad = ad_frames c.args.ad } in
     let p = c.put-put.ensures in
     let same = others_kept c.put-put.result advert old put (stock-length c.args.self.now.store) p.ads p.slots p.added p.err in
-    let others = subst (λ (s : Stock). IsIndex c.forget.new.index (rows_of s)) (sym same) (c.forget.ensures.others c.args.self.now.indexed) in
+    let others : IsKept c.args.self.now.index (rows_of old) → IsKept c.forget.new.index (rows_of (stock_without name put)) = λ kept. subst (λ (s : Stock). IsKept c.forget.new.index (rows_of s)) (sym same) (c.forget.ensures.others kept) in
     let r = c.remember.ensures in
     record {
-      indexed = remembered c.remember.result c.remember.new.index name put (stock_of c.remember.new.store) (IsIndex c.forget.new.index (rows_of (stock_without name put))) r.all r.same r.gone others;
+      indexed = ∥∥₁_map c.args.self.now.indexed (λ kept. remembered c.remember.result c.remember.new.index name put (stock_of c.remember.new.store) (IsKept c.forget.new.index (rows_of (stock_without name put))) r.all r.same r.gone (others kept));
       small = r.small (small-put c.put-put.result advert old put p.ads p.err c.requires.small c.args.self.now.small);
     }

@@ -1,4 +1,4 @@
-use Rattle.std.proofs.Common.{◌≤◌, ◌+◌, ℕ, List, length, sym, ◌∙◌, ap, subst}
+use Rattle.std.proofs.Common.{◌≡◌, ◌≤◌, ◌+◌, ℕ, List, IfOk, length, sym, ◌∙◌, ap, subst}
 use Rattle.ad_parser.proofs.Outcomes.{ad_outcome}
 use Rattle.negotiator.specs.Settings.{settings_of}
 use Rattle.pool_state.specs.Pool.{state_of}
@@ -47,3 +47,22 @@ pub returns-in-Release-clause-step : goal.returns-in-Release-clause-step
 unfolding state_of
 returns-in-Release-clause-step g c =
     if_ok c.release.result _ _ (λ reply is. ap (step (state_of c.args.self.now)) c.in-Release.is ∙ step-Release (state_of c.args.self.now) c.in-Release.job ∙ is c.args.self.now.moment (settings_of c.args.self.now.priorities)) c.release.ensures.step
+
+-- a search, over the ads and jobs that the settled index leaves as they are
+pub returns-in_ok-settle-in-Query-clause-step : goal.returns-in_ok-settle-in-Query-clause-step
+unfolding state_of
+returns-in_ok-settle-in-Query-clause-step g c =
+    subst (λ (s : State). IfOk c.search.result (λ reply. step s c.args.command.now ≡ (state_of c.search.new.self, reply)))
+    (c.settle.ensures.state c.args.self.now.moment (settings_of c.args.self.now.priorities)) c.search.ensures.step
+
+pub returns-in_ok-settle-in-Query-clause-cost : goal.returns-in_ok-settle-in-Query-clause-cost
+unfolding state_of
+returns-in_ok-settle-in-Query-clause-cost g c =
+    subst (λ (s : State). c.search.new.tops ≤ c.args.tops.now + allowance s c.args.command.now)
+    (c.settle.ensures.state c.args.self.now.moment (settings_of c.args.self.now.priorities)) c.search.ensures.cost
+
+pub returns-in_ok-settle-in-Query-clause-looks : goal.returns-in_ok-settle-in-Query-clause-looks
+unfolding state_of
+returns-in_ok-settle-in-Query-clause-looks g c =
+    subst (λ (s : State). c.search.new.touch ≤ c.args.touch.now + looks s c.args.command.now)
+    (c.settle.ensures.state c.args.self.now.moment (settings_of c.args.self.now.priorities)) c.search.ensures.looks

@@ -1,5 +1,5 @@
 -- How a builder changes with each instruction.
-use Rattle.std.proofs.Common.{◌≡◌, ℕ, ◌+◌, min, Bool, true, false, List, [], ◌∷◌, ◌++◌, length, map, slice_get, Some, Result, Ok, Err, IfOk, OnOk, refl, sym, subst, ap, ◌∙◌, arith}
+use Rattle.std.proofs.Common.{◌≡◌, ℕ, ◌+◌, min, Bool, true, false, List, [], ◌∷◌, ◌++◌, length, map, slice_get, slice_set, Some, Result, Ok, Err, IfOk, OnOk, refl, sym, subst, ap, ◌∙◌, arith}
 use Rattle.ad_tree.specs.Draft.{draft_frames}
 use Rattle.ad_tree.specs.Frames.{Frame, empty_frame, defined}
 use Rattle.ad_tree.specs.Inline.{Inline, inner, no_defs, frames, height, number, spelled, spelled_tree, ad_of, phrase_of, phrase_tree}
@@ -21,11 +21,16 @@ use Rattle.ad_builder.specs.declared.measure.Measure.{Measure}
 use Rattle.ad_builder.proofs.CountLemmas.{leaf-counted, one-counted, two-counted, joined-counted, element-counted, three-counted, open-counted}
 use Rattle.ad_builder.proofs.LaidLemmas.{last_tree-last, leaf-laid, one-laid, two-laid, three-laid, joined-laid, element-laid, open-laid, define-laid, define-recounted, close-laid, ad-finished, phrase-finished, phrase_tree-finished}
 use Rattle.ad_builder.proofs.MeasureLemmas.{taken}
+use Rattle.ad_builder.proofs.StackLemmas.{first-changed}
 
 -- what an Ok tells, told on
 pub on_ok : {A E : Type 0} (r : Result A E) {P Q : Type 0} → (P → Q) → OnOk r P → OnOk r Q
 on_ok (Ok a) f h = f h
 on_ok (Err e) f h = h
+
+pub on_ok_both : {A E : Type 0} (r : Result A E) {P Q R : Type 0} → (P → Q → R) → OnOk r P → OnOk r Q → OnOk r R
+on_ok_both (Ok a) f h k = f h k
+on_ok_both (Err e) f h k = h
 
 pub if_ok : {A E : Type 0} (r : Result A E) {P Q : A → Type 0} → ((a : A) → P a → Q a) → IfOk r P → IfOk r Q
 if_ok (Ok a) f h = f a h
@@ -141,6 +146,34 @@ module _ (is_ad : Bool) (st : List Inline) where
       two-put x second first put h
       (element-laid is_ad between.parent (draft_frames between.draft) (map slot between.operands) t u v st is (parts-laid x second first put h))
       (measured (top (below st)) (top st)) (element-counted old.frames old.definitions st h.counted)
+
+  -- the same where the tree below the last is changed in its place
+  pub element-changed : {u : Tree} {n : Measure} {old then new : Builder} (first last : Operand) → HasPut (value u) n then old
+      → slice_get then.operands 0 ≡ Some first → new.operands ≡ slice_set then.operands 0 last
+      → new.parent ≡ then.parent → draft_frames new.draft ≡ draft_frames then.draft → new.frames ≡ then.frames → new.definitions ≡ then.definitions
+      → (t v : Tree) × (slot first ≡ value t) × (slot last ≡ value v) × TakesElement t u v
+      → ((x y : Inline) → IsMeasure (measure_of first) x → IsMeasure n y → IsMeasure (measure_of last) (with_element x y))
+      → Holds is_ad old st → Holds is_ad new (with_element (top (below st)) (top st) ∷ below (below st))
+  element-changed {then} {new} first last second at is here drafted frames defs trees measured h =
+      let parts = first-changed then.operands last at in
+      let between : Builder = record then { operands = parts.0 } in
+      let taken_first : HasPut (value trees.0) (measure_of first) between then = record {
+        operands = ap (map slot) parts.1 ∙ ap (λ s. s ∷ map slot parts.0) trees.2;
+        measures = ap (map measure_of) parts.1;
+        parent = refl;
+        drafted = refl;
+        frames = refl;
+        definitions = refl;
+      } in
+      let put_last : HasPut (value trees.1) (measure_of last) between new = record {
+        operands = ap (map slot) (is ∙ parts.2) ∙ ap (λ s. s ∷ map slot parts.0) trees.3;
+        measures = ap (map measure_of) (is ∙ parts.2);
+        parent = here;
+        drafted = drafted;
+        frames = frames;
+        definitions = defs;
+      } in
+      element-carried second taken_first trees.4 measured put_last h
 
   pub three-carried : {t u v w : Tree} {k m n r : Measure} {old then later between new : Builder} → HasPut (value v) n then old → HasPut (value u) m later then → HasPut (value t) k between later
       → w ≡ node choice (three t u v) → ((x y z : Inline) → IsMeasure k x → IsMeasure m y → IsMeasure n z → IsMeasure r (over_three choice x y z)) → HasPut (value w) r between new

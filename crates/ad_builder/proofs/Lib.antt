@@ -5,3 +5,4 @@ mod HistorySteps
 mod LaidLemmas
 mod MachineLemmas
 mod MeasureLemmas
+mod StackLemmas

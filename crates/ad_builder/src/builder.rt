@@ -7,8 +7,10 @@ ghost use Rattle.std.specs.Prelude.{◌≡◌, ◌<◌, [], ◌∷◌, ◌++◌,
 ghost use Rattle.ad_tree.specs.Ad.{ad_frames};
 ghost use Rattle.ad_tree.specs.Draft.{draft_frames};
 ghost use Rattle.ad_tree.specs.Inline.{Inline, height, inner, no_defs, ad_of, phrase_of, phrase_tree};
-ghost use Rattle.ad_tree.specs.Tree.{tree, trees, node, all, any, call, list as list_label, pack};
-ghost use Rattle.ad_builder.specs.Machine.{top};
+ghost use Rattle.ad_tree.specs.Tree.{tree, trees, node, all, any, pack};
+ghost use Rattle.ad_builder.specs.Machine.{top, with_definition};
+ghost use Rattle.ad_builder.specs.Measures.{IsMeasure};
+ghost use Rattle.ad_builder.specs.declared.builder.Operand.{Operand};
 ghost use Rattle.ad_builder.specs.declared.instruction.Infix.TheVariants as infixes;
 ghost use Rattle.ad_builder.specs.JoinedTrees.{joined_tree, TakesElement};
 ghost use Rattle.ad_builder.specs.declared.builder.Operand.TheVariants as kinds;
@@ -28,6 +30,48 @@ use std::alloc::Global;
 pub enum Operand {
     Value(Measure, Expr),
     Open(Measure, u32, u32),
+}
+
+impl Operand {
+    ghost use Rattle.std.specs.Prelude.{◌≡◌, ℕ, List, IsTrue, OnOk};
+    ghost use Rattle.ad_builder.specs.Builds.{slot, measure_of};
+    ghost use Rattle.ad_builder.specs.Laid.{value};
+    ghost use Rattle.ad_builder.specs.Machine.{with_element, with_definition};
+    ghost use Rattle.ad_builder.specs.Measures.{IsMeasure};
+    ghost use Rattle.ad_tree.specs.Inline.{Inline};
+    ghost use Rattle.ad_tree.specs.Tree.{Tree, tree};
+
+    /// Adds a tree to a list or a call.
+    fn add_element(&mut self, measure: Measure, element: Expr) -> Result<(), OutOfMemory>
+        ensures tree { OnOk result ((t u : Tree) × (slot self.old ≡ value t) × (slot self.new ≡ value u) × TakesElement t (tree element) u) }
+        ensures measure { OnOk result ((x y : Inline) → IsMeasure (measure_of self.old) x → IsMeasure measure y
+            → IsMeasure (measure_of self.new) (with_element x y)) }
+    {
+        match self {
+            Operand::Value(left, whole) => {
+                *left = left.with_element(measure);
+                add_element(whole, element)
+            }
+            Operand::Open(_, _, _) => {
+                drop(element);
+                Err(OutOfMemory)
+            }
+        }
+    }
+
+    /// Measures an ad literal that is open with one definition more. Answers whether it is one.
+    fn count_definition(&mut self, definition: Measure) -> bool
+        ensures { IsTrue result → (l r : Measure) × (n outer : ℕ) × (self.old ≡ kinds.Open l n outer) × (self.new ≡ kinds.Open r n outer)
+            × ((name : List ℕ) (x y : Inline) → IsMeasure l x → IsMeasure definition y → IsMeasure r (with_definition x name y)) }
+    {
+        match self {
+            Operand::Open(left, _, _) => {
+                *left = left.with_definition(definition);
+                true
+            }
+            Operand::Value(_, _) => false,
+        }
+    }
 }
 
 /// An ad while its instructions are carried out: `parent` is the frame in which the next tree stands. Frames and
@@ -205,14 +249,11 @@ impl Builder {
         ensures { Carries instructions.Element self.old self.new result }
     {
         let (right, element) = self.value()?;
-        match self.value() {
-            Ok((left, whole)) => {
-                let whole = with_element(whole, element)?;
-                self.put(left.with_element(right), whole)
-            }
-            Err(error) => {
+        match self.operands.last_mut() {
+            Some(whole) => whole.add_element(right, element),
+            None => {
                 drop(element);
-                Err(error)
+                Err(OutOfMemory)
             }
         }
     }
@@ -234,14 +275,13 @@ impl Builder {
         ensures { Carries (instructions.Define name) self.old self.new result }
     {
         let (right, value) = self.value()?;
-        let Some((left, frame, outer)) = take_open(&mut self.operands) else {
+        if !count_definition(&mut self.operands, right) {
             drop(value);
             return Err(OutOfMemory);
-        };
+        }
         self.draft.define(self.parent, name, value)?;
         self.definitions = self.definitions.saturating_add(1);
-        self.operands
-            .push(Operand::Open(left.with_definition(right), frame, outer))
+        Ok(())
     }
 
     /// Ends the definitions of the ad literal that is the last operand.
@@ -336,6 +376,19 @@ fn take_open(operands: &mut Stack<Operand>) -> Option<(Measure, u32, u32)>
             drop(other);
             None
         }
+    }
+}
+
+/// Measures the ad literal that is the last operand with one definition more. Answers whether one is.
+#[inline(always)]
+fn count_definition(operands: &mut Stack<Operand>, definition: Measure) -> bool
+    ensures { IsTrue result → (l r : Measure) × (n outer : ℕ) × (rest : List Operand)
+        × (operands.old ≡ kinds.Open l n outer ∷ rest) × (operands.new ≡ kinds.Open r n outer ∷ rest)
+        × ((name : List ℕ) (x y : Inline) → IsMeasure l x → IsMeasure definition y → IsMeasure r (with_definition x name y)) }
+{
+    match operands.last_mut() {
+        Some(last) => last.count_definition(definition),
+        None => false,
     }
 }
 
@@ -457,38 +510,16 @@ fn with_last(mut list: Exprs, last: Expr) -> Result<Exprs, OutOfMemory>
     Ok(list)
 }
 
-/// A list or a call with one tree more.
-fn with_element(whole: Expr, element: Expr) -> Result<Expr, OutOfMemory>
-    ensures { IfOk result (λ expr. TakesElement (tree whole) (tree element) (tree expr)) }
+/// Adds a tree to a list or to a call.
+fn add_element(whole: &mut Expr, element: Expr) -> Result<(), OutOfMemory>
+    ensures { OnOk result (TakesElement (tree whole.old) (tree element) (tree whole.new)) }
 {
     match whole {
-        Expr::List(list) => list_with(list, element),
-        Expr::Call(name, list) => call_with(name, list, element),
-        other => {
-            drop(other);
+        Expr::List(list) => list.push(element),
+        Expr::Call(_, list) => list.push(element),
+        _ => {
             drop(element);
             Err(OutOfMemory)
-        }
-    }
-}
-
-/// A list with one element more.
-fn list_with(list: Exprs, element: Expr) -> Result<Expr, OutOfMemory>
-    ensures { IfOk result (λ expr. tree expr ≡ node list_label (pack (trees list ++ tree element ∷ []))) }
-{
-    Ok(Expr::List(with_last(list, element)?))
-}
-
-/// A call with one argument more, in the box that it has.
-fn call_with(name: Text, mut list: Box<Exprs>, element: Expr) -> Result<Expr, OutOfMemory>
-    ensures { IfOk result (λ expr. tree expr ≡ node (call name) (pack (trees list.value ++ tree element ∷ []))) }
-{
-    match list.push(element) {
-        Ok(()) => Ok(Expr::Call(name, list)),
-        Err(error) => {
-            drop(name);
-            drop(list);
-            Err(error)
         }
     }
 }

@@ -18,8 +18,10 @@ impl<T> Model for Stack<T> {
 }
 
 impl<T: Drop> Stack<T> {
-    ghost use Rattle.std.specs.Prelude.{◌≡◌, ◌∷◌, [], IfSome, None, Some, OnOk, slice_get};
+    ghost use Rattle.std.specs.Prelude.{◌≡◌, ◌∷◌, [], IfSome, None, Some, OnOk, slice_get, slice_set};
     ghost use Rattle.std.specs.Bool.{Decides};
+    ghost use Rattle.std.specs.Borrow.{LendsIf, sem};
+    ghost use Rattle.ad_builder.specs.contracts.stack.Stack.{the_row};
 
     pub fn new(alloc: Global) -> Stack<T>
         ensures { result ≡ [] }
@@ -64,6 +66,14 @@ impl<T: Drop> Stack<T> {
         ensures none { result ≡ None → self.now ≡ [] }
     {
         self.items.last()
+    }
+
+    /// The last item, which may be changed where it is.
+    pub fn last_mut(&mut self) -> Option<&mut T>
+        ensures* lends { sem 𝓛 (LendsIf (the_row T.row) T.row self.entry result (slice_set self.old 0) self.old) }
+        ensures some { IfSome result (λ item. slice_get self.old 0 ≡ Some item.now) }
+    {
+        self.items.last_mut()
     }
 
     pub fn is_empty(&self) -> bool

@@ -1,8 +1,9 @@
 use Rattle.std.proofs.Common.{refl}
-use Rattle.ad_builder.proofs.BuilderLemmas.{on_ok, define-carried}
+use Rattle.ad_builder.proofs.BuilderLemmas.{define-carried}
 use Rattle.ad_builder.proofs.builder.Builder.define.Goals as goal
 
 pub returns : goal.returns
 returns c = λ is_ad st h.
-    on_ok c.push.result (λ push. define-carried is_ad st c.args.self.now c.value.new.self c.in-Some.left c.in_ok-right.right c.with_definition.result c.in-Some.frame c.in-Some.outer c.take_open.new.operands c.args.name
-    c.in_ok-right.ensures c.in-Some.ensures c.in_ok-define.ensures.ok push refl (λ x y is too. c.with_definition.ensures c.args.name x y is too) refl c.saturating_add-self.ensures h) c.push.ensures
+    let d = c.if-not-count_definition.ensures refl in
+    define-carried is_ad st c.args.self.now c.value.new.self d.0 c.in_ok-right.right d.1 d.2 d.3 d.4 c.args.name
+    c.in_ok-right.ensures d.5 c.in_ok-define.ensures.ok d.6 refl (d.7 c.args.name) refl c.saturating_add-self.ensures h

@@ -5,12 +5,14 @@ use Rattle.std.proofs.lemmas.List.{drop_all}
 use Rattle.std.proofs.lemmas.Slice.Eq.{bytes_eq-Decides}
 use Rattle.std.specs.Str.{bytes_eq}
 use Rattle.pool_text.specs.Folding.{folded}
+use Rattle.pool_text.specs.declared.language.BinOp.TheVariants.{Same, NotSame}
 use Rattle.pool_text.specs.declared.language.Lit.TheVariants.{Undefined, Error, Boolean}
 use Rattle.ad_lexer.specs.Lexeme.{Lexeme}
 use Rattle.ad_lexer.specs.Marks.{meaning_of, marks, mark_words, mark_of_kind, mark_of_lexeme, marks_of}
 use Rattle.ad_lexer.specs.Numbers.{value}
 use Rattle.ad_lexer.specs.Spelling.{Spells}
 use Rattle.ad_lexer.specs.declared.mark.Mark.{Mark}
+use Rattle.ad_lexer.specs.declared.mark.Mark.TheVariants.{Binary}
 use Rattle.ad_lexer.specs.declared.token.TokenKind.{TokenKind}
 use Rattle.ad_lexer.specs.declared.token.TokenKind.TheVariants as kinds
 use Rattle.ad_grammar.specs.Meaning.{AreSpelled}
@@ -93,6 +95,46 @@ unmarked-front (u ∷ us) zero t e f =
     let same : u ≡ t = cc in
     ap Some (is-unmarked (word u) (kind-mark u.kind u.text ∙ none) ∙ ap (λ (x : Lexeme). unmarked (word x)) same)
 unmarked-front (u ∷ us) (suc i) t e f = unmarked-front us i t e f
+
+-- the word at a place, and where it is a plain name
+pub word-at : (ts : List Lexeme) (i : ℕ) (t : Lexeme) → slice_get ts i ≡ Some t → drop i (words ts) ≡ word t ∷ drop 1 (drop i (words ts))
+word-at [] i t e = absurd (cc)
+word-at (u ∷ us) zero t e = let same : u ≡ t = cc in ap (λ (x : Lexeme). word x ∷ words us) same
+word-at (u ∷ us) (suc i) t e = word-at us i t e
+
+pub plain-word : (kind : TokenKind) (bytes : List ℕ) → kind ≡ kinds.Plain → word_of_kind kind bytes ≡ plain bytes
+plain-word kind bytes is = ap (λ k. word_of_kind k bytes) is
+
+no-plain : (p q r s t u : Bool) (text : List ℕ)
+    → or_undefined (if p then Some (constant (Boolean true)) else (if q then Some (constant (Boolean false)) else (if r then Some (constant Undefined)
+    else (if s then Some (constant Error) else (if t then Some (mark (Binary Same)) else (if u then Some (mark (Binary NotSame)) else None)))))) ≡ plain text → ⊥
+no-plain true q r s t u text e = absurd (cc)
+no-plain false true r s t u text e = absurd (cc)
+no-plain false false true s t u text e = absurd (cc)
+no-plain false false false true t u text e = absurd (cc)
+no-plain false false false false true u text e = absurd (cc)
+no-plain false false false false false true text e = absurd (cc)
+no-plain false false false false false false text e = absurd (cc)
+
+no-plain-mark : (found : Option Mark) (text : List ℕ) → mark_word found ≡ plain text → ⊥
+no-plain-mark None text e = absurd (cc)
+no-plain-mark (Some m) text e = absurd (cc)
+
+plain-kind : (kind : TokenKind) (bytes text : List ℕ) → word_of_kind kind bytes ≡ plain text → kind ≡ kinds.Plain
+plain-kind kinds.Plain bytes text e = refl
+plain-kind kinds.Reserved bytes text e =
+    let is = λ (name : List ℕ). bytes_eq (folded bytes) name in
+    absurd (no-plain (is (codes "true")) (is (codes "false")) (is (codes "undefined")) (is (codes "error")) (is (codes "is")) (is (codes "isnt")) text e)
+plain-kind kinds.Quoted bytes text e = absurd (cc)
+plain-kind kinds.Str bytes text e = absurd (cc)
+plain-kind kinds.Int bytes text e = absurd (cc)
+plain-kind kinds.Symbol bytes text e = absurd (no-plain-mark (meaning_of marks bytes) text e)
+
+pub plain-at : (ts : List Lexeme) (i : ℕ) (t : Lexeme) (text : List ℕ) (rest : List Word) → slice_get ts i ≡ Some t → drop i (words ts) ≡ plain text ∷ rest → t.kind ≡ kinds.Plain
+plain-at ts i t text rest e is =
+    let both : word t ∷ drop 1 (drop i (words ts)) ≡ plain text ∷ rest = sym (word-at ts i t e) ∙ is in
+    let same : word t ≡ plain text = cc in
+    plain-kind t.kind t.text text same
 
 pub words-many : (ts : List Lexeme) → length (words ts) ≡ length ts
 words-many [] = refl

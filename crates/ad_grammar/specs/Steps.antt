@@ -1,6 +1,5 @@
 -- What contracts see of the parser's place in its words, and what its rules answer.
 use Rattle.std.specs.Prelude.{◌≡◌, ℕ, Bool, true, false, List, [], ◌∷◌, drop, Option, None, Some, option_map, Result, Ok, Err}
-use Rattle.pool_text.specs.declared.language.Lit.{Lit}
 use Rattle.pool_text.specs.declared.language.UnOp.{UnOp}
 use Rattle.ad_tree.specs.Inline.{Inline, Inlines, Defs, no_defs, def}
 use Rattle.ad_tree.specs.Tree.{unary, name, select}
@@ -14,8 +13,7 @@ use Rattle.ad_grammar.specs.declared.stop.Stop.TheVariants as stops
 use Rattle.ad_builder.specs.Machine.{top, below, with_elements, with_definitions}
 use Rattle.ad_grammar.specs.Rules.{Reading, Rule, and_then, name_at, prefix_word, arguments, assigned, named_in, definitions_behind}
 use Rattle.ad_builder.specs.Shapes.{leaf, over_one}
-use Rattle.ad_grammar.specs.HeldMarks.{ends_at}
-use Rattle.ad_grammar.specs.Words.{Word, constant, mark, scope_of, words}
+use Rattle.ad_grammar.specs.Words.{Word, mark, scope_of, words}
 
 -- the words that are left
 abbrev pub left : Reader → List Word
@@ -25,11 +23,6 @@ left r = drop r.at (words r.tokens)
 abbrev pub prefix_at : List Word → Reading UnOp
 prefix_at [] = None
 prefix_at (w ∷ ws) = option_map (λ op. (op, ws)) (prefix_word w)
-
--- a literal was taken that stands before a mark with which no expression goes on
-pub record IsLone (lit : Lit) (old new : List Word) : Type 0 where
-  pub taken : old ≡ constant lit ∷ new
-  pub alone : ends_at new ≡ true
 
 -- a mark was taken, or doesn't stand there
 pub record Takes (m : Mark) (old new : List Word) (stood : Bool) : Type 0 where

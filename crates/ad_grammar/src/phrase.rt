@@ -1,5 +1,8 @@
 // Parts of the rules that hold no expression.
-ghost use Rattle.std.specs.Prelude.{◌≡◌, ℕ, Bool, true, false, List, Some, None, Ok, Err, suc};
+ghost use Rattle.std.specs.Prelude.{◌≡◌, ◌∷◌, ℕ, Bool, true, false, List, Some, None, Ok, Err, OnOk, suc};
+ghost use Rattle.ad_tree.specs.Tree.{name};
+ghost use Rattle.ad_tree.specs.declared.tree.Scope.TheVariants.{Bare};
+ghost use Rattle.ad_builder.specs.Shapes.{leaf};
 ghost use Rattle.ad_builder.specs.declared.instruction.Instruction.TheVariants as instructions;
 ghost use Rattle.ad_grammar.specs.declared.stop.Stop.TheVariants as stops;
 ghost use Rattle.ad_grammar.specs.HeldMarks.{front_mark};
@@ -17,7 +20,7 @@ use ad_tree::Scope;
 use pool_text::{OutOfMemory, Text};
 use std::alloc::Global;
 
-/// A literal alone, with a mark behind it that no expression goes on with. Answers whether one stands there.
+/// A plain name or a literal alone, with a mark behind it that no expression goes on with. Answers whether one stands there.
 pub(crate) fn lone(
     alloc: Global,
     reader: &mut Reader<'_>,
@@ -28,7 +31,14 @@ pub(crate) fn lone(
     ensures kept { result ≡ Ok false → left reader.new ≡ left reader.old }
     ensures same { result ≡ Ok false → stack machine.new ≡ stack machine.old }
 {
-    let Some(literal) = reader.lone_literal(alloc)? else {
+    if !reader.ends_behind_next() {
+        return Ok(false);
+    }
+    if let Some(text) = reader.plain() {
+        bare(alloc, machine, text)?;
+        return Ok(true);
+    }
+    let Some(literal) = reader.literal(alloc)? else {
         return Ok(false);
     };
     machine.push(Instruction::Literal(literal))?;
@@ -45,9 +55,11 @@ pub(crate) fn worded(
     requires { front_mark (left reader.now) ≡ None }
     ensures { Begins (λ e. primary e (left reader.old)) result (left reader.new) (stack machine.old) (stack machine.new) }
 {
+    if let Some(text) = reader.plain() {
+        return named(alloc, reader, machine, text);
+    }
     match reader.take(alloc)? {
         Some(Word::Constant(literal)) => put(machine, Instruction::Literal(literal)),
-        Some(Word::Plain(text)) => named(alloc, reader, machine, text),
         Some(Word::Quoted(text)) => put(machine, Instruction::Name(Scope::Bare, text)),
         _ => Err(Stop::Grammar),
     }
@@ -95,8 +107,15 @@ fn reference(
             return attribute(alloc, reader, machine, scope);
         }
     }
+    Ok(bare(alloc, machine, text)?)
+}
+
+/// A plain name in no scope.
+fn bare(alloc: Global, machine: &mut Machine, text: &[u8]) -> Result<(), OutOfMemory>
+    ensures { OnOk result (stack machine.new ≡ leaf (name Bare text.now) ∷ stack machine.old) }
+{
     let name = Text::from_bytes(alloc, text)?;
-    Ok(machine.push(Instruction::Name(Scope::Bare, name))?)
+    machine.push(Instruction::Name(Scope::Bare, name))
 }
 
 /// A name in a scope, behind the dot.

@@ -7,7 +7,7 @@ use crate::operators::{ends, infix_of, prefix_of};
 use crate::stop::Stop;
 use crate::word::{Word, unmarked_word};
 use ad_builder::Infix;
-use ad_lexer::{Mark, Tokens};
+use ad_lexer::{Mark, TokenKind, Tokens};
 use pool_text::{Lit, OutOfMemory, Text, UnOp};
 use std::alloc::Global;
 
@@ -27,14 +27,15 @@ pub struct Reader<'a> {
 
 impl<'a> Reader<'a> {
     ghost use Rattle.std.specs.Prelude.{◌<◌, ◌∷◌, ◌^◌, ℕ, List, drop, option_map, Some, None, Ok, Err, IfOk, OnOk, IfSome, true, false};
+    ghost use Rattle.std.specs.Borrow.{Bor};
     ghost use Rattle.std.specs.Bool.{Decides};
     ghost use Rattle.ad_grammar.specs.Levels.{precedence_at};
     ghost use Rattle.ad_grammar.specs.Meaning.{meaning};
     ghost use Rattle.ad_grammar.specs.Nesting.{nests_too_deep};
     ghost use Rattle.ad_grammar.specs.Rules.{name_at, infix_at};
-    ghost use Rattle.ad_grammar.specs.Steps.{left, prefix_at, IsLone, Takes, Gives, Finds, Continues};
+    ghost use Rattle.ad_grammar.specs.Steps.{left, prefix_at, Takes, Gives, Finds, Continues};
     ghost use Rattle.ad_grammar.specs.HeldMarks.{front, front_mark, ends_at};
-    ghost use Rattle.ad_grammar.specs.Words.{Word as MeantWord, mark as mark_word, words};
+    ghost use Rattle.ad_grammar.specs.Words.{Word as MeantWord, plain, constant, mark as mark_word, words};
     ghost use Rattle.pool_text.specs.declared.language.Lit.{Lit as MeantLit};
     ghost use Rattle.ad_grammar.specs.declared.stop.Stop.{Stop};
 
@@ -85,15 +86,32 @@ impl<'a> Reader<'a> {
         }
     }
 
-    /// Takes a literal that stands next with a mark behind it that no expression goes on with.
+    /// Takes a plain name, where one stands next, for which no word is made.
     #[inline(always)]
-    pub(crate) fn lone_literal(&mut self, alloc: Global) -> Result<Option<Lit>, OutOfMemory>
-        ensures some { (lit : MeantLit) → result ≡ Ok (Some lit) → IsLone lit (left self.old) (left self.new) }
+    pub(crate) fn plain(&mut self) -> Option<&'a [u8]>
+        ensures some { (text : Bor (List ℕ)) → result ≡ Some text → left self.old ≡ plain text.now ∷ left self.new }
+        ensures kept { result ≡ None → left self.new ≡ left self.old }
+        ensures other { result ≡ None → (text : List ℕ) (rest : List MeantWord) → left self.old ≡ plain text ∷ rest → ⊥ }
+    {
+        if self.at >= self.tokens.len() {
+            return None;
+        }
+        let token = self.tokens.at(self.at);
+        match token.kind {
+            TokenKind::Plain => {
+                self.skip();
+                Some(token.text)
+            }
+            _ => None,
+        }
+    }
+
+    /// Takes a literal, where one stands next.
+    #[inline(always)]
+    pub(crate) fn literal(&mut self, alloc: Global) -> Result<Option<Lit>, OutOfMemory>
+        ensures some { (lit : MeantLit) → result ≡ Ok (Some lit) → left self.old ≡ constant lit ∷ left self.new }
         ensures none { result ≡ Ok None → left self.new ≡ left self.old }
     {
-        if !self.ends_behind_next() {
-            return Ok(None);
-        }
         match self.next(alloc)? {
             Some(Word::Constant(literal)) => {
                 self.skip();
@@ -103,8 +121,9 @@ impl<'a> Reader<'a> {
         }
     }
 
+    /// Whether a mark stands behind the next word with which no expression goes on.
     #[inline(always)]
-    fn ends_behind_next(&self) -> bool
+    pub(crate) fn ends_behind_next(&self) -> bool
         ensures { result ≡ ends_at (drop 1 (left self.now)) }
     {
         let len = self.tokens.len();
@@ -183,8 +202,10 @@ impl<'a> Reader<'a> {
     pub(crate) fn name(&mut self, alloc: Global) -> Result<Text, Stop>
         ensures { Gives (λ (t : List ℕ). t) (name_at (left self.old)) result (left self.new) }
     {
+        if let Some(text) = self.plain() {
+            return Ok(Text::from_bytes(alloc, text)?);
+        }
         match self.take(alloc)? {
-            Some(Word::Plain(text)) => Ok(Text::from_bytes(alloc, text)?),
             Some(Word::Quoted(text)) => Ok(text),
             _ => Err(Stop::Grammar),
         }

@@ -21,20 +21,9 @@ pub enum Word<'a> {
     Mark(Mark),
 }
 
-/// The word of a token that is no mark. Most are plain names, for which nothing is to be made.
-#[inline(always)]
-pub fn unmarked_word<'a>(alloc: Global, token: &Token<'a>) -> Result<Word<'a>, OutOfMemory>
-    requires { ∥ Spells token.now.kind token.now.text.now ∥₁ }
-    ensures { IfOk result (λ read. meaning read ≡ unmarked (word (lexeme token.now))) }
-{
-    match token.kind {
-        TokenKind::Plain => Ok(Word::Plain(token.text)),
-        _ => made_word(alloc, token),
-    }
-}
-
+/// The word of a token that is no mark.
 #[inline(never)]
-fn made_word<'a>(alloc: Global, token: &Token<'a>) -> Result<Word<'a>, OutOfMemory>
+pub fn unmarked_word<'a>(alloc: Global, token: &Token<'a>) -> Result<Word<'a>, OutOfMemory>
     requires { ∥ Spells token.now.kind token.now.text.now ∥₁ }
     ensures { IfOk result (λ read. meaning read ≡ unmarked (word (lexeme token.now))) }
 {

@@ -1,7 +1,7 @@
 use Rattle.std.proofs.Math.Logic.{∥∥₁_map}
 use Rattle.ad_lexer.proofs.ContentLemmas.{less_when}
 use Rattle.ad_grammar.proofs.WordLemmas.{string-quotation, name-quotation, integer-fits}
-use Rattle.ad_grammar.proofs.word.made_word.Goals as goal
+use Rattle.ad_grammar.proofs.word.unmarked_word.Goals as goal
 
 pub content-requires : goal.content-requires
 content-requires c = ∥∥₁_map c.requires (λ spells. name-quotation c.args.token.now.kind c.args.token.now.text.now c.in-Quoted.is spells)

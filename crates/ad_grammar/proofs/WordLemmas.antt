@@ -17,7 +17,7 @@ use Rattle.ad_lexer.specs.declared.token.TokenKind.{TokenKind}
 use Rattle.ad_lexer.specs.declared.token.TokenKind.TheVariants as kinds
 use Rattle.ad_grammar.specs.Meaning.{AreSpelled}
 use Rattle.ad_lexer.specs.Quoted.{IsQuotation}
-use Rattle.ad_grammar.specs.HeldMarks.{front, front_mark, mark_in, unmarked}
+use Rattle.ad_grammar.specs.HeldMarks.{front_mark, mark_in, unmarked}
 use Rattle.ad_grammar.specs.Words.{Word, plain, quoted, constant, mark, or_undefined, mark_word, reserved_words, word, word_of_kind, words}
 
 pub spelled-at : (ts : List Lexeme) (i : ℕ) (t : Lexeme) → slice_get ts i ≡ Some t → AreSpelled ts → Spells t.kind t.text
@@ -72,29 +72,20 @@ stands (t ∷ ts) (suc i) m e =
 pub mark-at : (ts : List Lexeme) (i : ℕ) (m : Option Mark) → slice_get (marks_of ts) i ≡ Some m → m ≡ front_mark (drop i (words ts))
 mark-at ts i m e = let s = stands ts i m e in sym (ap front_mark s.behind ∙ s.marked)
 
--- the first word behind a place, where a mark is known and where none is
-is-mark : (w : Word) (m : Mark) → mark_in w ≡ Some m → w ≡ mark m
-is-mark (plain text) m e = absurd (cc)
-is-mark (quoted text) m e = absurd (cc)
-is-mark (constant lit) m e = absurd (cc)
-is-mark (mark n) m e = let same : n ≡ m = cc in ap mark same
-
-pub marked-front : (ts : List Lexeme) (i : ℕ) (m : Mark) → slice_get (marks_of ts) i ≡ Some (Some m) → front (drop i (words ts)) ≡ Some (mark m)
-marked-front ts i m e = let s = stands ts i (Some m) e in ap front s.behind ∙ ap Some (is-mark s.here m s.marked)
-
+-- a word that is known to be no mark
 is-unmarked : (w : Word) → mark_in w ≡ None → w ≡ unmarked w
 is-unmarked (plain text) e = refl
 is-unmarked (quoted text) e = refl
 is-unmarked (constant lit) e = refl
 is-unmarked (mark m) e = absurd (cc)
 
-pub unmarked-front : (ts : List Lexeme) (i : ℕ) (t : Lexeme) → slice_get (marks_of ts) i ≡ Some None → slice_get ts i ≡ Some t → front (drop i (words ts)) ≡ Some (unmarked (word t))
-unmarked-front [] i t e f = absurd (cc)
-unmarked-front (u ∷ us) zero t e f =
+pub unmarked-word : (ts : List Lexeme) (i : ℕ) (t : Lexeme) → slice_get (marks_of ts) i ≡ Some None → slice_get ts i ≡ Some t → unmarked (word t) ≡ word t
+unmarked-word [] i t e f = absurd (cc)
+unmarked-word (u ∷ us) zero t e f =
     let none : mark_of_lexeme u ≡ None = cc in
     let same : u ≡ t = cc in
-    ap Some (is-unmarked (word u) (kind-mark u.kind u.text ∙ none) ∙ ap (λ (x : Lexeme). unmarked (word x)) same)
-unmarked-front (u ∷ us) (suc i) t e f = unmarked-front us i t e f
+    sym (is-unmarked (word t) (ap (λ (x : Lexeme). mark_in (word x)) (sym same) ∙ kind-mark u.kind u.text ∙ none))
+unmarked-word (u ∷ us) (suc i) t e f = unmarked-word us i t e f
 
 -- the word at a place, and where it is a plain name
 pub word-at : (ts : List Lexeme) (i : ℕ) (t : Lexeme) → slice_get ts i ≡ Some t → drop i (words ts) ≡ word t ∷ drop 1 (drop i (words ts))

@@ -13,7 +13,6 @@ ghost use Rattle.ad_grammar.specs.Words.{scope_of};
 
 use crate::reader::Reader;
 use crate::stop::Stop;
-use crate::word::Word;
 use ad_builder::{Instruction, Machine};
 use ad_lexer::Mark;
 use ad_tree::Scope;
@@ -58,10 +57,12 @@ pub(crate) fn worded(
     if let Some(text) = reader.plain() {
         return named(alloc, reader, machine, text);
     }
-    match reader.take(alloc)? {
-        Some(Word::Constant(literal)) => put(machine, Instruction::Literal(literal)),
-        Some(Word::Quoted(text)) => put(machine, Instruction::Name(Scope::Bare, text)),
-        _ => Err(Stop::Grammar),
+    if let Some(literal) = reader.literal(alloc)? {
+        return put(machine, Instruction::Literal(literal));
+    }
+    match reader.quoted(alloc)? {
+        Some(text) => put(machine, Instruction::Name(Scope::Bare, text)),
+        None => Err(Stop::Grammar),
     }
 }
 

@@ -5,9 +5,9 @@ ghost use Rattle.ad_grammar.specs.Meaning.{AreSpelled};
 use crate::nesting::{definitions_within, elements_ahead};
 use crate::operators::{ends, infix_of, prefix_of};
 use crate::stop::Stop;
-use crate::word::{Word, unmarked_word};
+use crate::word::literal;
 use ad_builder::Infix;
-use ad_lexer::{Mark, TokenKind, Tokens};
+use ad_lexer::{Mark, Token, TokenKind, Tokens, content};
 use pool_text::{Lit, OutOfMemory, Text, UnOp};
 use std::alloc::Global;
 
@@ -26,16 +26,17 @@ pub struct Reader<'a> {
 }
 
 impl<'a> Reader<'a> {
-    ghost use Rattle.std.specs.Prelude.{◌<◌, ◌∷◌, ◌^◌, ℕ, List, drop, option_map, Some, None, Ok, Err, IfOk, OnOk, IfSome, true, false};
+    ghost use Rattle.std.specs.Prelude.{◌<◌, ◌∷◌, ◌^◌, ℕ, List, drop, [], Some, None, Ok, Err, IfSome, true, false};
     ghost use Rattle.std.specs.Borrow.{Bor};
     ghost use Rattle.std.specs.Bool.{Decides};
     ghost use Rattle.ad_grammar.specs.Levels.{precedence_at};
-    ghost use Rattle.ad_grammar.specs.Meaning.{meaning};
+    ghost use Rattle.ad_lexer.specs.Lexeme.{lexeme};
+    ghost use Rattle.ad_lexer.specs.Spelling.{Spells};
     ghost use Rattle.ad_grammar.specs.Nesting.{nests_too_deep};
     ghost use Rattle.ad_grammar.specs.Rules.{name_at, infix_at};
     ghost use Rattle.ad_grammar.specs.Steps.{left, prefix_at, Takes, Gives, Finds, Continues};
-    ghost use Rattle.ad_grammar.specs.HeldMarks.{front, front_mark, ends_at};
-    ghost use Rattle.ad_grammar.specs.Words.{Word as MeantWord, plain, constant, mark as mark_word, words};
+    ghost use Rattle.ad_grammar.specs.HeldMarks.{front_mark, ends_at, unmarked};
+    ghost use Rattle.ad_grammar.specs.Words.{Word as MeantWord, plain, quoted, constant, mark as mark_word, word, words};
     ghost use Rattle.pool_text.specs.declared.language.Lit.{Lit as MeantLit};
     ghost use Rattle.ad_grammar.specs.declared.stop.Stop.{Stop};
 
@@ -62,27 +63,20 @@ impl<'a> Reader<'a> {
         self.tokens.len() - self.at
     }
 
-    /// Takes the next word.
+    /// The token that stands next, where it is no mark.
     #[inline(always)]
-    pub(crate) fn take(&mut self, alloc: Global) -> Result<Option<Word<'a>>, OutOfMemory>
-        ensures word { IfOk result (λ w. option_map meaning w ≡ front (left self.old)) }
-        ensures left { OnOk result (left self.new ≡ drop 1 (left self.old)) }
-    {
-        let word = self.next(alloc)?;
-        self.skip();
-        Ok(word)
-    }
-
-    #[inline(always)]
-    fn next(&self, alloc: Global) -> Result<Option<Word<'a>>, OutOfMemory>
-        ensures { IfOk result (λ w. option_map meaning w ≡ front (left self.now)) }
+    fn unmarked(&self) -> Option<Token<'a>>
+        ensures some { IfSome result (λ token. left self.now ≡ word (lexeme token) ∷ drop 1 (left self.now)) }
+        ensures is { IfSome result (λ token. unmarked (word (lexeme token)) ≡ word (lexeme token)) }
+        ensures spelled { IfSome result (λ token. ∥ Spells token.kind token.text.now ∥₁) }
+        ensures none { result ≡ None → front_mark (left self.now) ≡ None → left self.now ≡ [] }
     {
         if self.at >= self.tokens.len() {
-            return Ok(None);
+            return None;
         }
         match self.tokens.mark(self.at) {
-            Some(mark) => Ok(Some(Word::Mark(mark))),
-            None => Ok(Some(unmarked_word(alloc, &self.tokens.at(self.at))?)),
+            Some(_) => None,
+            None => Some(self.tokens.at(self.at)),
         }
     }
 
@@ -110,12 +104,35 @@ impl<'a> Reader<'a> {
     #[inline(always)]
     pub(crate) fn literal(&mut self, alloc: Global) -> Result<Option<Lit>, OutOfMemory>
         ensures some { (lit : MeantLit) → result ≡ Ok (Some lit) → left self.old ≡ constant lit ∷ left self.new }
-        ensures none { result ≡ Ok None → left self.new ≡ left self.old }
+        ensures kept { result ≡ Ok None → left self.new ≡ left self.old }
+        ensures other { result ≡ Ok None → (lit : MeantLit) (rest : List MeantWord) → left self.old ≡ constant lit ∷ rest → ⊥ }
     {
-        match self.next(alloc)? {
-            Some(Word::Constant(literal)) => {
+        let Some(token) = self.unmarked() else {
+            return Ok(None);
+        };
+        match literal(alloc, &token)? {
+            Some(literal) => {
                 self.skip();
                 Ok(Some(literal))
+            }
+            None => Ok(None),
+        }
+    }
+
+    /// Takes a quoted name, where one stands next.
+    #[inline(never)]
+    pub(crate) fn quoted(&mut self, alloc: Global) -> Result<Option<Text>, OutOfMemory>
+        ensures some { (text : List ℕ) → result ≡ Ok (Some text) → left self.old ≡ quoted text ∷ left self.new }
+        ensures other { result ≡ Ok None → (text : List ℕ) (rest : List MeantWord) → left self.old ≡ quoted text ∷ rest → ⊥ }
+    {
+        let Some(token) = self.unmarked() else {
+            return Ok(None);
+        };
+        match token.kind {
+            TokenKind::Quoted => {
+                let name = content(alloc, token.text)?;
+                self.skip();
+                Ok(Some(name))
             }
             _ => Ok(None),
         }
@@ -205,9 +222,9 @@ impl<'a> Reader<'a> {
         if let Some(text) = self.plain() {
             return Ok(Text::from_bytes(alloc, text)?);
         }
-        match self.take(alloc)? {
-            Some(Word::Quoted(text)) => Ok(text),
-            _ => Err(Stop::Grammar),
+        match self.quoted(alloc)? {
+            Some(text) => Ok(text),
+            None => Err(Stop::Grammar),
         }
     }
 

@@ -1,41 +1,33 @@
-// The words of a text: what its tokens mean to the parser.
-ghost use Rattle.std.specs.Prelude.{◌≡◌, IfOk};
+// What tokens mean to the parser: the literals and the names that are made of them. Marks and plain names need none.
+ghost use Rattle.std.specs.Prelude.{◌≡◌, Some, None, Ok};
 ghost use Rattle.ad_lexer.specs.Spelling.{Spells};
 ghost use Rattle.ad_lexer.specs.Lexeme.{lexeme};
 ghost use Rattle.ad_lexer.specs.Marks.{meaning_of};
-ghost use Rattle.ad_grammar.specs.Meaning.{meaning};
 ghost use Rattle.ad_grammar.specs.HeldMarks.{unmarked};
-ghost use Rattle.ad_grammar.specs.Words.{or_undefined, constant, reserved_words, word};
+ghost use Rattle.ad_grammar.specs.Words.{or_undefined, constant, quoted, reserved_words, word};
 ghost use Rattle.pool_text.specs.Folding.{folded};
+ghost use Rattle.pool_text.specs.declared.language.Lit.{Lit as MeantLit};
 
-use ad_lexer::{Mark, Token, TokenKind, content, integer};
+use ad_lexer::{Token, TokenKind, content, integer};
 use pool_text::{Lit, OutOfMemory, Text};
 use std::alloc::Global;
 
-/// A plain name, a name that stood in quotes, a literal, or a mark.
-#[derive(Drop)]
-pub enum Word<'a> {
-    Plain(&'a [u8]),
-    Quoted(Text),
-    Constant(Lit),
-    Mark(Mark),
-}
-
-/// The word of a token that is no mark.
-#[inline(never)]
-pub fn unmarked_word<'a>(alloc: Global, token: &Token<'a>) -> Result<Word<'a>, OutOfMemory>
+/// The literal that a token is, of those that are no marks.
+#[inline(always)]
+pub fn literal(alloc: Global, token: &Token<'_>) -> Result<Option<Lit>, OutOfMemory>
     requires { ∥ Spells token.now.kind token.now.text.now ∥₁ }
-    ensures { IfOk result (λ read. meaning read ≡ unmarked (word (lexeme token.now))) }
+    ensures some { (lit : MeantLit) → result ≡ Ok (Some lit) → unmarked (word (lexeme token.now)) ≡ constant lit }
+    ensures none { result ≡ Ok None → (lit : MeantLit) → word (lexeme token.now) ≡ constant lit → ⊥ }
 {
     let text = token.text;
-    Ok(match token.kind {
-        TokenKind::Plain => Word::Plain(text),
-        TokenKind::Reserved => Word::Constant(reserved(text)),
-        TokenKind::Quoted => Word::Quoted(content(alloc, text)?),
-        TokenKind::Str => Word::Constant(Lit::Str(content(alloc, text)?)),
-        TokenKind::Int => Word::Constant(Lit::Integer(integer(text))),
-        TokenKind::Symbol => Word::Constant(Lit::Undefined),
-    })
+    match token.kind {
+        TokenKind::Int => Ok(Some(Lit::Integer(integer(text)))),
+        TokenKind::Str => Ok(Some(Lit::Str(content(alloc, text)?))),
+        TokenKind::Reserved => Ok(Some(reserved(text))),
+        TokenKind::Symbol => Ok(Some(Lit::Undefined)),
+        TokenKind::Plain => Ok(None),
+        TokenKind::Quoted => Ok(None),
+    }
 }
 
 /// The literal of a reserved word that is no operator.

@@ -67,6 +67,7 @@ pub(crate) fn worded(
 }
 
 /// A primary of one instruction, which is no call.
+#[inline(always)]
 fn put(machine: &mut Machine, instruction: Instruction) -> Result<bool, Stop>
     ensures whole { (call : Bool) → result ≡ Ok call → call ≡ false }
     ensures stack { (call : Bool) → result ≡ Ok call → stack machine.new ≡ step instruction (stack machine.old) }
@@ -112,6 +113,7 @@ fn reference(
 }
 
 /// A plain name in no scope.
+#[inline(always)]
 fn bare(alloc: Global, machine: &mut Machine, text: &[u8]) -> Result<(), OutOfMemory>
     ensures { OnOk result (stack machine.new ≡ leaf (name Bare text.now) ∷ stack machine.old) }
 {

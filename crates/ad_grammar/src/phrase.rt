@@ -46,6 +46,7 @@ pub(crate) fn lone(
 
 /// A primary that begins with a word, and no mark. Answers whether it is a call, of which the arguments are still to be
 /// read.
+#[inline(always)]
 pub(crate) fn worded(
     alloc: Global,
     reader: &mut Reader<'_>,

@@ -1,5 +1,5 @@
 -- Steps of the rules, each for the branch of the code that takes it.
-use Rattle.std.proofs.Common.{refl, arith, true, ◌≡◌, ℕ, suc, ◌+◌, ◌-◌, ◌<◌, List, [], ◌∷◌, length, None, Some, Result, Ok, Err, ap, sym, ◌∙◌}
+use Rattle.std.proofs.Common.{refl, arith, true, ◌≡◌, ℕ, zero, suc, ◌+◌, ◌-◌, ◌<◌, List, [], ◌∷◌, length, None, Some, Result, Ok, Err, ap, sym, ◌∙◌}
 use Rattle.std.specs.Prelude.{IsErr, IsErrAnd}
 use Rattle.ad_tree.specs.Inline.{Inline, Inlines, Defs, end, next, no_defs, def}
 use Rattle.ad_tree.specs.Tree.{select, subscript, choice, call, list}
@@ -144,6 +144,14 @@ suffixes_suc e n x (mark m ∷ ws) h k =
       | OpenBracket ↦ λ l r. absurd (r ws refl)
       | _ ↦ λ l r. refl
     ] h k
+
+pub postfix-alone : (e : Rule) (ws rest : List Word) (x : Inline) → primary e ws ≡ Some (x, rest) → Lacks Dot rest → Lacks OpenBracket rest → postfix e ws ≡ Some (x, rest)
+postfix-alone e ws rest x read no_dot no_bracket =
+    ap (λ r. and_then r (λ y behind. suffixes e (length behind) y behind)) read ∙ by (length rest)
+  where
+    by : (n : ℕ) → suffixes e n x rest ≡ Some (x, rest)
+    by zero = refl
+    by (suc n) = suffixes_suc e n x rest no_dot no_bracket
 
 -- ---- brackets ----
 

@@ -146,7 +146,7 @@ fn prefixes(
     Ok(apply(machine, operators)?)
 }
 
-/// A primary with selections and subscripts behind it.
+/// A primary with selections and subscripts behind it, which few have.
 #[cycle(grammar)]
 fn postfix(
     alloc: Global,
@@ -158,7 +158,10 @@ fn postfix(
         result (left reader.new) (stack machine.old) (stack machine.new) }
 {
     primary(alloc, reader, machine, fuel)?;
-    suffixes(alloc, reader, machine, fuel)
+    if reader.has_suffix() {
+        return suffixes(alloc, reader, machine, fuel);
+    }
+    Ok(())
 }
 
 /// Selections and subscripts behind an operand.

@@ -38,6 +38,7 @@ impl<'a> Reader<'a> {
     ghost use Rattle.ad_grammar.specs.HeldMarks.{front_mark, ends_at, unmarked};
     ghost use Rattle.ad_grammar.specs.Words.{Word as MeantWord, plain, quoted, constant, mark as mark_word, word, words};
     ghost use Rattle.pool_text.specs.declared.language.Lit.{Lit as MeantLit};
+    ghost use Rattle.ad_lexer.specs.declared.mark.Mark.TheVariants.{Dot, OpenBracket};
     ghost use Rattle.ad_grammar.specs.declared.stop.Stop.{Stop};
 
     /// The place in front of the words of these tokens. `None` exactly where after some word more than 130 brackets and
@@ -192,6 +193,15 @@ impl<'a> Reader<'a> {
         }
         self.skip();
         true
+    }
+
+    /// Whether a selection or a subscript stands next.
+    #[inline(always)]
+    pub(crate) fn has_suffix(&self) -> bool
+        ensures dot { result ≡ false → (rest : List MeantWord) → left self.now ≡ mark_word Dot ∷ rest → ⊥ }
+        ensures bracket { result ≡ false → (rest : List MeantWord) → left self.now ≡ mark_word OpenBracket ∷ rest → ⊥ }
+    {
+        self.sees(Mark::Dot) || self.sees(Mark::OpenBracket)
     }
 
     fn skip(&mut self)

@@ -5,7 +5,7 @@ use Rattle.ad_grammar.specs.Rules as rules
 use Rattle.ad_grammar.specs.Steps.{left, wrapped, extended, completed, ContinuesOk}
 use Rattle.ad_grammar.specs.Words.{mark as mark_word}
 use Rattle.ad_grammar.proofs.MachineLemmas.{choices, choices-nil}
-use Rattle.ad_grammar.proofs.RuleLemmas.{less, puts-ok, stops-now, puts-expected, reputs, stops-here, stops-by, stops-full, arguments-unread, arguments-broken, arguments-closed, elements-unread, elements-broken, elements-closed, list-begun, ad-begun, paren-none, paren-closed, paren-broken, primary-none, postfix-none, conditionals-operandless, conditionals-choiceless, conditionals-end, conditionals-unclosed, conditionals-more, conditionals-below, conditionals-below_more, operations-end, operations-operandless, operations-more, two-below, several-valueless, several-end, several-more, definitions-unnamed, definitions-valueless, definitions-stopped, definitions-end, definitions-more, suffixes-end, suffixes-select, suffixes-unselected, suffixes-placeless, suffixes-broken, suffixes-subscript}
+use Rattle.ad_grammar.proofs.RuleLemmas.{less, puts-ok, stops-now, puts-expected, reputs, stops-here, stops-by, stops-full, arguments-unread, arguments-broken, arguments-closed, elements-unread, elements-broken, elements-closed, list-begun, ad-begun, paren-none, paren-closed, paren-broken, primary-none, postfix-none, postfix-alone, conditionals-operandless, conditionals-choiceless, conditionals-end, conditionals-unclosed, conditionals-more, conditionals-below, conditionals-below_more, operations-end, operations-operandless, operations-more, two-below, several-valueless, several-end, several-more, definitions-unnamed, definitions-valueless, definitions-stopped, definitions-end, definitions-more, suffixes-end, suffixes-select, suffixes-unselected, suffixes-placeless, suffixes-broken, suffixes-subscript}
 use Rattle.ad_grammar.proofs.LevelLemmas.{level-climbed, level-none, climb-end, climb-broken, climb-more}
 use Rattle.ad_grammar.proofs.grammar.+grammar.Goals as goal
 
@@ -553,6 +553,17 @@ postfix-returns-in_err-primary t c =
     let ws = left c.args.reader.now in
     stops-by (rules.postfix e ws) (left c.primary.new.reader) (stack c.args.machine.now) (stack c.primary.new.machine) c.from_residual.result c.in_err-primary.field-0.0 c.from_residual.ensures.0 c.from_residual.ensures.1
     (λ stop. postfix-none e ws (c.in_err-primary.ensures.none (ap Err stop)))
+
+pub postfix-returns : goal.postfix-returns
+postfix-returns t c =
+    let e = rules.expression c.args.fuel in
+    let ws = left c.args.reader.now in
+    let rest = left c.primary.new.reader in
+    let start = stack c.args.machine.now in
+    let after = stack c.primary.new.machine in
+    puts-ok (rules.postfix e ws) rest start after tt
+    (postfix-alone e ws rest (top after) (c.in_ok-primary.ensures.ok c.in_ok-primary.field-0 refl) (c.has_suffix.ensures.dot c.if-has_suffix.false) (c.has_suffix.ensures.bracket c.if-has_suffix.false))
+    (c.in_ok-primary.ensures.on c.in_ok-primary.field-0 refl)
 
 pub prefixes-returns-in_err-operators : goal.prefixes-returns-in_err-operators
 prefixes-returns-in_err-operators t c =

@@ -14,8 +14,8 @@ use std::alloc::Global;
 /// No ad with more definitions is within the limits of a parse.
 const MOST_ROOM: usize = 1_024;
 
-/// The words of a text, from a place on. A token is made a word when it is taken; the token itself tells which mark it is,
-/// since the rules look at the next one many times.
+/// The words of a text, from a place on. What a token means is made when it is taken, and most names need nothing made; the
+/// token itself tells which mark it is, since the rules look at the next one many times.
 #[derive(Drop)]
 pub struct Reader<'a> {
     tokens: Tokens<'a>,

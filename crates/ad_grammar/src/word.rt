@@ -1,15 +1,15 @@
-// What tokens mean to the parser: the literals and the names that are made of them. Marks and plain names need none.
-ghost use Rattle.std.specs.Prelude.{◌≡◌, Some, None, Ok};
+// The literals that tokens mean.
+ghost use Rattle.std.specs.Prelude.{◌≡◌, None, Ok, Some};
 ghost use Rattle.ad_lexer.specs.Spelling.{Spells};
 ghost use Rattle.ad_lexer.specs.Lexeme.{lexeme};
 ghost use Rattle.ad_lexer.specs.Marks.{meaning_of};
 ghost use Rattle.ad_grammar.specs.HeldMarks.{unmarked};
-ghost use Rattle.ad_grammar.specs.Words.{or_undefined, constant, quoted, reserved_words, word};
+ghost use Rattle.ad_grammar.specs.Words.{or_undefined, constant, reserved_words, word};
 ghost use Rattle.pool_text.specs.Folding.{folded};
 ghost use Rattle.pool_text.specs.declared.language.Lit.{Lit as MeantLit};
 
 use ad_lexer::{Token, TokenKind, content, integer};
-use pool_text::{Lit, OutOfMemory, Text};
+use pool_text::{Lit, OutOfMemory};
 use std::alloc::Global;
 
 /// The literal that a token is, of those that are no marks.

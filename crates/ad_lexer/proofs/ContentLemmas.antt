@@ -1,8 +1,8 @@
 -- What a string or a quoted name means, letter by letter.
-use Rattle.std.proofs.Common.{◌≡◌, ℕ, zero, suc, ◌-◌, ◌<◌, Bool, true, false, cond, eqb, List, [], ◌∷◌, ◌++◌, length, map, drop, slice_index, is_some, refl, sym, ◌∙◌, ap, arith, length-append, append_assoc, inl, inr, take, subst}
-use Rattle.std.proofs.lemmas.Bool.{cases_Bool, or_parts, not-true, eq-eqb}
+use Rattle.std.proofs.Common.{◌≡◌, ℕ, zero, suc, ◌+◌, ◌-◌, ◌<◌, Bool, true, false, cond, eqb, List, [], ◌∷◌, ◌++◌, length, map, drop, slice_index, is_some, refl, sym, ◌∙◌, ap, arith, length-append, append_assoc, inl, inr, take, subst}
+use Rattle.std.proofs.lemmas.Bool.{cases_Bool, or_parts, not-true, true≢false, eq-eqb}
 use Rattle.std.proofs.lemmas.Bool.Decides.{nat_tests}
-use Rattle.std.proofs.lemmas.List.{drop_at, append-nil}
+use Rattle.std.proofs.lemmas.List.{drop_at, append-nil, get_or-drop}
 use Rattle.std.specs.List.{prefix_len}
 use Rattle.std.proofs.Math.Logic.{∥∥₁_elim}
 use Rattle.std.proofs.Math.Bridge.{le_prop}
@@ -155,6 +155,21 @@ unread_end quote bytes text rest (letter ∷ letters) is spelled are means none 
     let more : List ℕ = spellings letters ++ quote ∷ [] in
     let joined : rest ≡ spelling letter ++ more = spelled ∙ append_assoc (spelling letter) (spellings letters) (quote ∷ []) in
     absurd (none _ _ (ap (front quote) joined ∙ letter_met quote letter more is are.0))
+
+closes : (quote : ℕ) (rest : List ℕ) → is_quote quote ≡ true → slice_index rest 0 ≡ quote → front quote rest ≡ fronts.Close
+closes quote [] is first = absurd (true≢false (sym is ∙ ap is_quote (sym first)))
+closes quote (byte ∷ bytes) is first = ap (λ (b : ℕ). front quote (b ∷ bytes)) first ∙ front_close quote bytes
+
+-- where the closing quote stands behind the first run of bytes, that is all
+pub one_run : (bytes : List ℕ) → IsQuotation bytes → slice_index (drop 1 bytes) (prefix_len (is_in class.Plain) (drop 1 bytes)) ≡ slice_index bytes 0 → take (prefix_len (is_in class.Plain) (drop 1 bytes)) (drop 1 bytes) ≡ content bytes
+one_run bytes quotation closed =
+    let quote : ℕ = slice_index bytes 0 in
+    let letters : List ℕ = drop 1 bytes in
+    let n : ℕ = prefix_len (is_in class.Plain) letters in
+    let u = unread_run quote bytes [] letters (unread_first bytes quotation) in
+    let place : n + 0 ≡ n = omega arith in
+    let close = closes quote (drop n letters) u.quotes (get_or-drop n letters 0 0 ∙ ap (λ (k : ℕ). slice_index letters k) place ∙ closed) in
+    unread_end quote bytes (take n letters) (drop n letters) u.letters u.quotes u.spelled u.are u.means (λ len meant reads. absurd (cc (sym close ∙ reads)))
 
 -- a quotation has two quotes
 pub quotation_long : (bytes : List ℕ) → IsQuotation bytes → 1 < length bytes

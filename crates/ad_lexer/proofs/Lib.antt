@@ -6,6 +6,7 @@ pub mod DecimalLemmas
 mod Fronts
 pub mod ItemLemmas
 pub mod LetterLemmas
+pub mod MarkLemmas
 pub mod NumberLemmas
 pub mod QuotedLemmas
 pub mod Runs

@@ -1,9 +1,9 @@
 -- Whole texts: one token list or one fault, and not both, and how far a text was divided. Nothing here knows of the kinds of tokens.
-use Rattle.std.proofs.Common.{◌≡◌, ◌⊎◌, ℕ, zero, suc, ◌<◌, ◌≤◌, false, List, length, take, IsUtf8, sym, ◌∙◌, subst, inl, inr, arith, take_all, ◌+◌, [], ◌∷◌, ◌++◌, refl, ap, length-append, ◌-◌, true, drop, Option, Result, Ok, Err, append_assoc}
+use Rattle.std.proofs.Common.{◌≡◌, ◌⊎◌, ℕ, zero, suc, ◌<◌, ◌≤◌, false, List, length, take, slice_index, IsUtf8, sym, ◌∙◌, subst, inl, inr, arith, take_all, ◌+◌, [], ◌∷◌, ◌++◌, refl, ap, length-append, ◌-◌, true, drop, Option, Result, Ok, Err, append_assoc}
 use Rattle.std.proofs.lemmas.Bool.{cases_Bool, cases_lt, true≢false, le-leb}
 use Rattle.std.proofs.lemmas.Str.{IsUtf8-from_is_utf8, is_utf8-from_IsUtf8, IsUtf8-nil, utf8_valid_len-IsValidUpTo}
 use Rattle.std.specs.Str.{IsValidUpTo, is_utf8}
-use Rattle.std.proofs.lemmas.List.{append_cancel_left, take_at, drop_at, append-nil, map-append}
+use Rattle.std.proofs.lemmas.List.{append_cancel_left, take_at, drop_at, drop-drop, append-nil, get_or-drop, map-append}
 use Rattle.std.specs.List.{flat_map, slice_range}
 use Rattle.std.proofs.lemmas.List.Folds.{list_all-append}
 use Rattle.ad_lexer.specs.declared.fault.LexKind.{LexKind}
@@ -14,7 +14,7 @@ use Rattle.ad_lexer.specs.Faults.{Wrong}
 use Rattle.ad_lexer.specs.Lexeme.{Lexeme}
 use Rattle.ad_lexer.specs.Marks.{mark_of_kind, mark_of_lexeme, marks_of}
 use Rattle.ad_lexer.specs.Tokens.{Item, blank, token, bytes_of, IsItem, Divides, lexemes, Tokens, IsIllFormed, HasFault, Fault, Answers, IsOrMemory}
-use Rattle.ad_lexer.specs.Reading.{next}
+use Rattle.ad_lexer.specs.Reading.{next, PassesBlank}
 use Rattle.ad_lexer.specs.declared.fault.LexFault.{LexFault}
 use Rattle.ad_lexer.specs.declared.token.Span.{Span}
 use Rattle.ad_lexer.specs.declared.token.TokenKind.{TokenKind}
@@ -22,7 +22,7 @@ use Rattle.ad_lexer.specs.Spans.{lexeme_of, lexemes_of, is_within, are_within, A
 use Rattle.ad_lexer.specs.declared.next.Step.TheVariants as steps
 use Rattle.ad_lexer.specs.declared.fault.LexFault.TheVariants as faults
 use Rattle.ad_lexer.proofs.ItemLemmas.{step_of, item_next, item_same, token_found, spelled_some}
-use Rattle.ad_lexer.proofs.Steps.{wrong_next, next_stands}
+use Rattle.ad_lexer.proofs.Steps.{blank_next, wrong_next, next_stands}
 use Rattle.ad_lexer.proofs.Fronts.{Stands}
 
 -- the longest of the fronts up to a length that are UTF-8
@@ -257,6 +257,22 @@ reached_blank text rest list at n reached reads =
       list_is = reached.list_is ∙ sym (lexemes_push 0 reached.items item ∙ append-nil (lexemes 0 reached.items));
       at_is = omega (arith, reached.at_is, here.length_is, len_push reached.items item);
     }
+
+-- a place of the text further on
+pub reached_on : (text : List ℕ) (list : List Lexeme) (at n : ℕ) → Reached text (drop n (drop at text)) list (at + n) → Reached text (drop (at + n) text) list (at + n)
+reached_on text list at n reached = subst (λ (l : List ℕ). Reached text l list (at + n)) (drop-drop n at text) reached
+
+blank_at : (text : List ℕ) → slice_index text 0 ≡ 32 → next text ≡ steps.Blank 1
+blank_at [] is = absurd (omega arith)
+blank_at (byte ∷ bytes) is = blank_next (byte ∷ []) bytes (inl (byte, refl, rw is refl))
+
+-- a blank behind a place is passed
+pub reached_past : (text : List ℕ) (list : List Lexeme) (at later : ℕ) → Reached text (drop at text) list at → PassesBlank text at later → Reached text (drop later text) list later
+reached_past text list at later reached (inl same) = subst (λ (n : ℕ). Reached text (drop n text) list n) (sym same) reached
+reached_past text list at later reached (inr past) =
+    let place : at + 0 ≡ at = omega arith in
+    let reads = blank_at (drop at text) (get_or-drop at text 0 0 ∙ ap (λ (n : ℕ). slice_index text n) place ∙ past.0) in
+    subst (λ (n : ℕ). Reached text (drop n text) list n) (sym past.1) (reached_on text list at 1 (reached_blank text (drop at text) list at 1 reached (sym reads)))
 
 abbrev pub lexeme_at : TokenKind → ℕ → ℕ → List ℕ → Lexeme
 lexeme_at kind start end text = record { kind = kind; start = start; end = end; text = text }

@@ -1,5 +1,5 @@
 -- What the code reads at the front of a text, byte by byte. The definitions to believe stand in `Tokens`.
-use Rattle.std.specs.Prelude.{ℕ, zero, suc, ◌+◌, ◌-◌, ◌<◌, ◌≤◌, Bool, not, ◌&&◌, ◌||◌, ◌==◌, nat_lt, List, [], ◌∷◌, take, drop, slice_index, Option, Some, None, if◌then◌else◌}
+use Rattle.std.specs.Prelude.{◌≡◌, ℕ, zero, suc, ◌+◌, ◌-◌, ◌<◌, ◌≤◌, Bool, not, ◌&&◌, ◌||◌, ◌==◌, nat_lt, List, [], ◌∷◌, take, drop, slice_index, Option, Some, None, ◌⊎◌, if◌then◌else◌}
 use Rattle.std.specs.Char.{is_ascii_digit, is_ascii_hexdigit}
 use Rattle.std.specs.List.{prefix_len}
 use Rattle.ad_lexer.specs.declared.bytes.Class.{Class}
@@ -15,6 +15,8 @@ use Rattle.ad_lexer.specs.declared.token.TokenKind.{TokenKind}
 use Rattle.ad_lexer.specs.declared.token.TokenKind.TheVariants.{Plain, Reserved, Quoted, Str, Int, Symbol}
 use Rattle.ad_lexer.specs.Blanks.{is_space, is_line_byte}
 use Rattle.ad_lexer.specs.Content.{octal_len, octal_value}
+use Rattle.ad_lexer.specs.declared.mark.Mark.{Mark}
+use Rattle.ad_lexer.specs.Marks.{marks, mark_of_kind, meaning_of}
 use Rattle.ad_lexer.specs.Numbers.{is_hexadecimal, is_integer, number_len}
 use Rattle.ad_lexer.specs.Quoted.{escaped, is_octal_digit, is_plain}
 use Rattle.ad_lexer.specs.Symbols.{is_symbol}
@@ -22,6 +24,7 @@ use Rattle.ad_lexer.specs.Words.{begins_word, is_word_byte, is_reserved}
 
 -- the classes of bytes that runs are made of
 abbrev pub is_in : Class → ℕ → Bool
+is_in class.Space byte = is_space byte
 is_in class.Word byte = is_word_byte byte
 is_in class.Decimal byte = is_ascii_digit byte
 is_in class.Hexadecimal byte = is_ascii_hexdigit byte
@@ -78,6 +81,21 @@ unfoldable pub symbol : List ℕ → Step
 symbol text =
     if slice_index text 0 == 46 && is_ascii_digit (slice_index text 1) then steps.Fault kinds.Decimal 0
     else symbol_of (symbol_len (slice_index text 0) (slice_index text 1) (slice_index text 2))
+
+-- bytes with which a longer symbol, a comment or a decimal may begin
+abbrev pub begins_more : ℕ → Bool
+begins_more byte =
+    byte == 33 || byte == 38 || byte == 46 || byte == 47 || byte == 60 || byte == 61 || byte == 62 || byte == 124
+
+-- the mark of a byte that is a symbol however the text goes on
+abbrev pub alone : ℕ → Option Mark
+alone byte = if begins_more byte then None else meaning_of marks (byte ∷ [])
+
+-- the longest symbol that the bytes begin with, by its mark and its length
+abbrev pub IsLongest : ℕ → ℕ → ℕ → Option (Mark × ℕ) → Type 0
+IsLongest first second third None = symbol_len first second third ≡ 0
+IsLongest first second third (Some found) =
+    (symbol_len first second third ≡ found.1) × (Some found.0 ≡ meaning_of marks (take found.1 (first ∷ second ∷ third ∷ [])))
 
 -- ---- comments
 
@@ -184,3 +202,16 @@ IsLetterWithin least len fronts.Backslash = 0 < least + len
 abbrev pub HasOctal : ℕ → ℕ → Front → Type 0
 HasOctal second third (fronts.Letter n meant) = (2 ≤ n) × (n ≤ 4) × (3 ≤ n → 0 < second) × (4 ≤ n → 0 < third)
 HasOctal second third other = Unit {0}
+
+-- ---- marks
+
+-- where a token is read, its mark
+abbrev pub IsMarked : List ℕ → Step → Option Mark → Type 0
+IsMarked text steps.End mark = Unit {0}
+IsMarked text (steps.Blank n) mark = Unit {0}
+IsMarked text (steps.Token kind n) mark = mark ≡ mark_of_kind kind (take n text)
+IsMarked text (steps.Fault kind place) mark = Unit {0}
+
+-- the place itself, or the one behind it where a blank stands there
+abbrev pub PassesBlank : List ℕ → ℕ → ℕ → Type 0
+PassesBlank text place behind = (behind ≡ place) ⊎ ((slice_index text place ≡ 32) × (behind ≡ place + 1))

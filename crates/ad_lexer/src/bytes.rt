@@ -6,6 +6,8 @@ ghost use Rattle.ad_lexer.specs.Reading.{is_in};
 /// The bytes that runs are made of.
 #[derive(Clone, Copy)]
 pub enum Class {
+    /// White space.
+    Space,
     /// Letters, digits and `_`.
     Word,
     /// `0` to `9`.
@@ -41,16 +43,40 @@ const WORD_BYTES: [bool; 256] = [
     false, false, false, false, false, false, false, false, false, false,
 ];
 
+/// Whether each byte stands for itself between quotes of either kind.
+const PLAIN_BYTES: [bool; 256] = [
+    false, true, true, true, true, true, true, true, true, true, false, true, true, true, true,
+    true, true, true, true, true, true, true, true, true, true, true, true, true, true, true, true,
+    true, true, true, false, true, true, true, true, false, true, true, true, true, true, true,
+    true, true, true, true, true, true, true, true, true, true, true, true, true, true, true, true,
+    true, true, true, true, true, true, true, true, true, true, true, true, true, true, true, true,
+    true, true, true, true, true, true, true, true, true, true, true, true, true, true, false,
+    true, true, true, true, true, true, true, true, true, true, true, true, true, true, true, true,
+    true, true, true, true, true, true, true, true, true, true, true, true, true, true, true, true,
+    true, true, true, true, true, true, true, true, true, true, true, true, true, true, true, true,
+    true, true, true, true, true, true, true, true, true, true, true, true, true, true, true, true,
+    true, true, true, true, true, true, true, true, true, true, true, true, true, true, true, true,
+    true, true, true, true, true, true, true, true, true, true, true, true, true, true, true, true,
+    true, true, true, true, true, true, true, true, true, true, true, true, true, true, true, true,
+    true, true, true, true, true, true, true, true, true, true, true, true, true, true, true, true,
+    true, true, true, true, true, true, true, true, true, true, true, true, true, true, true, true,
+    true, true, true, true, true, true, true, true, true, true, true, true, true, true, true, true,
+    true, true, true,
+];
+
 /// Whether a byte is of the class.
 pub fn is_in(class: Class, byte: u8) -> bool
     ensures { result ≡ is_in class byte }
 {
     match class {
+        Class::Space => {
+            byte == b' ' || byte == b'\t' || byte == b'\n' || byte == b'\r' || byte == 12
+        }
         Class::Word => WORD_BYTES[byte as usize],
         Class::Decimal => byte.is_ascii_digit(),
         Class::Hexadecimal => byte.is_ascii_hexdigit(),
         Class::Line => byte != b'\n',
-        Class::Plain => !matches!(byte, b'"' | b'\'' | b'\\' | b'\n' | 0),
+        Class::Plain => PLAIN_BYTES[byte as usize],
     }
 }
 

@@ -17,17 +17,32 @@ pub fn content(alloc: Global, spelling: &[u8]) -> Result<Text, OutOfMemory>
     ensures { IfOk result (λ text. text ≡ content spelling.now) }
 {
     let quote = byte_at(spelling, 0);
+    let letters = behind(spelling, 1);
+    let plain = run_len(Class::Plain, letters);
+    if byte_at(letters, plain) == quote {
+        Text::from_bytes(alloc, front(letters, plain))
+    } else {
+        let bytes = unescaped(alloc, spelling)?;
+        Text::from_bytes(alloc, &bytes)
+    }
+}
+
+/// The same, letter by letter, where some are escapes.
+fn unescaped(alloc: Global, spelling: &[u8]) -> Result<Vec<u8>, OutOfMemory>
+    requires { ∥ IsQuotation spelling.now ∥₁ }
+    ensures { IfOk result (λ bytes. bytes.items ≡ content spelling.now) }
+{
+    let quote = byte_at(spelling, 0);
     let mut rest = behind(spelling, 1);
-    let mut text = Text::new(alloc);
+    let mut bytes = Vec::with_capacity(alloc, spelling.len())?;
     loop {
         let plain = run_len(Class::Plain, rest);
-        text.append(front(rest, plain))?;
+        bytes.extend_from_slice(front(rest, plain))?;
         rest = behind(rest, plain);
         let Front::Letter(len, byte) = front_of(quote, rest) else {
-            text.shrink_to_fit();
-            return Ok(text);
+            return Ok(bytes);
         };
-        text.append(&[byte])?;
+        bytes.push(byte)?;
         rest = behind(rest, len);
     }
 }

@@ -1,13 +1,13 @@
 // Divides a text into its tokens.
-ghost use Rattle.std.specs.Prelude.{◌≡◌, ◌<◌, ◌^◌, ℕ, List, length, Ok, Err, IsUtf8};
+ghost use Rattle.std.specs.Prelude.{◌≡◌, ◌<◌, ◌≤◌, ◌^◌, ℕ, List, length, Ok, Err, IsUtf8};
 ghost use Rattle.ad_lexer.specs.declared.fault.LexKind.{LexKind};
 ghost use Rattle.ad_lexer.specs.Lexeme.{Lexeme};
+ghost use Rattle.ad_lexer.specs.Reading.{PassesBlank};
 ghost use Rattle.ad_lexer.specs.Tokens as spec;
 
-use crate::bytes::{behind, front};
+use crate::bytes::{behind, byte_at};
 use crate::fault::{LexFault, LexKind};
-use crate::mark::mark_of;
-use crate::next::{Step, next};
+use crate::next::{Marked, Step, next};
 use crate::token::{Span, Tokens};
 use std::alloc::Global;
 
@@ -40,27 +40,36 @@ fn divide(alloc: Global, text: &[u8]) -> Result<Tokens<'_>, LexFault>
 {
     let mut spans = Vec::with_capacity(alloc, text.len() / BYTES_A_TOKEN)?;
     let mut at = 0;
-    let mut rest = text;
     loop {
-        match next(rest) {
+        let Marked { step, mark } = next(behind(text, at));
+        match step {
             Step::End => return Ok(Tokens::of(text, spans)),
-            Step::Blank(len) => {
-                at += len;
-                rest = behind(rest, len);
-            }
+            Step::Blank(len) => at += len,
             Step::Token(kind, len) => {
                 let end = at + len;
                 spans.push(Span {
                     kind,
-                    mark: mark_of(kind, front(rest, len)),
+                    mark,
                     start: at as u32,
                     end: end as u32,
                 })?;
-                at = end;
-                rest = behind(rest, len);
+                at = behind_blank(text, end);
             }
             Step::Fault(kind, place) => return Err(fault_at(kind, at + place)),
         }
+    }
+}
+
+/// The place itself, or the one behind it where a blank stands there: most tokens have one behind them.
+fn behind_blank(text: &[u8], place: usize) -> usize
+    requires { place ≤ length text.now }
+    ensures passes { PassesBlank text.now place result }
+    ensures within { result ≤ length text.now }
+{
+    if byte_at(text, place) == b' ' {
+        place + 1
+    } else {
+        place
     }
 }
 

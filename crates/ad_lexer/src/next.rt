@@ -1,14 +1,18 @@
 // What stands at the front of a text.
-ghost use Rattle.std.specs.Prelude.{◌≡◌, ◌<◌, ◌≤◌, ◌^◌, length, slice_index, IfSome};
+ghost use Rattle.std.specs.Prelude.{◌≡◌, ◌<◌, ◌≤◌, ◌^◌, length, slice_index, IfSome, Some, None};
 ghost use Rattle.ad_lexer.specs.Reading as spec;
 ghost use Rattle.ad_lexer.specs.Words as words;
+ghost use Rattle.ad_lexer.specs.declared.next.Step.TheVariants as steps;
+ghost use Rattle.ad_lexer.specs.declared.token.TokenKind.TheVariants.{Symbol};
 
-use crate::bytes::{Class, behind, byte_at, is_in, run_len};
+use crate::bytes::{Class, behind, byte_at, front, is_in, run_len};
 use crate::fault::LexKind;
+use crate::mark::{Mark, mark_of_reserved};
 use crate::number::number;
 use crate::quoted::{name, string};
-use crate::symbol::symbol;
+use crate::symbol::{alone, symbol};
 use crate::token::TokenKind;
+use pool_text::BinOp;
 
 /// The end of the text, white space or a comment with its length, a token with its length, or a fault with its place.
 #[derive(Clone, Copy)]
@@ -31,47 +35,76 @@ pub enum Begin {
     Symbol,
 }
 
+/// A step, with the mark that its token is.
+#[derive(Clone, Copy)]
+pub struct Marked {
+    pub step: Step,
+    pub mark: Option<Mark>,
+}
+
 /// What a text begins with whose first byte is this.
 #[tactic(auto, unfolding(crate::specs::Reading::begin_of))]
 fn begin_of(byte: u8) -> Begin
     ensures { result ≡ spec.begin_of byte }
 {
-    if byte == b' ' || byte == b'\t' || byte == b'\n' || byte == b'\r' || byte == 12 {
-        Begin::Space
-    } else if is_in(Class::Word, byte) {
-        if byte.is_ascii_digit() {
-            Begin::Number
-        } else {
-            Begin::Word
+    match byte {
+        b' ' => Begin::Space,
+        b'\'' => Begin::Name,
+        b'"' => Begin::String,
+        b'/' => Begin::Slash,
+        _ if is_in(Class::Word, byte) => {
+            if byte.is_ascii_digit() {
+                Begin::Number
+            } else {
+                Begin::Word
+            }
         }
-    } else {
-        match byte {
-            b'\'' => Begin::Name,
-            b'"' => Begin::String,
-            b'/' => Begin::Slash,
-            _ => Begin::Symbol,
-        }
+        _ if is_in(Class::Space, byte) => Begin::Space,
+        _ => Begin::Symbol,
     }
 }
 
 /// What stands at the front of a text: an item of it, or its fault.
 #[tactic(auto, unfolding(crate::specs::Reading::next))]
-pub fn next(text: &[u8]) -> Step
+pub fn next(text: &[u8]) -> Marked
     requires { length text.now < 2 ^ 32 }
-    ensures value { result ≡ spec.next text.now }
-    ensures within { spec.IsWithin (length text.now) result }
+    ensures value { result.step ≡ spec.next text.now }
+    ensures within { spec.IsWithin (length text.now) result.step }
+    ensures marked { spec.IsMarked text.now result.step result.mark }
 {
     let [first, ..] = text else {
-        return Step::End;
+        return unmarked(Step::End);
     };
+    if let Some(mark) = alone(*first) {
+        return symbol_of(mark, 1);
+    }
     match begin_of(*first) {
-        Begin::Space => Step::Blank(1),
+        Begin::Space => unmarked(Step::Blank(1)),
         Begin::Word => word(text),
-        Begin::Number => number(text),
-        Begin::Name => name(text),
-        Begin::String => string(text),
+        Begin::Number => unmarked(number(text)),
+        Begin::Name => unmarked(name(text)),
+        Begin::String => unmarked(string(text)),
         Begin::Slash => slash(text),
         Begin::Symbol => symbol(text),
+    }
+}
+
+/// A step whose token has no mark.
+pub fn unmarked(step: Step) -> Marked
+    ensures step { result.step ≡ step }
+    ensures mark { result.mark ≡ None }
+{
+    Marked { step, mark: None }
+}
+
+/// A symbol.
+pub fn symbol_of(mark: Mark, len: usize) -> Marked
+    ensures step { result.step ≡ steps.Token Symbol len }
+    ensures mark { result.mark ≡ Some mark }
+{
+    Marked {
+        step: Step::Token(TokenKind::Symbol, len),
+        mark: Some(mark),
     }
 }
 
@@ -88,36 +121,42 @@ fn is_reserved(word: &[u8]) -> bool
 }
 
 /// The word that the text begins with.
-fn word(text: &[u8]) -> Step
+fn word(text: &[u8]) -> Marked
     requires some { 0 < length text.now }
     requires begins { spec.begin_of (slice_index text.now 0) ≡ Begin.Word }
-    ensures value { result ≡ spec.word text.now }
-    ensures within { spec.IsWithin (length text.now) result }
+    ensures value { result.step ≡ spec.word text.now }
+    ensures within { spec.IsWithin (length text.now) result.step }
+    ensures marked { spec.IsMarked text.now result.step result.mark }
 {
     let len = run_len(Class::Word, text);
-    let kind = if is_reserved(&text[..len]) {
-        TokenKind::Reserved
+    let bytes = front(text, len);
+    if is_reserved(bytes) {
+        Marked {
+            step: Step::Token(TokenKind::Reserved, len),
+            mark: mark_of_reserved(bytes),
+        }
     } else {
-        TokenKind::Plain
-    };
-    Step::Token(kind, len)
+        unmarked(Step::Token(TokenKind::Plain, len))
+    }
 }
 
 /// What a slash at the front begins: a comment, or the operator.
 #[tactic(auto, unfolding(crate::specs::Reading::slash))]
-fn slash(text: &[u8]) -> Step
+fn slash(text: &[u8]) -> Marked
     requires some { 0 < length text.now }
     requires room { length text.now < 2 ^ 32 }
-    ensures value { result ≡ spec.slash text.now }
-    ensures within { spec.IsWithin (length text.now) result }
+    requires begins { slice_index text.now 0 ≡ 47 }
+    ensures value { result.step ≡ spec.slash text.now }
+    ensures within { spec.IsWithin (length text.now) result.step }
+    ensures marked { spec.IsMarked text.now result.step result.mark }
 {
     match byte_at(text, 1) {
-        b'/' => Step::Blank(2 + run_len(Class::Line, behind(text, 2))),
+        b'/' => unmarked(Step::Blank(2 + run_len(Class::Line, behind(text, 2)))),
         b'*' => match comment_len(behind(text, 2)) {
-            Some(len) => Step::Blank(2 + len),
-            None => Step::Fault(LexKind::CommentEnd, 0),
+            Some(len) => unmarked(Step::Blank(2 + len)),
+            None => unmarked(Step::Fault(LexKind::CommentEnd, 0)),
         },
-        _ => Step::Token(TokenKind::Symbol, 1),
+        _ => symbol_of(Mark::Binary(BinOp::Div), 1),
     }
 }
 

@@ -73,6 +73,7 @@ fn quoted(kind: TokenKind, quote: u8, text: &[u8]) -> Step
 
 /// What stands at the front of the rest of a string that this quote closes.
 #[tactic(auto, unfolding(crate::specs::Reading::front))]
+#[inline(always)]
 pub fn front_of(quote: u8, text: &[u8]) -> Front
     ensures value { result ≡ spec.front quote text.now }
     ensures within { spec.IsLetterWithin 0 (length text.now) result }
@@ -93,6 +94,7 @@ pub fn front_of(quote: u8, text: &[u8]) -> Front
 
 /// What a backslash before these bytes begins.
 #[tactic(auto, unfolding(crate::specs::Reading::escape))]
+#[inline(never)]
 fn escape(text: &[u8]) -> Front
     ensures value { result ≡ spec.escape text.now }
     ensures within { spec.IsLetterWithin 1 (length text.now) result }

@@ -1,81 +1,83 @@
 // Symbols.
-ghost use Rattle.std.specs.Prelude.{◌≡◌, ◌<◌, ◌≤◌, ◌∷◌, [], length};
+ghost use Rattle.std.specs.Prelude.{◌≡◌, ◌<◌, ◌≤◌, length, IfSome};
 ghost use Rattle.ad_lexer.specs.Reading as spec;
-ghost use Rattle.ad_lexer.specs.Symbols.{is_symbol};
 
 use crate::bytes::byte_at;
 use crate::fault::LexKind;
-use crate::next::Step;
-use crate::token::TokenKind;
+use crate::mark::Mark;
+use crate::next::{Marked, Step, symbol_of, unmarked};
+use pool_text::BinOp;
 
 /// The longest symbol that the text begins with, or its fault.
 #[tactic(auto, unfolding(crate::specs::Reading::symbol))]
-pub fn symbol(text: &[u8]) -> Step
+pub fn symbol(text: &[u8]) -> Marked
     requires { 0 < length text.now }
-    ensures value { result ≡ spec.symbol text.now }
-    ensures within { spec.IsWithin (length text.now) result }
+    ensures value { result.step ≡ spec.symbol text.now }
+    ensures within { spec.IsWithin (length text.now) result.step }
+    ensures marked { spec.IsMarked text.now result.step result.mark }
 {
     let second = byte_at(text, 1);
     if text[0] == b'.' && second.is_ascii_digit() {
-        return Step::Fault(LexKind::Decimal, 0);
+        return unmarked(Step::Fault(LexKind::Decimal, 0));
     }
-    match symbol_len(text[0], second, byte_at(text, 2)) {
-        0 => Step::Fault(LexKind::Character, 0),
-        len => Step::Token(TokenKind::Symbol, len),
+    match longest(text[0], second, byte_at(text, 2)) {
+        Some((mark, len)) => symbol_of(mark, len),
+        None => unmarked(Step::Fault(LexKind::Character, 0)),
     }
 }
 
-/// The length of the longest symbol that these bytes begin with, or 0.
+/// The mark of a byte that is a symbol however the text goes on.
+#[inline(always)]
+pub fn alone(byte: u8) -> Option<Mark>
+    ensures { result ≡ spec.alone byte }
+{
+    Some(match byte {
+        b'(' => Mark::OpenParen,
+        b')' => Mark::CloseParen,
+        b'[' => Mark::OpenBracket,
+        b']' => Mark::CloseBracket,
+        b'{' => Mark::OpenBrace,
+        b'}' => Mark::CloseBrace,
+        b',' => Mark::Comma,
+        b';' => Mark::Semicolon,
+        b'?' => Mark::Question,
+        b':' => Mark::Colon,
+        b'~' => Mark::Complement,
+        b'^' => Mark::Binary(BinOp::BitXor),
+        b'+' => Mark::Binary(BinOp::Add),
+        b'-' => Mark::Binary(BinOp::Sub),
+        b'*' => Mark::Binary(BinOp::Mul),
+        b'%' => Mark::Binary(BinOp::Rem),
+        _ => return None,
+    })
+}
+
+/// The longest symbol that these bytes begin with, and its length.
 #[tactic(auto, unfolding(crate::specs::Reading::symbol_len))]
-fn symbol_len(first: u8, second: u8, third: u8) -> usize
-    ensures value { result ≡ spec.symbol_len first second third }
-    ensures within { (result ≤ 3) × (2 ≤ result → 0 < second) × (3 ≤ result → 0 < third) }
+fn longest(first: u8, second: u8, third: u8) -> Option<(Mark, usize)>
+    ensures value { spec.IsLongest first second third result }
+    ensures within { IfSome result (λ found. (0 < found.1) × (found.1 ≤ 3) × (2 ≤ found.1 → 0 < second) × (3 ≤ found.1 → 0 < third)) }
 {
-    match first {
-        b'=' => equals_len(second, third),
-        b'>' => greater_len(second, third),
-        b'<' if second == b'<' || second == b'=' => 2,
-        b'!' if second == b'=' => 2,
-        b'&' | b'|' if second == first => 2,
-        _ if is_single(first) => 1,
-        _ => 0,
-    }
-}
-
-/// The same of those that begin with `=`.
-#[tactic(auto, unfolding(crate::specs::Reading::symbol_len))]
-fn equals_len(second: u8, third: u8) -> usize
-    ensures value { result ≡ spec.symbol_len 61 second third }
-    ensures within { (result ≤ 3) × (2 ≤ result → 0 < second) × (3 ≤ result → 0 < third) }
-{
-    match second {
-        b'=' => 2,
-        b'?' | b'!' if third == b'=' => 3,
-        _ => 1,
-    }
-}
-
-/// The same of those that begin with `>`.
-#[tactic(auto, unfolding(crate::specs::Reading::symbol_len))]
-fn greater_len(second: u8, third: u8) -> usize
-    ensures value { result ≡ spec.symbol_len 62 second third }
-    ensures within { (result ≤ 3) × (2 ≤ result → 0 < second) × (3 ≤ result → 0 < third) }
-{
-    match second {
-        b'>' if third == b'>' => 3,
-        b'>' | b'=' => 2,
-        _ => 1,
-    }
-}
-
-/// Whether a byte is a symbol by itself.
-fn is_single(byte: u8) -> bool
-    ensures { result ≡ is_symbol (byte ∷ []) }
-{
-    match byte {
-        b'(' | b')' | b'[' | b']' | b'{' | b'}' | b',' | b';' | b'.' | b':' | b'?' => true,
-        b'+' | b'-' | b'*' | b'/' | b'%' | b'<' | b'>' | b'=' | b'!' => true,
-        b'|' | b'^' | b'&' | b'~' => true,
-        _ => false,
-    }
+    Some(match (first, second, third) {
+        (b'=', b'=', _) => (Mark::Binary(BinOp::Equal), 2),
+        (b'=', b'?', b'=') => (Mark::Binary(BinOp::Same), 3),
+        (b'=', b'!', b'=') => (Mark::Binary(BinOp::NotSame), 3),
+        (b'=', _, _) => (Mark::Assign, 1),
+        (b'>', b'>', b'>') => (Mark::Binary(BinOp::ShiftZero), 3),
+        (b'>', b'>', _) => (Mark::Binary(BinOp::ShiftRight), 2),
+        (b'>', b'=', _) => (Mark::Binary(BinOp::AtLeast), 2),
+        (b'>', _, _) => (Mark::Binary(BinOp::Greater), 1),
+        (b'<', b'<', _) => (Mark::Binary(BinOp::ShiftLeft), 2),
+        (b'<', b'=', _) => (Mark::Binary(BinOp::AtMost), 2),
+        (b'<', _, _) => (Mark::Binary(BinOp::Less), 1),
+        (b'!', b'=', _) => (Mark::Binary(BinOp::Unequal), 2),
+        (b'!', _, _) => (Mark::Not, 1),
+        (b'&', b'&', _) => (Mark::And, 2),
+        (b'&', _, _) => (Mark::Binary(BinOp::BitAnd), 1),
+        (b'|', b'|', _) => (Mark::Or, 2),
+        (b'|', _, _) => (Mark::Binary(BinOp::BitOr), 1),
+        (b'.', _, _) => (Mark::Dot, 1),
+        (b'/', _, _) => (Mark::Binary(BinOp::Div), 1),
+        _ => (alone(first)?, 1),
+    })
 }

@@ -1,8 +1,7 @@
 -- The marks of the tokens at the front of a text.
-use Rattle.std.proofs.Common.{◌≡◌, ℕ, zero, suc, ◌-◌, ◌+◌, ◌<◌, ◌≤◌, Bool, true, false, cond, eqb, leb, ◌||◌, List, map, [], ◌∷◌, length, take, drop, slice_index, Some, None, refl, sym, ◌∙◌, inl, inr, arith}
-use Rattle.std.proofs.lemmas.Bool.{cases_Bool, or_parts, not-true}
+use Rattle.std.proofs.Common.{◌≡◌, ℕ, zero, suc, ◌-◌, ◌+◌, ◌<◌, ◌≤◌, Bool, true, false, cond, eqb, leb, ◌||◌, List, map, [], ◌∷◌, length, take, drop, slice_index, ap, Some, None, refl, sym, ◌∙◌, inl, inr, arith}
+use Rattle.std.proofs.lemmas.Bool.{cases_Bool, true≢false}
 use Rattle.std.proofs.lemmas.Bool.Decides.{nat_tests}
-use Rattle.std.specs.Char.{is_ascii_digit}
 use Rattle.std.specs.List.{list_any}
 use Rattle.std.specs.Str.{bytes_eq}
 use Rattle.ad_lexer.specs.declared.fault.LexKind.TheVariants as kinds
@@ -14,14 +13,14 @@ use Rattle.ad_lexer.specs.declared.quoted.Front.{Front}
 use Rattle.ad_lexer.specs.declared.quoted.Front.TheVariants as fronts
 use Rattle.ad_lexer.specs.declared.token.TokenKind.{TokenKind}
 use Rattle.ad_lexer.specs.declared.token.TokenKind.TheVariants.{Quoted, Str, Int, Symbol}
-use Rattle.ad_lexer.specs.Blanks.{is_space}
 use Rattle.ad_lexer.specs.Marks.{mark_of_kind, marks, meaning_of}
 use Rattle.ad_lexer.specs.Numbers.{number_len}
 use Rattle.ad_lexer.specs.Reading.{alone, begin_of, begins_more, front, name, next, number, quoted, quoted_by, string, symbol, symbol_len, IsMarked}
 use Rattle.ad_lexer.specs.Symbols.{is_symbol}
-use Rattle.ad_lexer.specs.Words.{begins_word}
+use Rattle.ad_lexer.proofs.Begins.{begin_is}
+use Rattle.ad_lexer.proofs.ItemLemmas.{symbol_begins}
 use Rattle.ad_lexer.proofs.Steps.{next_at}
-use Rattle.ad_lexer.proofs.SymbolLemmas.{symbol_passes, symbol_other}
+use Rattle.ad_lexer.proofs.SymbolLemmas.{symbol_passes}
 
 -- the first bytes of a text are those of its first three
 pub first_three : (text : List ℕ) (n : ℕ) → n ≤ 3 → n ≤ length text → take n (slice_index text 0 ∷ slice_index text 1 ∷ slice_index text 2 ∷ []) ≡ take n text
@@ -99,15 +98,12 @@ longer_not byte second more isnt =
       | inr short ↦ short
     ]
 
-begins_symbol : (byte : ℕ) → is_symbol (byte ∷ []) ≡ true → eqb byte 47 ≡ false → begin_of byte ≡ begins.Symbol
-unfolding begin_of
-begins_symbol byte is slash =
-    let other = symbol_other (byte ∷ []) is in
-    let a = or_parts _ (eqb byte 34) (not-true _ other) in
-    let b = or_parts _ (eqb byte 39) a.0 in
-    let c = or_parts _ (is_ascii_digit byte) b.0 in
-    let d = or_parts (is_space byte) (begins_word byte) c.0 in
-    rw (d.0, d.1, c.1, b.1, a.1, slash) refl
+begins_symbol : (byte : ℕ) → is_symbol (byte ∷ []) ≡ true → begins_more byte ≡ false → begin_of byte ≡ begins.Symbol
+begins_symbol byte is isnt =
+    elim (symbol_begins (byte ∷ []) [] is) [
+      | inl slashed ↦ absurd (true≢false (sym (ap begins_more (begin_is byte begins.Slash slashed)) ∙ isnt))
+      | inr other ↦ other
+    ]
 
 one_exactly : (p q r : Bool) → p ≡ false → q ≡ false → r ≡ true → ◌≡◌ {A = ℕ} (cond p 3 (cond q 2 (cond r 1 0))) 1
 one_exactly p q r three two one = rw (three, two, one) refl
@@ -127,8 +123,7 @@ alone_next [] mark some is = absurd (omega arith)
 alone_next (byte ∷ bytes) mark some is =
     let a = alone_by byte mark (begins_more byte) refl is in
     let one : is_symbol (byte ∷ []) ≡ true = meaning_among marks (byte ∷ []) mark a.means in
-    let slash : eqb byte 47 ≡ false = (let no = a.goes_on in grind (arith, nat_tests)) in
-    next_at (byte ∷ bytes) begins.Symbol some (begins_symbol byte one slash) ∙ symbol_one byte bytes one a.goes_on
+    next_at (byte ∷ bytes) begins.Symbol some (begins_symbol byte one a.goes_on) ∙ symbol_one byte bytes one a.goes_on
 
 pub alone_marked : (text : List ℕ) (mark : Mark) → 0 < length text → alone (slice_index text 0) ≡ Some mark → Some mark ≡ meaning_of marks (take 1 text)
 alone_marked [] mark some is = absurd (omega arith)

@@ -160,7 +160,8 @@ fn slash(text: &[u8]) -> Marked
     }
 }
 
-/// The length up to and with the first `*/`.
+/// The length up to and with the first `*/`. It stays out of the loop over a text, as few texts have such comments.
+#[inline(never)]
 fn comment_len(text: &[u8]) -> Option<usize>
     requires { length text.now < 2 ^ 32 }
     ensures value { result ≡ spec.comment_len 0 text.now }

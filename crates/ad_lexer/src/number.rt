@@ -74,7 +74,9 @@ fn is_short(text: &[u8], len: usize) -> bool
     len <= SHORT_DIGITS && byte_at(text, 0) > b'0'
 }
 
-/// Whether a number has digits of its base alone, and a value below 2^63.
+/// Whether a number has digits of its base alone, and a value below 2^63. Few numbers need it, so that it stays out of
+/// the loop over a text.
+#[inline(never)]
 fn is_integer(number: &[u8]) -> bool
     ensures { result ≡ numbers.is_integer number.now }
 {

@@ -92,7 +92,7 @@ pub fn front_of(quote: u8, text: &[u8]) -> Front
     }
 }
 
-/// What a backslash before these bytes begins.
+/// What a backslash before these bytes begins. Few letters are escapes, so that it stays out of the loops over letters.
 #[tactic(auto, unfolding(crate::specs::Reading::escape))]
 #[inline(never)]
 fn escape(text: &[u8]) -> Front

@@ -1,5 +1,5 @@
 // The commands of lines, read one line at a time.
-ghost use Rattle.std.specs.Prelude.{◌≡◌, ◌++◌, ◌∷◌, [], true, false, None, Some, IfOk, OnOk, OnErr};
+ghost use Rattle.std.specs.Prelude.{◌≡◌, ◌++◌, ◌∷◌, [], true, false, None, Some, IfOk, IsSome, OnOk, OnErr};
 ghost use Rattle.pool_text.specs.Lines.{ended, without_return};
 ghost use Rattle.pool_script.specs.Commands.{cut_off, given, is_dot, line_command as command_of};
 ghost use Rattle.pool_script.specs.Reading.{kept_next};
@@ -132,6 +132,7 @@ impl Reader {
     }
 
     /// Reads the line, in a block or outside one.
+    #[tactic(auto, unfolding(crate::specs::Commands::given, crate::specs::Commands::next, crate::specs::Reading::kept_next))]
     fn read_line(&mut self) -> Result<(), OutOfMemory>
         ensures line { self.new.line.items ≡ self.old.line.items }
         ensures ok_waiting { OnOk result
@@ -140,31 +141,36 @@ impl Reader {
         ensures err_waiting { OnErr result (self.new.waiting.items ≡ self.old.waiting.items) }
         ensures err_block { OnErr result (self.new.block ≡ None) }
     {
-        match self.block.take() {
-            Some(block) => self.read_in_block(block),
+        match &mut self.block {
             None => self.read_outside(),
+            Some(_) if is_dot(&self.line) => self.close_block(),
+            Some(block) => {
+                let lengthened = lengthen(block, &self.line);
+                if lengthened.is_err() {
+                    self.block = None;
+                }
+                lengthened
+            }
         }
     }
 
-    /// Reads the line as one of the block, of which no more is kept once its text is too long.
+    /// Reads the line as the dot that closes the block.
     #[tactic(auto, unfolding(crate::specs::Commands::given, crate::specs::Commands::next, crate::specs::Reading::kept_next))]
-    fn read_in_block(&mut self, block: Block) -> Result<(), OutOfMemory>
-        requires { self.old.block ≡ None }
+    fn close_block(&mut self) -> Result<(), OutOfMemory>
+        requires open { IsSome self.old.block }
+        requires dot { is_dot self.old.line.items ≡ true }
         ensures line { self.new.line.items ≡ self.old.line.items }
-        ensures ok_waiting { OnOk result
-            (self.new.waiting.items ≡ self.old.waiting.items ++ given (Some block) self.old.line.items) }
-        ensures ok_block { OnOk result (self.new.block ≡ kept_next (Some block) self.old.line.items) }
-        ensures err_waiting { OnErr result (self.new.waiting.items ≡ self.old.waiting.items) }
-        ensures err_block { OnErr result (self.new.block ≡ None) }
+        ensures ok { OnOk result
+            (self.new.waiting.items ≡ self.old.waiting.items ++ given self.old.block self.old.line.items) }
+        ensures err { OnErr result (self.new.waiting.items ≡ self.old.waiting.items) }
+        ensures closed { self.new.block ≡ None }
     {
-        if is_dot(&self.line) {
-            let Block { line, text } = block;
-            let pushed = push_command(self.alloc, &mut self.waiting, line.bytes(), Some(text));
-            drop(line);
-            return pushed;
-        }
-        self.block = Some(longer_block(block, &self.line)?);
-        Ok(())
+        let Some(Block { line, text }) = self.block.take() else {
+            return Ok(());
+        };
+        let pushed = push_command(self.alloc, &mut self.waiting, line.bytes(), Some(text));
+        drop(line);
+        pushed
     }
 
     /// Reads the line as one outside a block.
@@ -225,22 +231,16 @@ fn new_block(alloc: Global, line: &[u8]) -> Result<Block, OutOfMemory>
     })
 }
 
-/// The block with a line more, of which no more is kept once its text is too long.
+/// Adds a line to the block, of which no more is kept once its text is too long.
 #[tactic(auto, unfolding(crate::specs::Commands::next, crate::specs::Reading::kept_next))]
-fn longer_block(mut block: Block, line: &[u8]) -> Result<Block, OutOfMemory>
+fn lengthen(block: &mut Block, line: &[u8]) -> Result<(), OutOfMemory>
     requires { is_dot line.now ≡ false }
-    ensures { IfOk result (λ longer. Some longer ≡ kept_next (Some block) line.now) }
+    ensures { OnOk result (Some block.new ≡ kept_next (Some block.old) line.now) }
 {
     if block.text.bytes().len() > LONGEST_BLOCK {
-        return Ok(block);
+        return Ok(());
     }
-    match append_line(&mut block.text, line) {
-        Ok(()) => Ok(block),
-        Err(e) => {
-            drop(block);
-            Err(e)
-        }
-    }
+    append_line(&mut block.text, line)
 }
 
 /// Adds a line, without the carriage return that may end it, and a line feed.

@@ -1,20 +1,17 @@
 -- Ads under slots, as they come and go.
 use Rattle.std.proofs.Common.{refl, arith, ◌≡◌, ◌≢◌, ◌∙◌, ap, sym, true≢false, ℕ, Bool, true, false, ◌&&◌, ◌==◌, cond, List, [], ◌∷◌, ◌++◌, map, length, Option, None, Some, option_map, slice_get, is_some, nat_lt, nat_eq, nat_cmp, IsPermutation}
-use Rattle.std.specs.List.{IsDistinct, AllByRecursion}
+use Rattle.std.specs.List.{AllByRecursion}
 use Rattle.std.specs.Option.{option_and_then, option_map_or}
 use Rattle.std.specs.BTreeMap.{BTreeMap, get, is_at}
 use Rattle.std.specs.BTreeSet.{BTreeSet, contains}
-use Rattle.std.specs.Cmp.{nat_eq_equiv}
-use Rattle.std.proofs.lemmas.List.Elements.{All-cons, All-tail}
-use Rattle.std.proofs.lemmas.List.Sorted.{All-permutation, IsPermutation-map, IsPermutation-middle, IsPermutation-sym}
-use Rattle.std.proofs.lemmas.Map.Keys.{IsDistinct-cons, IsDistinct-head, IsDistinct-tail, IsDistinct-IsPermutation}
+use Rattle.std.proofs.lemmas.List.Sorted.{IsPermutation-middle}
 use Rattle.std.proofs.lemmas.Option.{slice_get_past}
 use Rattle.ad_tree.specs.Tree.{Tree}
 use Rattle.ad_tree.specs.Frames.{Frame, attributes_at}
 use Rattle.literal_index.specs.declared.place.Place.{Place}
 use Rattle.literal_index.specs.declared.entry.Entry.{Entry}
 use Rattle.literal_index.specs.Rows.{Row, ad_under, row_of}
-use Rattle.literal_index.specs.Entries.{entry_at, entry_in, entry_of, is_place, place_of}
+use Rattle.literal_index.specs.Entries.{entry_in, entry_of, is_place, place_of}
 use Rattle.literal_index.specs.Order.{place_order}
 use Rattle.literal_index.specs.Changes.{HasPut, HasTaken, IsSame, is_place_below}
 use Rattle.literal_index.specs.Shown.{ArePlaced, with_ad}

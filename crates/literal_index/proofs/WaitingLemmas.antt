@@ -1,6 +1,6 @@
 -- Ads that wait, as they come, go and are settled.
 use Rattle.std.proofs.Common.{refl, arith, ◌≡◌, ◌∙◌, ap, sym, subst, ℕ, Bool, true, false, ◌==◌, cond, List, [], ◌∷◌, ◌++◌, map, Option, None, Some, IfSome, is_some, nat_eq, nat_cmp, IsPermutation}
-use Rattle.std.specs.List.{IsDistinct, All, list_any}
+use Rattle.std.specs.List.{IsDistinct, list_any}
 use Rattle.std.specs.Map.{lookup}
 use Rattle.std.specs.Option.{option_and_then}
 use Rattle.std.specs.BTreeMap.{BTreeMap, get, is_at}
@@ -17,7 +17,7 @@ use Rattle.literal_index.specs.declared.entry.Entry.{Entry}
 use Rattle.literal_index.specs.Entries.{entry_in}
 use Rattle.literal_index.specs.Order.{place_order}
 use Rattle.literal_index.specs.Rows.{Row, ad_under, row_of}
-use Rattle.literal_index.specs.Shown.{AreIndexed, AreKept, ArePlaced, IsRow, settled_under, with_ad}
+use Rattle.literal_index.specs.Shown.{AreIndexed, AreKept, ArePlaced, IsRow, settled_under}
 use Rattle.literal_index.proofs.RowLemmas.{ad_under-middle, agree, all-differ, at_number, none-under, same-placed, without_ad}
 
 -- another map of those that wait, in which this is so of one slot

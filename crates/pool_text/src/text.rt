@@ -118,15 +118,6 @@ impl Text {
         }
         Ok(())
     }
-
-    /// Gives back the room that it doesn't need.
-    pub fn shrink_to_fit(&mut self)
-        ensures { self.new ≡ self.old }
-    {
-        if let Bytes::Long(long) = &mut self.bytes {
-            long.shrink_to_fit();
-        }
-    }
 }
 
 // Whether the bytes are the same. Names are short, and most that differ do in their lengths or first letters, so that one byte

@@ -1,6 +1,5 @@
-use Rattle.std.proofs.Common.{◌<◌, ◌^◌, length, sym, subst, ℕ}
+use Rattle.std.proofs.Common.{◌<◌, ◌^◌, sym, subst}
 use Rattle.ad_tree.specs.Ad.{ad_frames}
-use Rattle.ad_tree.specs.Frames.{attributes_at}
 use Rattle.literal_index.proofs.WaitingLemmas.{kept-added}
 use Rattle.literal_index.proofs.index.Index.add.Goals as goal
 

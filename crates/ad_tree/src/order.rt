@@ -41,8 +41,22 @@ fn is_end(draft: &Draft, after: Option<u32>) -> bool
 }
 
 // Where the frames of an expression in the frame `parent` stand in order from frame `next` on, the frame behind them.
+// Most expressions are literals and names, which take no call.
 #[cycle(ordering)]
+#[inline(always)]
 fn follow(draft: &Draft, turns: usize, parent: u32, expr: &Expr, next: u32) -> Option<u32>
+    ensures { IfSome result (λ after. IsPlaced parent (inlined (inside (draft_frames draft.now) turns) (tree expr.now))
+        (tree expr.now) (take next (draft_frames draft.now)) (take after (draft_frames draft.now))) }
+{
+    match expr {
+        Expr::Literal(_) | Expr::Name(_, _) => Some(next),
+        _ => follow_parts(draft, turns, parent, expr, next),
+    }
+}
+
+// The same, part by part.
+#[cycle(ordering)]
+fn follow_parts(draft: &Draft, turns: usize, parent: u32, expr: &Expr, next: u32) -> Option<u32>
     ensures { IfSome result (λ after. IsPlaced parent (inlined (inside (draft_frames draft.now) turns) (tree expr.now))
         (tree expr.now) (take next (draft_frames draft.now)) (take after (draft_frames draft.now))) }
 {

@@ -55,56 +55,56 @@ follow_frame-returns t c =
     c.if-turns-eq0.false c.if-frame-next.false c.in_ok-source.ensures c.if-source-parent.false h)
     c.follow_definitions.ensures
 
-pub follow-returns-in-Literal-2 : goal.follow-returns-in-Literal-2
-follow-returns-in-Literal-2 t c =
+pub follow_parts-returns-in-Literal-2 : goal.follow_parts-returns-in-Literal-2
+follow_parts-returns-in-Literal-2 t c =
     let is = node_of_none c.in-Literal.is in
     read-placed (inside (draft_frames c.args.draft.now) c.args.turns) is.read is.read (none-placed _)
 
-pub follow-follow-requires : goal.follow-follow-requires
-follow-follow-requires t c = (omega (arith, c.decreases, ap size (node_of_one c.in-Unary.a c.in-Unary.is c.deref-in-Unary.ensures).read), tt)
+pub follow_parts-follow-requires : goal.follow_parts-follow-requires
+follow_parts-follow-requires t c = (omega (arith, c.decreases, ap size (node_of_one c.in-Unary.a c.in-Unary.is c.deref-in-Unary.ensures).read), tt)
 
-pub follow-returns-in-Unary : goal.follow-returns-in-Unary
-follow-returns-in-Unary t c =
+pub follow_parts-returns-in-Unary : goal.follow_parts-returns-in-Unary
+follow_parts-returns-in-Unary t c =
     let is = node_of_one c.in-Unary.a c.in-Unary.is c.deref-in-Unary.ensures in
     if_some c.follow.result (λ after h. read-placed (inside (draft_frames c.args.draft.now) c.args.turns) is.read is.read (one-placed h)) c.follow.ensures
 
-pub follow-follow_two-requires : goal.follow-follow_two-requires
-follow-follow_two-requires t c = (omega (arith, c.decreases, ap size (node_of_two c.in-Binary.a c.in-Binary.b c.in-Binary.is c.deref-in-Binary.ensures c.deref-in-Binary-2.ensures).read), tt)
+pub follow_parts-follow_two-requires : goal.follow_parts-follow_two-requires
+follow_parts-follow_two-requires t c = (omega (arith, c.decreases, ap size (node_of_two c.in-Binary.a c.in-Binary.b c.in-Binary.is c.deref-in-Binary.ensures c.deref-in-Binary-2.ensures).read), tt)
 
-pub follow-returns-in-Binary : goal.follow-returns-in-Binary
-follow-returns-in-Binary t c =
+pub follow_parts-returns-in-Binary : goal.follow_parts-returns-in-Binary
+follow_parts-returns-in-Binary t c =
     let is = node_of_two c.in-Binary.a c.in-Binary.b c.in-Binary.is c.deref-in-Binary.ensures c.deref-in-Binary-2.ensures in
     if_some c.follow_two.result (λ after h. read-placed (inside (draft_frames c.args.draft.now) c.args.turns) is.read is.read h) c.follow_two.ensures
 
-pub follow-follow_all-requires-in-And : goal.follow-follow_all-requires-in-And
-follow-follow_all-requires-in-And t c = (omega (arith, c.decreases, ap size (node_of_list c.in-And.list c.in-And.is).read), tt)
+pub follow_parts-follow_all-requires-in-And : goal.follow_parts-follow_all-requires-in-And
+follow_parts-follow_all-requires-in-And t c = (omega (arith, c.decreases, ap size (node_of_list c.in-And.list c.in-And.is).read), tt)
 
-pub follow-returns-in-And : goal.follow-returns-in-And
-follow-returns-in-And t c =
+pub follow_parts-returns-in-And : goal.follow_parts-returns-in-And
+follow_parts-returns-in-And t c =
     let is = node_of_list c.in-And.list c.in-And.is in
     if_some c.follow_all-in-And.result (λ after h. read-placed (inside (draft_frames c.args.draft.now) c.args.turns) is.read is.read h) c.follow_all-in-And.ensures
 
-pub follow-follow_all-requires : goal.follow-follow_all-requires
-follow-follow_all-requires t c = (omega (arith, c.decreases, ap size (read-Call c.in-Call.field-0 c.in-Call.list c.in-Call.is c.deref.ensures)), tt)
+pub follow_parts-follow_all-requires : goal.follow_parts-follow_all-requires
+follow_parts-follow_all-requires t c = (omega (arith, c.decreases, ap size (read-Call c.in-Call.field-0 c.in-Call.list c.in-Call.is c.deref.ensures)), tt)
 
-pub follow-returns-in-Call : goal.follow-returns-in-Call
-follow-returns-in-Call t c =
+pub follow_parts-returns-in-Call : goal.follow_parts-returns-in-Call
+follow_parts-returns-in-Call t c =
     let is = read-Call c.in-Call.field-0 c.in-Call.list c.in-Call.is c.deref.ensures in
     if_some c.follow_all.result (λ after h. read-placed (inside (draft_frames c.args.draft.now) c.args.turns) is is h) c.follow_all.ensures
 
-pub follow-follow_three-requires : goal.follow-follow_three-requires
-follow-follow_three-requires t c = (omega (arith, c.decreases, ap size (read-Cond c.in-Cond.a c.in-Cond.b c.in-Cond.c c.in-Cond.is c.deref-in-Cond.ensures c.deref-in-Cond-2.ensures c.deref-in-Cond-3.ensures)), tt)
+pub follow_parts-follow_three-requires : goal.follow_parts-follow_three-requires
+follow_parts-follow_three-requires t c = (omega (arith, c.decreases, ap size (read-Cond c.in-Cond.a c.in-Cond.b c.in-Cond.c c.in-Cond.is c.deref-in-Cond.ensures c.deref-in-Cond-2.ensures c.deref-in-Cond-3.ensures)), tt)
 
-pub follow-returns-in-Cond : goal.follow-returns-in-Cond
-follow-returns-in-Cond t c =
+pub follow_parts-returns-in-Cond : goal.follow_parts-returns-in-Cond
+follow_parts-returns-in-Cond t c =
     let is = read-Cond c.in-Cond.a c.in-Cond.b c.in-Cond.c c.in-Cond.is c.deref-in-Cond.ensures c.deref-in-Cond-2.ensures c.deref-in-Cond-3.ensures in
     if_some c.follow_three.result (λ after h. read-placed (inside (draft_frames c.args.draft.now) c.args.turns) is is h) c.follow_three.ensures
 
-pub follow-follow_frame-requires : goal.follow-follow_frame-requires
-follow-follow_frame-requires t c = (omega (arith, c.decreases, ap size (ap tree c.in-Frame.is ∙ tree-Frame c.in-Frame.frame)), tt)
+pub follow_parts-follow_frame-requires : goal.follow_parts-follow_frame-requires
+follow_parts-follow_frame-requires t c = (omega (arith, c.decreases, ap size (ap tree c.in-Frame.is ∙ tree-Frame c.in-Frame.frame)), tt)
 
-pub follow-returns-in-Frame : goal.follow-returns-in-Frame
-follow-returns-in-Frame t c =
+pub follow_parts-returns-in-Frame : goal.follow_parts-returns-in-Frame
+follow_parts-returns-in-Frame t c =
     let is = ap tree c.in-Frame.is ∙ tree-Frame c.in-Frame.frame in
     if_some c.follow_frame.result (λ after h. frame_read-placed (inside (draft_frames c.args.draft.now) c.args.turns) is is h) c.follow_frame.ensures
 

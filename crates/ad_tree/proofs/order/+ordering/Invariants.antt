@@ -8,22 +8,25 @@ use Rattle.ad_tree.proofs.Measures.{levels, attributes_size}
 use Rattle.ad_tree.proofs.order.+ordering.Given as goal
 
 abbrev pub decreases-follow : goal.decreases-follow
-decreases-follow l = levels l.turns (draft_frames l.draft.now) + 4 * size (tree l.expr.now)
+decreases-follow l = levels l.turns (draft_frames l.draft.now) + 4 * size (tree l.expr.now) + 1
+
+abbrev pub decreases-follow_parts : goal.decreases-follow_parts
+decreases-follow_parts l = levels l.turns (draft_frames l.draft.now) + 4 * size (tree l.expr.now)
 
 abbrev pub decreases-follow_two : goal.decreases-follow_two
-decreases-follow_two l = levels l.turns (draft_frames l.draft.now) + 4 * (size (tree l.a.now) + size (tree l.b.now)) + 1
+decreases-follow_two l = levels l.turns (draft_frames l.draft.now) + 4 * (size (tree l.a.now) + size (tree l.b.now)) + 2
 
 abbrev pub decreases-follow_three : goal.decreases-follow_three
-decreases-follow_three l = levels l.turns (draft_frames l.draft.now) + 4 * (size (tree l.exprs.0.now) + (size (tree l.exprs.1.now) + size (tree l.exprs.2.now))) + 2
+decreases-follow_three l = levels l.turns (draft_frames l.draft.now) + 4 * (size (tree l.exprs.0.now) + (size (tree l.exprs.1.now) + size (tree l.exprs.2.now))) + 3
 
 abbrev pub decreases-follow_all : goal.decreases-follow_all
-decreases-follow_all l = levels l.turns (draft_frames l.draft.now) + 4 * size_all (pack (trees l.list.now)) + 1
+decreases-follow_all l = levels l.turns (draft_frames l.draft.now) + 4 * size_all (pack (trees l.list.now)) + 2
 
 abbrev pub decreases-follow_frame : goal.decreases-follow_frame
 decreases-follow_frame l = levels l.turns (draft_frames l.draft.now) + 3
 
 abbrev pub decreases-follow_definitions : goal.decreases-follow_definitions
-decreases-follow_definitions l = levels l.turns (draft_frames l.draft.now) + 4 * attributes_size (frame_of l.source.now).attributes + 1
+decreases-follow_definitions l = levels l.turns (draft_frames l.draft.now) + 4 * attributes_size (frame_of l.source.now).attributes + 2
 
 abbrev pub invariant-follow_all-loop-i : goal.invariant-follow_all-loop-i
 invariant-follow_all-loop-i l =

@@ -1,5 +1,5 @@
 // The attributes of a frame.
-ghost use Rattle.std.specs.Prelude.{◌≡◌, ◌+◌, ◌≤◌, [], length, position, OnOk, OnErr, IsTrue};
+ghost use Rattle.std.specs.Prelude.{◌≡◌, ◌+◌, ◌≤◌, ◌<◌, [], length, position, slice_set, OnOk, OnErr, IsTrue};
 ghost use Rattle.ad_tree.specs.Tree.{tree};
 ghost use Rattle.ad_tree.specs.Names.{same_name, are_apart};
 ghost use Rattle.ad_tree.specs.Frames.{names_of, put_attribute};
@@ -113,7 +113,8 @@ impl Attributes {
         self.put(attribute)
     }
 
-    // The same, in what is there.
+    // The same, in what is there. An attribute is large, and an inlined call doesn't move it.
+    #[inline(always)]
     fn put(&mut self, attribute: Attribute) -> Result<(), OutOfMemory>
         ensures ok { OnOk result (attributes_of self.new ≡ put_attribute attribute.name (tree attribute.expr) (attributes_of self.old)) }
         ensures err { OnErr result (self.new ≡ self.old) }
@@ -162,20 +163,30 @@ impl Attributes {
     }
 }
 
+#[inline(always)]
 fn put_in_list(list: &mut Vec<Attribute>, attribute: Attribute) -> Result<(), OutOfMemory>
     ensures ok { OnOk result (attributes_of list.new.items ≡ put_attribute attribute.name (tree attribute.expr) (attributes_of list.old.items)) }
     ensures err { OnErr result (list.new.items ≡ list.old.items) }
 {
     match place_of(list, attribute.name.bytes()) {
-        Some(place) => {
-            let replaced = mem::replace(&mut list[place], attribute);
-            drop(replaced);
-        }
+        Some(place) => put_at(list, place, attribute),
         None => list.push(attribute)?,
     }
     Ok(())
 }
 
+// In the place of the attribute that is there.
+#[cold]
+#[inline(never)]
+fn put_at(list: &mut Vec<Attribute>, place: usize, attribute: Attribute)
+    requires { place < length list.old.items }
+    ensures { list.new.items ≡ slice_set list.old.items place attribute }
+{
+    let replaced = mem::replace(&mut list[place], attribute);
+    drop(replaced);
+}
+
+#[inline(never)]
 fn put_in_set(set: &mut IndexSet<Attribute>, attribute: Attribute) -> Result<(), OutOfMemory>
     ensures ok { OnOk result (attributes_of set.new.keys ≡ put_attribute attribute.name (tree attribute.expr) (attributes_of set.old.keys)) }
     ensures err { OnErr result (set.new.keys ≡ set.old.keys) }

@@ -1,4 +1,4 @@
-use Rattle.std.proofs.Common.{◌∙◌, ap, sym, position, slice_set}
+use Rattle.std.proofs.Common.{◌∙◌, ap, sym, position}
 use Rattle.std.proofs.lemmas.List.Quantifiers.{position-Some}
 use Rattle.ad_tree.specs.Names.{same_name}
 use Rattle.ad_tree.specs.Attributes.{attributes_of}
@@ -10,7 +10,7 @@ returns-in-Some-clause-ok c =
     let bs = c.args.list.now.items in
     let found = position-Some (same_attribute c.args.attribute) bs c.in-Some.place c.args.attribute
     (ap (λ n. position (λ b. same_name n b.name) bs) (sym c.bytes.ensures) ∙ ap (position (λ b. same_name c.bytes.result.now b.name)) (sym c.deref.ensures.value) ∙ sym c.in-Some.ensures) in
-    ap (λ a. attributes_of (slice_set bs c.in-Some.place a)) c.replace-replaced.ensures.after
+    ap attributes_of c.put_at.ensures
     ∙ put-at c.args.attribute bs c.in-Some.place c.args.attribute found.0 found.1 found.2
 
 pub returns-in_ok-push-in-None-clause-ok : goal.returns-in_ok-push-in-None-clause-ok

@@ -71,9 +71,3 @@ on_err (Err e) f h = f h
 pub told_on_err : {A E : Type 0} (r : Result A E) {P : Type 0} → P → OnErr r P
 told_on_err (Ok a) h = tt
 told_on_err (Err e) h = h
-
--- a frame of an ad is read in its table
-pub frame-read : (fs gs : List AdFrame) (f : ℕ) (x : AdFrame) → gs ≡ fs → f < length (frames_of fs) → x ≡ get_or gs f x → slice_get (frames_of fs) f ≡ Some (frame_of x)
-frame-read fs gs f x same h e =
-    slice_get-map frame_of fs f
-    ∙ ap (option_map frame_of) (slice_get_read fs (length (frames_of fs)) f x (length-map fs frame_of) h (e ∙ ap (λ l. get_or l f x) same))

@@ -2,8 +2,8 @@
 use Rattle.std.specs.Prelude.{List}
 use Rattle.ad_tree.specs.declared.ad.Ad.{Ad}
 use Rattle.ad_tree.specs.Frames.{Frame}
-use Rattle.ad_tree.specs.Table.{frames_of}
+use Rattle.ad_tree.specs.Table.{table_frames}
 
 -- the frames of an ad; equal ads are those whose frames are equal
 abbrev pub ad_frames : Ad → List Frame
-ad_frames ad = frames_of ad.frames.value.items
+ad_frames ad = table_frames ad.frames.value

@@ -1,12 +1,13 @@
 // Ads, as contracts see them: a list of frames.
-ghost use Rattle.std.specs.Prelude.{◌≡◌, ◌<◌, ◌^◌, length, slice_get, position, Some, IfOk, IfSome};
+ghost use Rattle.std.specs.Prelude.{◌≡◌, ◌+◌, ◌<◌, ◌^◌, ◌∷◌, length, slice_get, position, Some, IfOk, IfSome};
 ghost use Rattle.ad_tree.specs.Tree.{tree};
 ghost use Rattle.ad_tree.specs.Names.{same_name};
 ghost use Rattle.ad_tree.specs.Frames.{IsAd, attributes_at, names_in, parent_of, name_at, expr_at};
-ghost use Rattle.ad_tree.specs.Table.{frame_of, frames_of};
+ghost use Rattle.ad_tree.specs.Table.{frame_of, frames_of, table_frames};
 
 use crate::Expr;
 use crate::frame::AdFrame;
+use crate::table::Table;
 use pool_text::{OutOfMemory, Text};
 use std::alloc::Global;
 use std::rc::Rc;
@@ -18,25 +19,27 @@ use std::rc::Rc;
 /// An ad doesn't change, so it can be held in several places at once (`share`).
 #[derive(Drop)]
 pub struct Ad {
-    frames: Rc<Vec<AdFrame>>,
-    pub ghost is_ad: { IsAd (frames_of frames.value.items) },
-    ghost few: { length frames.value.items < 2 ^ 32 },
+    frames: Rc<Table>,
+    pub ghost is_ad: { IsAd (table_frames frames.value) },
 }
 
 impl Ad {
     ghost use Rattle.ad_tree.specs.Ad.{ad_frames};
 
-    // The ad with these frames, which take no more memory than they need. Want of memory is answered too where the numbers
-    // of frames end.
-    pub(crate) fn from_frames(alloc: Global, mut frames: Vec<AdFrame>) -> Result<Ad, OutOfMemory>
-        requires { IsAd (frames_of frames.items) }
-        ensures { IfOk result (λ ad. ad_frames ad ≡ frames_of frames.items) }
+    // The ad of a root with the other frames behind it, which take no more memory than they need.
+    pub(crate) fn from_frames(
+        alloc: Global,
+        mut root: AdFrame,
+        mut inner: Vec<AdFrame>,
+    ) -> Result<Ad, OutOfMemory>
+        requires is_ad { IsAd (frame_of root ∷ frames_of inner.items) }
+        requires few { length inner.items + 1 < 2 ^ 32 }
+        ensures { IfOk result (λ ad. ad_frames ad ≡ frame_of root ∷ frames_of inner.items) }
     {
-        if frames.len() > u32::MAX as usize {
-            return Err(OutOfMemory);
-        }
-        shrink(&mut frames);
-        frames.shrink_to_fit();
+        root.shrink();
+        shrink(&mut inner);
+        inner.shrink_to_fit();
+        let frames = Table { root, inner };
         Ok(Ad {
             frames: Rc::new(alloc, frames)?,
         })
@@ -55,14 +58,14 @@ impl Ad {
         requires { frame < length (ad_frames self.now) }
         ensures { slice_get (ad_frames self.now) frame ≡ Some (frame_of result.now) }
     {
-        &self.frames[frame as usize]
+        self.frames.at(frame)
     }
 
     /// How many frames there are, the root among them.
     pub fn frames(&self) -> u32
         ensures { result ≡ length (ad_frames self.now) }
     {
-        self.frames.len() as u32
+        self.frames.count()
     }
 
     /// The frame in whose expressions this frame stands, which is lower. `None` exactly for the root.

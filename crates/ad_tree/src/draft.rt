@@ -159,7 +159,7 @@ impl Draft {
         ensures { IfOk result (λ ad. ad_frames ad ≡ empty_frame 0 ∷ frames_of self.inner.items) }
     {
         let root = AdFrame::new(self.alloc, 0);
-        ad_behind(self.alloc, root, self.inner)
+        Ad::from_frames(self.alloc, root, self.inner)
     }
 
     // The ad of these frames, which are those of an ad already.
@@ -167,7 +167,7 @@ impl Draft {
         requires { IsAd (draft_frames self) }
         ensures { IfOk result (λ ad. ad_frames ad ≡ draft_frames self) }
     {
-        ad_behind(self.alloc, self.root, self.inner)
+        Ad::from_frames(self.alloc, self.root, self.inner)
     }
 
     pub(crate) fn count(&self) -> usize
@@ -188,14 +188,4 @@ impl Draft {
         }
         Some(&self.inner[place])
     }
-}
-
-// The ad of a root with the other frames behind it.
-fn ad_behind(alloc: Global, root: AdFrame, mut inner: Vec<AdFrame>) -> Result<Ad, OutOfMemory>
-    requires { IsAd (frame_of root ∷ frames_of inner.items) }
-    ensures { IfOk result (λ ad. ad_frames ad ≡ frame_of root ∷ frames_of inner.items) }
-{
-    inner.reserve_exact(1)?;
-    inner.insert(0, root)?;
-    Ad::from_frames(alloc, inner)
 }

@@ -11,6 +11,7 @@ mod order;
 mod phrase;
 mod placing;
 mod request;
+mod table;
 mod tree;
 
 pub use ad::Ad;

@@ -4,8 +4,8 @@ use Rattle.ad_tree.specs.Table.{frames_of}
 use Rattle.ad_tree.proofs.FinishLemmas.{if_ok}
 use Rattle.ad_tree.proofs.draft.Draft.behind_empty_root.Goals as goal
 
-pub ad_behind-requires : goal.ad_behind-requires
-ad_behind-requires c = subst IsAd (ap (λ root. root ∷ frames_of c.args.self.inner.items) (sym c.new-root.ensures)) c.requires
+pub from_frames-requires-clause-is_ad : goal.from_frames-requires-clause-is_ad
+from_frames-requires-clause-is_ad c = subst IsAd (ap (λ root. root ∷ frames_of c.args.self.inner.items) (sym c.new-root.ensures)) c.requires
 
 pub returns : goal.returns
-returns c = if_ok c.ad_behind.result (λ ad h. h ∙ ap (λ root. root ∷ frames_of c.args.self.inner.items) c.new-root.ensures) c.ad_behind.ensures
+returns c = if_ok c.from_frames.result (λ ad h. h ∙ ap (λ root. root ∷ frames_of c.args.self.inner.items) c.new-root.ensures) c.from_frames.ensures

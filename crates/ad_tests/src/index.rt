@@ -116,7 +116,10 @@ fn an_ad_that_waits_is_found_once_it_is_settled(rt: HostRuntime) -> Result<(), F
     let mut index = indexed(rt.alloc())?;
     let tests = tests(&rt, rt.alloc(), b"[ Requirements = TARGET.A >= 7 ]")?;
     assert!(rt; tests.len() == 1);
-    let (kept, removed) = (parse_ad(rt.alloc(), b"[ A = 9 ]")?, parse_ad(rt.alloc(), b"[ A = 7 ]")?);
+    let (kept, removed) = (
+        parse_ad(rt.alloc(), b"[ A = 9 ]")?,
+        parse_ad(rt.alloc(), b"[ A = 7 ]")?,
+    );
     index.add(20, &kept)?;
     index.add(22, &removed)?;
     index.remove(22, &removed);

@@ -1,5 +1,5 @@
 -- A reader stays sound, and gives the commands of what it has read.
-use Rattle.std.proofs.Common.{◌≡◌, ℕ, ◌-◌, ◌+◌, ◌≤◌, ◌<◌, Bool, true, false, not, ◌&&◌, min, List, [], ◌∷◌, ◌++◌, length, take, Option, None, Some, Result, Ok, Err, OnOk, OnErr, refl, sym, ◌∙◌, ap, subst, inl, inr, arith, append_assoc, length-append, codes}
+use Rattle.std.proofs.Common.{◌≡◌, ℕ, ◌-◌, ◌+◌, ◌≤◌, ◌<◌, Bool, true, false, not, ◌&&◌, ◌==◌, cond, min, List, [], ◌∷◌, ◌++◌, length, take, Option, None, Some, Result, Ok, Err, OnOk, OnErr, refl, sym, ◌∙◌, ap, subst, inl, inr, arith, append_assoc, length-append, codes}
 use Rattle.std.proofs.lemmas.Bool.{cases_Bool, eqb-true}
 use Rattle.std.proofs.lemmas.Bool.Decides.{nat_tests}
 use Rattle.std.proofs.lemmas.List.{append-nil}
@@ -122,6 +122,18 @@ feed_sound old new sound waiting block line = record {
   short = rw line (omega arith);
 }
 
+-- the end of a line, whether it could be read or not
+pub line_end_sound : {T E : Type 0} (r : Result T E) (old new : Reader) → IsSound old
+    → OnOk r (new.waiting.items ≡ old.waiting.items ++ given old.block old.line.items) → OnOk r (new.block ≡ kept_next old.block old.line.items)
+    → OnErr r (new.waiting.items ≡ old.waiting.items) → OnErr r (new.block ≡ None) → new.line.items ≡ [] → IsSound new
+line_end_sound (Ok x) old new sound waiting block same none line = feed_sound old new sound waiting block line
+line_end_sound (Err e) old new sound waiting block same none line = record {
+  form = rw same sound.form;
+  open_block = λ b is. let no : ◌≡◌ {A = Option Block} None (Some b) = sym none ∙ is in absurd (cc);
+  one_line = rw line refl;
+  short = rw line (omega arith);
+}
+
 feed_commands : (over : Bool) (waiting : List Command) (block : Option Block) (line more : List ℕ) → ended line ≡ [] → (waiting ++ given block line) ++ commands over (kept_next block line) (lines_of over more) ≡ waiting ++ commands over block (lines_of over (line ++ 10 ∷ more))
 feed_commands over waiting block line more none =
     append_assoc waiting (given block line) (commands over (kept_next block line) (lines_of over more)) ∙ ap (λ (made : List Command). waiting ++ (given block line ++ made)) (kept_block over block line (lines_of over more)) ∙ ap (λ (lines : List (List ℕ)). waiting ++ commands over block lines) (sym (lines_feed over line more none))
@@ -130,6 +142,22 @@ pub feed_read : (old new : Reader) → IsSound old → new.waiting.items ≡ old
 feed_read old new sound waiting block line = record {
   commands = λ over more. rw (waiting, block, line) (feed_commands over old.waiting.items old.block old.line.items more sound.one_line);
 }
+
+pub line_end_read : {T E : Type 0} (r : Result T E) (old new : Reader) → IsSound old
+    → OnOk r (new.waiting.items ≡ old.waiting.items ++ given old.block old.line.items) → OnOk r (new.block ≡ kept_next old.block old.line.items)
+    → new.line.items ≡ [] → OnOk r (HasRead old (10 ∷ []) new)
+line_end_read (Ok x) old new sound waiting block line = feed_read old new sound waiting block line
+line_end_read (Err e) old new sound waiting block line = tt
+
+-- a line without its carriage return is a front of it
+pub without_return-front : (line : List ℕ) → take (length (without_return line)) line ≡ without_return line
+without_return-front [] = refl
+without_return-front (byte ∷ []) = by (byte == 13)
+  where
+    by : (b : Bool) → take (length (cond b [] (byte ∷ []))) (byte ∷ []) ≡ cond b [] (byte ∷ [])
+    by true = refl
+    by false = refl
+without_return-front (byte ∷ next ∷ bytes) = ap (λ l. byte ∷ l) (without_return-front (next ∷ bytes))
 
 -- bytes that are read one after the other are read together
 pub read_both : (old between new : Reader) (first second : List ℕ) → HasRead old first between → HasRead between second new → HasRead old (first ++ second) new

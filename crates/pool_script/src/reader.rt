@@ -124,17 +124,16 @@ impl Reader {
         requires { IsSound self.old }
         ensures sound { IsSound self.new }
         ensures ok { OnOk result (HasRead self.old (10 ∷ []) self.new) }
-        ensures line { OnOk result (self.new.line.items ≡ []) }
+        ensures line { self.new.line.items ≡ [] }
     {
-        self.read_line()?;
+        let read = self.read_line();
         self.line.clear();
-        Ok(())
+        read
     }
 
-    /// Reads the line, in a block or outside one.
+    /// Reads the line, in a block or outside one. What is left of it has no meaning.
     #[tactic(auto, unfolding(crate::specs::Commands::given, crate::specs::Commands::next, crate::specs::Reading::kept_next))]
     fn read_line(&mut self) -> Result<(), OutOfMemory>
-        ensures line { self.new.line.items ≡ self.old.line.items }
         ensures ok_waiting { OnOk result
             (self.new.waiting.items ≡ self.old.waiting.items ++ given self.old.block self.old.line.items) }
         ensures ok_block { OnOk result (self.new.block ≡ kept_next self.old.block self.old.line.items) }
@@ -145,7 +144,7 @@ impl Reader {
             None => self.read_outside(),
             Some(_) if is_dot(&self.line) => self.close_block(),
             Some(block) => {
-                let lengthened = lengthen(block, &self.line);
+                let lengthened = lengthen(block, &mut self.line);
                 if lengthened.is_err() {
                     self.block = None;
                 }
@@ -231,22 +230,25 @@ fn new_block(alloc: Global, line: &[u8]) -> Result<Block, OutOfMemory>
     })
 }
 
-/// Adds a line to the block, of which no more is kept once its text is too long.
+/// Adds a line to the block, of which no more is kept once its text is too long. What is left of the line has no meaning.
 #[tactic(auto, unfolding(crate::specs::Commands::next, crate::specs::Reading::kept_next))]
-fn lengthen(block: &mut Block, line: &[u8]) -> Result<(), OutOfMemory>
-    requires { is_dot line.now ≡ false }
-    ensures { OnOk result (Some block.new ≡ kept_next (Some block.old) line.now) }
+fn lengthen(block: &mut Block, line: &mut Vec<u8>) -> Result<(), OutOfMemory>
+    requires { is_dot line.old.items ≡ false }
+    ensures { OnOk result (Some block.new ≡ kept_next (Some block.old) line.old.items) }
 {
     if block.text.bytes().len() > LONGEST_BLOCK {
         return Ok(());
     }
-    append_line(&mut block.text, line)
+    end_with_feed(line)?;
+    block.text.append(line)
 }
 
-/// Adds a line, without the carriage return that may end it, and a line feed.
-fn append_line(text: &mut Text, line: &[u8]) -> Result<(), OutOfMemory>
-    ensures { OnOk result (text.new ≡ text.old ++ without_return line.now ++ 10 ∷ []) }
+/// Puts a line feed behind a line, in the place of the carriage return that may end it.
+fn end_with_feed(line: &mut Vec<u8>) -> Result<(), OutOfMemory>
+    ensures { OnOk result (line.new.items ≡ without_return line.old.items ++ 10 ∷ []) }
 {
-    text.append(without_return(line))?;
-    text.append(b"\n")
+    let len = without_return(line).len();
+    line.truncate(len);
+    line.push(b'\n')?;
+    Ok(())
 }

@@ -1,4 +1,4 @@
-// The rules of the grammar, each a function that reads what stands at the front of the words that are left, and adds to a
+// The rules of the grammar, each a function that reads what stands at the front of the words that are left, and tells a
 // machine what builds its tree (ClassAd Language Reference Manual 2.4, grammar). `fuel` bounds how many expressions stand
 // within one another; the number of words and one more is enough. Chains are read by loops, so that only brackets take
 // stack.

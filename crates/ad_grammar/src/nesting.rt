@@ -77,7 +77,7 @@ pub fn elements_ahead(tokens: &Tokens<'_>, from: usize) -> usize {
 }
 
 #[inline]
-pub fn turn_of(mark: Option<Mark>) -> Turn
+fn turn_of(mark: Option<Mark>) -> Turn
     ensures { (w : MeantWord) → mark_in w ≡ mark → IsTurn result w }
 {
     match mark {

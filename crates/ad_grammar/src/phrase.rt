@@ -33,8 +33,8 @@ pub(crate) fn lone(
     if !reader.ends_behind_next() {
         return Ok(false);
     }
-    if let Some(text) = reader.plain() {
-        bare(alloc, machine, text)?;
+    if let Some(name) = reader.plain(alloc)? {
+        bare(machine, name)?;
         return Ok(true);
     }
     let Some(literal) = reader.literal(alloc)? else {
@@ -55,8 +55,8 @@ pub(crate) fn worded(
     requires { front_mark (left reader.now) ≡ None }
     ensures { Begins (λ e. primary e (left reader.old)) result (left reader.new) (stack machine.old) (stack machine.new) }
 {
-    if let Some(text) = reader.plain() {
-        return named(alloc, reader, machine, text);
+    if let Some(name) = reader.plain(alloc)? {
+        return named(alloc, reader, machine, name);
     }
     if let Some(literal) = reader.literal(alloc)? {
         return put(machine, Instruction::Literal(literal));
@@ -83,16 +83,15 @@ fn named(
     alloc: Global,
     reader: &mut Reader<'_>,
     machine: &mut Machine,
-    text: &[u8],
+    name: Text,
 ) -> Result<bool, Stop>
-    ensures { Begins (λ e. plain_at e text.now (left reader.old)) result (left reader.new) (stack machine.old) (stack machine.new) }
+    ensures { Begins (λ e. plain_at e name (left reader.old)) result (left reader.new) (stack machine.old) (stack machine.new) }
 {
     if reader.takes(Mark::OpenParen) {
-        let function = Text::from_bytes(alloc, text)?;
-        machine.push(Instruction::Call(function, reader.elements_ahead()))?;
+        machine.push(Instruction::Call(name, reader.elements_ahead()))?;
         return Ok(true);
     }
-    reference(alloc, reader, machine, text)?;
+    reference(alloc, reader, machine, name)?;
     Ok(false)
 }
 
@@ -101,25 +100,25 @@ fn reference(
     alloc: Global,
     reader: &mut Reader<'_>,
     machine: &mut Machine,
-    text: &[u8],
+    name: Text,
 ) -> Result<(), Stop>
-    ensures { Puts (reference text.now (left reader.old)) result (left reader.new) (stack machine.old) (stack machine.new) }
+    ensures { Puts (reference name (left reader.old)) result (left reader.new) (stack machine.old) (stack machine.new) }
 {
-    if let Some(scope) = scope_of(text) {
+    if let Some(scope) = scope_of(name.bytes()) {
         if reader.takes(Mark::Dot) {
+            drop(name);
             return attribute(alloc, reader, machine, scope);
         }
     }
-    Ok(bare(alloc, machine, text)?)
+    Ok(bare(machine, name)?)
 }
 
 /// A plain name in no scope.
 #[inline(always)]
-fn bare(alloc: Global, machine: &mut Machine, text: &[u8]) -> Result<(), OutOfMemory>
-    ensures { OnOk result (stack machine.new ≡ leaf (name Bare text.now) ∷ stack machine.old) }
+fn bare(machine: &mut Machine, text: Text) -> Result<(), OutOfMemory>
+    ensures { OnOk result (stack machine.new ≡ leaf (name Bare text) ∷ stack machine.old) }
 {
-    let name = Text::from_bytes(alloc, text)?;
-    machine.push(Instruction::Name(Scope::Bare, name))
+    machine.push(Instruction::Name(Scope::Bare, text))
 }
 
 /// A name in a scope, behind the dot.

@@ -81,23 +81,24 @@ impl<'a> Reader<'a> {
         }
     }
 
-    /// Takes a plain name, where one stands next, for which no word is made.
+    /// Takes a plain name, where one stands next.
     #[inline(always)]
-    pub(crate) fn plain(&mut self) -> Option<&'a [u8]>
-        ensures some { (text : Bor (List ℕ)) → result ≡ Some text → left self.old ≡ plain text.now ∷ left self.new }
-        ensures kept { result ≡ None → left self.new ≡ left self.old }
-        ensures other { result ≡ None → (text : List ℕ) (rest : List MeantWord) → left self.old ≡ plain text ∷ rest → ⊥ }
+    pub(crate) fn plain(&mut self, alloc: Global) -> Result<Option<Text>, OutOfMemory>
+        ensures some { (text : List ℕ) → result ≡ Ok (Some text) → left self.old ≡ plain text ∷ left self.new }
+        ensures kept { result ≡ Ok None → left self.new ≡ left self.old }
+        ensures other { result ≡ Ok None → (text : List ℕ) (rest : List MeantWord) → left self.old ≡ plain text ∷ rest → ⊥ }
     {
         if self.at >= self.tokens.len() {
-            return None;
+            return Ok(None);
         }
         let token = self.tokens.at(self.at);
         match token.kind {
             TokenKind::Plain => {
+                let name = self.tokens.text(alloc, self.at)?;
                 self.skip();
-                Some(token.text)
+                Ok(Some(name))
             }
-            _ => None,
+            _ => Ok(None),
         }
     }
 
@@ -229,8 +230,8 @@ impl<'a> Reader<'a> {
     pub(crate) fn name(&mut self, alloc: Global) -> Result<Text, Stop>
         ensures { Gives (λ (t : List ℕ). t) (name_at (left self.old)) result (left self.new) }
     {
-        if let Some(text) = self.plain() {
-            return Ok(Text::from_bytes(alloc, text)?);
+        if let Some(name) = self.plain(alloc)? {
+            return Ok(name);
         }
         match self.quoted(alloc)? {
             Some(text) => Ok(text),

@@ -22,8 +22,7 @@ pub fn content(alloc: Global, spelling: &[u8]) -> Result<Text, OutOfMemory>
     if byte_at(letters, plain) == quote {
         Text::from_bytes(alloc, front(letters, plain))
     } else {
-        let bytes = unescaped(alloc, spelling)?;
-        Text::from_bytes(alloc, &bytes)
+        Text::from_vec(alloc, unescaped(alloc, spelling)?)
     }
 }
 

@@ -1,5 +1,7 @@
 // Tokens and lists of them.
 use crate::mark::Mark;
+use pool_text::{OutOfMemory, Text};
+use std::alloc::Global;
 use std::marker::Model;
 
 /// What a token is: a plain name, a reserved word, a name in single quotes, a string in double quotes, an integer or a
@@ -53,8 +55,8 @@ impl<'a> Model for Tokens<'a> {
 }
 
 impl<'a> Tokens<'a> {
-    ghost use Rattle.std.specs.Prelude.{◌≡◌, ◌<◌, ◌^◌, length, slice_get, Some, true};
-    ghost use Rattle.ad_lexer.specs.Lexeme.{lexeme};
+    ghost use Rattle.std.specs.Prelude.{◌≡◌, ◌<◌, ◌^◌, length, slice_get, IfOk, Some, true};
+    ghost use Rattle.ad_lexer.specs.Lexeme.{Lexeme, lexeme};
     ghost use Rattle.ad_lexer.specs.Marks.{marks_of};
     ghost use Rattle.ad_lexer.specs.Spans.{are_within, lexemes_of, AreMarked};
 
@@ -97,5 +99,16 @@ impl<'a> Tokens<'a> {
             end: span.end,
             text: &self.source[span.start as usize..span.end as usize],
         }
+    }
+
+    /// The bytes of the token at place `i` as a text.
+    #[inline(always)]
+    pub fn text(&self, alloc: Global, i: usize) -> Result<Text, OutOfMemory>
+        requires { i < length self.now }
+        ensures { IfOk result (λ text. (l : Lexeme) → slice_get self.now i ≡ Some l → text ≡ l.text) }
+    {
+        let Span { start, end, .. } = self.spans[i];
+        let len = (end - start) as usize;
+        Text::from_front(alloc, &self.source[start as usize..], len)
     }
 }

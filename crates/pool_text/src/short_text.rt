@@ -1,5 +1,5 @@
 // Texts of a few bytes, which take no memory beside their own place.
-ghost use Rattle.std.specs.Prelude.{◌≡◌, ◌+◌, ◌≤◌, ◌++◌, ◌↔◌, [], length, IsTrue};
+ghost use Rattle.std.specs.Prelude.{◌≡◌, ◌+◌, ◌≤◌, ◌++◌, ◌↔◌, [], length, take, IsTrue};
 
 use std::marker::Model;
 
@@ -30,6 +30,22 @@ impl ShortText {
         ShortText {
             len: 0,
             bytes: [0; LONGEST_SHORT_TEXT],
+        }
+    }
+
+    /// The first `len` bytes. All that may stand in place are copied, as a copy of one size takes less time than one of a few
+    /// bytes; no call shows those behind the text.
+    #[inline(always)]
+    pub fn from_front(bytes: &[u8], len: usize) -> ShortText
+        requires few { len ≤ 22 }
+        requires more { 22 ≤ length bytes.now }
+        ensures { result ≡ take len bytes.now }
+    {
+        let mut place = [0; LONGEST_SHORT_TEXT];
+        place.copy_from_slice(&bytes[..LONGEST_SHORT_TEXT]);
+        ShortText {
+            len: len as u8,
+            bytes: place,
         }
     }
 

@@ -1,13 +1,16 @@
 // A text is a list of bytes, of any encoding.
-ghost use Rattle.std.specs.Prelude.{◌≡◌, ◌+◌, ◌≤◌, ◌++◌, [], IfOk, IsOk, OnOk, OnErr, length, nat_eq};
+ghost use Rattle.std.specs.Prelude.{◌≡◌, ◌+◌, ◌≤◌, ◌++◌, [], IfOk, IsOk, OnOk, OnErr, length, take, nat_eq};
 ghost use Rattle.std.specs.Cmp.{partial_equiv_from_equiv};
 ghost use Rattle.std.specs.Cmp.Lexicographic.{nat_list_eq_equiv, pointwise};
 
 use crate::OutOfMemory;
-use crate::short_text::ShortText;
+use crate::short_text::{LONGEST_SHORT_TEXT, ShortText};
 use std::alloc::Global;
 use std::fmt;
 use std::marker::Model;
+
+// A text that grows beyond its place is most often a block or a reply, which goes on growing.
+const FIRST_ROOM: usize = 1_024;
 
 /// A growing list of bytes, which contracts see as that list. It needs not be UTF-8.
 ///
@@ -77,9 +80,41 @@ impl Text {
             short.append(bytes);
             Bytes::Short(short)
         } else {
-            Bytes::Long(joined(alloc, &[], bytes)?)
+            Bytes::Long(joined(alloc, bytes.len(), &[], bytes)?)
         };
         Ok(Text { alloc, bytes })
+    }
+
+    /// A text with the first `len` bytes. It takes less time than one with as many bytes of which none is known to stand behind
+    /// them. Up to 22 are never refused.
+    #[inline(always)]
+    pub fn from_front(alloc: Global, bytes: &[u8], len: usize) -> Result<Text, OutOfMemory>
+        requires { len ≤ length bytes.now }
+        ensures text { IfOk result (λ t. t ≡ take len bytes.now) }
+        ensures short { len ≤ 22 → IsOk result }
+    {
+        if len > LONGEST_SHORT_TEXT || bytes.len() < LONGEST_SHORT_TEXT {
+            return Text::from_bytes(alloc, &bytes[..len]);
+        }
+        Ok(Text {
+            alloc,
+            bytes: Bytes::Short(ShortText::from_front(bytes, len)),
+        })
+    }
+
+    /// A text with the bytes of a list, which isn't copied where they are more than 22. Its room stays as it is. Up to 22 bytes are
+    /// never refused.
+    pub fn from_vec(alloc: Global, bytes: Vec<u8>) -> Result<Text, OutOfMemory>
+        ensures text { IfOk result (λ t. t ≡ bytes.items) }
+        ensures short { length bytes.items ≤ 22 → IsOk result }
+    {
+        if bytes.len() <= LONGEST_SHORT_TEXT {
+            return Text::from_bytes(alloc, &bytes);
+        }
+        Ok(Text {
+            alloc,
+            bytes: Bytes::Long(Box::new(alloc, bytes)?),
+        })
     }
 
     /// A second text with the same bytes. It isn't refused where they are no more than 22.
@@ -112,7 +147,8 @@ impl Text {
                 if short.has_room(bytes.len()) {
                     short.append(bytes);
                 } else {
-                    self.bytes = Bytes::Long(joined(self.alloc, short.bytes(), bytes)?);
+                    let room = FIRST_ROOM.max(short.bytes().len() + bytes.len());
+                    self.bytes = Bytes::Long(joined(self.alloc, room, short.bytes(), bytes)?);
                 }
             }
         }
@@ -144,14 +180,19 @@ fn are_same(a: &[u8], b: &[u8]) -> bool
     right.is_empty()
 }
 
-// The bytes of both in a place of their own.
+// The bytes of both in a place of their own, with room for so many at least.
 #[cold]
 #[inline(never)]
-fn joined(alloc: Global, first: &[u8], second: &[u8]) -> Result<Box<Vec<u8>>, OutOfMemory>
+fn joined(
+    alloc: Global,
+    room: usize,
+    first: &[u8],
+    second: &[u8],
+) -> Result<Box<Vec<u8>>, OutOfMemory>
     ensures { IfOk result (λ long. long.value.items ≡ first.now ++ second.now) }
 {
     let mut long = Vec::new(alloc);
-    long.reserve_exact(first.len() + second.len())?;
+    long.reserve_exact(room)?;
     long.extend_from_slice(first)?;
     long.extend_from_slice(second)?;
     Ok(Box::new(alloc, long)?)

@@ -3,6 +3,7 @@ use Rattle.std.proofs.Common.{◌≡◌, ℕ, zero, suc, ◌-◌, ◌+◌, ◌�
 use Rattle.std.proofs.Math.Seq.{take-length}
 use Rattle.std.proofs.lemmas.Bool.{cases_Bool, eqb-true}
 use Rattle.std.proofs.lemmas.List.{length-drop, take-append-drop, take_all}
+use Rattle.std.proofs.lemmas.Grind.{take_at_read}
 use Rattle.memchr.specs.Find.{IsFirstByte, is_byte}
 use Rattle.pool_text.specs.Lines.{ended, last_line, onto, rest_behind, rest_of, whole, with_feeds}
 use Rattle.pool_text.proofs.LineLemmas.{ended-append, ended_onto, rest_onto, with_feeds-ended}
@@ -105,17 +106,18 @@ pub ended_none-nowhere : (bytes : List ℕ) → IsFirstByte (is_byte 10) bytes N
 ended_none-nowhere bytes nowhere = ap (λ (l : List ℕ). ended l) (sym (take-length bytes)) ∙ ended_none-before bytes (length bytes) (omega arith) (λ k below. no_feed_at bytes k (nowhere k (omega arith) below))
 
 -- bytes with a line feed are cut at the first one
-pub cuts_at_first : (bytes : List ℕ) (n : ℕ) → IsFirstByte (is_byte 10) bytes (Some n) → CutsAtFeed bytes (take n bytes) (drop (n + 1) bytes)
+pub cuts_at_first : (bytes : List ℕ) (n : ℕ) → IsFirstByte (is_byte 10) bytes (Some n) → CutsAtFeed bytes (take n bytes) (take (n + 1) bytes) (drop (n + 1) bytes)
 cuts_at_first bytes n first =
     let below : n < length bytes = first.0.high in
     let feed : get_or bytes n 0 ≡ 10 = eqb-true (get_or bytes n 0) 10 first.1 in
     record {
       one_line = ended_none-before bytes n (omega arith) (λ k before. no_feed_at bytes k (first.0.before k (omega arith) before));
+      feed = (take_at_read bytes n 0 below).1 ∙ ap (λ (x : ℕ). take n bytes ++ x ∷ []) feed;
       parts = ap (λ (x : ℕ). take n bytes ++ x ∷ drop (n + 1) bytes) (sym feed) ∙ ap (λ (m : ℕ). take n bytes ++ get_or bytes n 0 ∷ drop m bytes) (add-one n) ∙ ap (λ (rest : List ℕ). take n bytes ++ rest) (sym (drop-cons bytes n 0 below)) ∙ take-append-drop n bytes;
     }
 
 rest_is : (bytes : List ℕ) (n : ℕ) → take (length bytes - n) (drop n bytes) ≡ drop n bytes
 rest_is bytes n = take_all (length bytes - n) (drop n bytes) (omega (arith, length-drop n bytes))
 
-pub cuts_at_place : (bytes : List ℕ) (n : ℕ) → IsFirstByte (is_byte 10) bytes (Some n) → CutsAtFeed bytes (take n bytes) (take (length bytes - (n + 1)) (drop (n + 1) bytes))
+pub cuts_at_place : (bytes : List ℕ) (n : ℕ) → IsFirstByte (is_byte 10) bytes (Some n) → CutsAtFeed bytes (take n bytes) (take (n + 1) bytes) (take (length bytes - (n + 1)) (drop (n + 1) bytes))
 cuts_at_place bytes n first = rw (rest_is bytes (n + 1)) (cuts_at_first bytes n first)

@@ -43,16 +43,16 @@ Leaves old piece now left = (over : Bool) (more : List ℕ) → now.waiting ++ g
 pub begun_with : (rest bytes : List ℕ) → IsBegun rest → ended bytes ≡ [] → IsBegun (kept (rest ++ bytes))
 begun_with rest bytes begun none = record { one_line = ended_kept (rest ++ bytes) (ended_none-append rest bytes begun.one_line none); short = kept-length (rest ++ bytes) }
 
-at_feed : (rest left bytes behind more : List ℕ) → CutsAtFeed left bytes behind → rest ++ (left ++ more) ≡ (rest ++ bytes) ++ 10 ∷ (behind ++ more)
-at_feed rest left bytes behind more cuts =
+at_feed : (rest left bytes with_feed behind more : List ℕ) → CutsAtFeed left bytes with_feed behind → rest ++ (left ++ more) ≡ (rest ++ bytes) ++ 10 ∷ (behind ++ more)
+at_feed rest left bytes with_feed behind more cuts =
     ap (λ (l : List ℕ). rest ++ (l ++ more)) (sym cuts.parts) ∙ ap (λ (l : List ℕ). rest ++ l) (append_assoc bytes (10 ∷ behind) more) ∙ sym (append_assoc rest bytes (10 ∷ (behind ++ more)))
 
 -- a line ends
-pub Leaves-line : (old now new : Held Line) (piece left bytes behind : List ℕ) → IsBegun now.rest → CutsAtFeed left bytes behind → new.waiting ≡ now.waiting ++ given_line (kept (now.rest ++ bytes)) ∷ [] → new.rest ≡ [] → Leaves old piece now left → Leaves old piece new behind
-Leaves-line old now new piece left bytes behind begun cuts waiting rest leaves = λ over more.
+pub Leaves-line : (old now new : Held Line) (piece left bytes with_feed behind : List ℕ) → IsBegun now.rest → CutsAtFeed left bytes with_feed behind → new.waiting ≡ now.waiting ++ given_line (kept (now.rest ++ bytes)) ∷ [] → new.rest ≡ [] → Leaves old piece now left → Leaves old piece new behind
+Leaves-line old now new piece left bytes with_feed behind begun cuts waiting rest leaves = λ over more.
     let line : List ℕ = now.rest ++ bytes in
     let step : given_lines over (now.rest ++ (left ++ more)) ≡ given_line line ∷ given_lines over (behind ++ more) =
-    ap (λ (l : List ℕ). given_lines over l) (at_feed now.rest left bytes behind more cuts) ∙ given_lines-feed over line (behind ++ more) (ended_none-append now.rest bytes begun.one_line cuts.one_line) in
+    ap (λ (l : List ℕ). given_lines over l) (at_feed now.rest left bytes with_feed behind more cuts) ∙ given_lines-feed over line (behind ++ more) (ended_none-append now.rest bytes begun.one_line cuts.one_line) in
     ap (λ (l : List ℕ). new.waiting ++ given_lines over (l ++ (behind ++ more))) rest
     ∙ ap (λ (w : List Line). w ++ given_lines over (behind ++ more)) (waiting ∙ ap (λ (l : Line). now.waiting ++ l ∷ []) (given_line-kept line))
     ∙ append_assoc now.waiting (given_line line ∷ []) (given_lines over (behind ++ more))

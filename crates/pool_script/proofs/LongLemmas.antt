@@ -86,16 +86,19 @@ without_return-length (x ∷ []) =
     ]
 without_return-length (x ∷ y ∷ line) = let more = without_return-length (y ∷ line) in omega arith
 
-is_dot-long : (line : List ℕ) → is_long line ≡ true → is_dot line ≡ false
-is_dot-long line long =
+-- a dot and a carriage return are no more than two bytes
+pub is_dot_above : (line : List ℕ) → 2 < length line → is_dot line ≡ false
+is_dot_above line above =
     elim (cases_Bool (is_dot line)) [
       | inl is ↦
           let one = ap length ((bytes_eq-Decides (without_return line) (codes ".")).0 is) in
           let many = without_return-length line in
-          let above : 65536 < length line = grind (arith, nat_tests) in
           absurd (omega arith)
       | inr is ↦ is
     ]
+
+is_dot-long : (line : List ℕ) → is_long line ≡ true → is_dot line ≡ false
+is_dot-long line long = is_dot_above line (grind (arith, nat_tests))
 
 text_long : (text line : List ℕ) → is_long line ≡ true → is_long (text ++ without_return line ++ 10 ∷ []) ≡ true
 text_long text line long =

@@ -1,5 +1,6 @@
 -- A reader stays sound, and gives the commands of what it has read.
-use Rattle.std.proofs.Common.{◌≡◌, ℕ, ◌-◌, ◌+◌, ◌≤◌, ◌<◌, Bool, true, false, not, ◌&&◌, ◌==◌, cond, min, List, [], ◌∷◌, ◌++◌, length, take, Option, None, Some, Result, Ok, Err, OnOk, OnErr, refl, sym, ◌∙◌, ap, subst, inl, inr, arith, append_assoc, length-append, codes}
+use Rattle.std.proofs.Common.{◌≡◌, ℕ, ◌≤◌, ◌<◌, Bool, true, false, not, ◌&&◌, ◌==◌, cond, List, [], ◌∷◌, ◌++◌, length, take, Option, None, Some, Result, Ok, Err, OnOk, OnErr, refl, sym, ◌∙◌, ap, subst, inl, inr, arith, append_assoc, length-append, codes}
+use Rattle.std.proofs.Math.Seq.{take-length}
 use Rattle.std.proofs.lemmas.Bool.{cases_Bool, eqb-true}
 use Rattle.std.proofs.lemmas.Bool.Decides.{nat_tests}
 use Rattle.std.proofs.lemmas.List.{append-nil}
@@ -10,7 +11,6 @@ use Rattle.pool_text.specs.Lines.{ended, rest_of, whole, without_return}
 use Rattle.pool_text.proofs.LineLemmas.{ended-append, rest_of-append}
 use Rattle.pool_text.specs.Words.{is_empty, is_long}
 use Rattle.pool_script.specs.Commands.{commands, cut_off, given, is_dot, line_command, lines_of, next, takes_block}
-use Rattle.pool_script.specs.Cuts.{CutsAtFeed}
 use Rattle.pool_script.specs.Form.{are_block_lines, is_within_form}
 use Rattle.pool_script.specs.Reading.{HasRead, IsOpen, IsSound, commands_from, kept, kept_next}
 use Rattle.pool_script.specs.declared.command.Command.{Command}
@@ -114,40 +114,43 @@ given_form (Some old) line is_open none = given_form_inside old line (is_open ol
 all_with : (waiting made : List Command) → list_all is_within_form waiting ≡ true → list_all is_within_form made ≡ true → list_all is_within_form (waiting ++ made) ≡ true
 all_with waiting made of_waiting of_made = rw (list_all-append is_within_form waiting made, of_waiting, of_made) refl
 
-pub feed_sound : (old new : Reader) → IsSound old → new.waiting.items ≡ old.waiting.items ++ given old.block old.line.items → new.block ≡ kept_next old.block old.line.items → new.line.items ≡ [] → IsSound new
-feed_sound old new sound waiting block line = record {
-  form = rw waiting (all_with old.waiting.items (given old.block old.line.items) sound.form (given_form old.block old.line.items sound.open_block sound.one_line));
-  open_block = λ b is. open_next old.block old.line.items sound.open_block sound.one_line sound.short b (sym block ∙ is);
-  one_line = rw line refl;
-  short = rw line (omega arith);
+pub feed_sound : (old new : Reader) (line : List ℕ) → IsSound old → ended line ≡ [] → length line ≤ 65537 → new.waiting.items ≡ old.waiting.items ++ given old.block line → new.block ≡ kept_next old.block line → new.line.items ≡ [] → IsSound new
+feed_sound old new line sound none fits waiting block empty = record {
+  form = rw waiting (all_with old.waiting.items (given old.block line) sound.form (given_form old.block line sound.open_block none));
+  open_block = λ b is. open_next old.block line sound.open_block none fits b (sym block ∙ is);
+  one_line = rw empty refl;
+  short = rw empty (omega arith);
 }
 
 -- the end of a line, whether it could be read or not
-pub line_end_sound : {T E : Type 0} (r : Result T E) (old new : Reader) → IsSound old
-    → OnOk r (new.waiting.items ≡ old.waiting.items ++ given old.block old.line.items) → OnOk r (new.block ≡ kept_next old.block old.line.items)
+pub line_end_sound : {T E : Type 0} (r : Result T E) (old new : Reader) (line : List ℕ) → IsSound old → ended line ≡ [] → length line ≤ 65537
+    → OnOk r (new.waiting.items ≡ old.waiting.items ++ given old.block line) → OnOk r (new.block ≡ kept_next old.block line)
     → OnErr r (new.waiting.items ≡ old.waiting.items) → OnErr r (new.block ≡ None) → new.line.items ≡ [] → IsSound new
-line_end_sound (Ok x) old new sound waiting block same none line = feed_sound old new sound waiting block line
-line_end_sound (Err e) old new sound waiting block same none line = record {
+line_end_sound (Ok x) old new line sound empty fits waiting block same none begun = feed_sound old new line sound empty fits waiting block begun
+line_end_sound (Err e) old new line sound empty fits waiting block same none begun = record {
   form = rw same sound.form;
   open_block = λ b is. let no : ◌≡◌ {A = Option Block} None (Some b) = sym none ∙ is in absurd (cc);
-  one_line = rw line refl;
-  short = rw line (omega arith);
+  one_line = rw begun refl;
+  short = rw begun (omega arith);
 }
 
 feed_commands : (over : Bool) (waiting : List Command) (block : Option Block) (line more : List ℕ) → ended line ≡ [] → (waiting ++ given block line) ++ commands over (kept_next block line) (lines_of over more) ≡ waiting ++ commands over block (lines_of over (line ++ 10 ∷ more))
 feed_commands over waiting block line more none =
     append_assoc waiting (given block line) (commands over (kept_next block line) (lines_of over more)) ∙ ap (λ (made : List Command). waiting ++ (given block line ++ made)) (kept_block over block line (lines_of over more)) ∙ ap (λ (lines : List (List ℕ)). waiting ++ commands over block lines) (sym (lines_feed over line more none))
 
-pub feed_read : (old new : Reader) → IsSound old → new.waiting.items ≡ old.waiting.items ++ given old.block old.line.items → new.block ≡ kept_next old.block old.line.items → new.line.items ≡ [] → HasRead old (10 ∷ []) new
-feed_read old new sound waiting block line = record {
-  commands = λ over more. rw (waiting, block, line) (feed_commands over old.waiting.items old.block old.line.items more sound.one_line);
+-- the bytes end the line
+pub feed_read : (old new : Reader) (line bytes : List ℕ) → ended line ≡ [] → old.line.items ++ bytes ≡ line ++ 10 ∷ [] → new.waiting.items ≡ old.waiting.items ++ given old.block line → new.block ≡ kept_next old.block line → new.line.items ≡ [] → HasRead old bytes new
+feed_read old new line bytes none ends waiting block begun = record {
+  commands = λ over more.
+      let joined : line ++ 10 ∷ more ≡ old.line.items ++ (bytes ++ more) = sym (append_assoc line (10 ∷ []) more) ∙ ap (λ (l : List ℕ). l ++ more) (sym ends) ∙ append_assoc old.line.items bytes more in
+      rw (waiting, block, begun) (feed_commands over old.waiting.items old.block line more none ∙ ap (λ (l : List ℕ). old.waiting.items ++ commands over old.block (lines_of over l)) joined);
 }
 
-pub line_end_read : {T E : Type 0} (r : Result T E) (old new : Reader) → IsSound old
-    → OnOk r (new.waiting.items ≡ old.waiting.items ++ given old.block old.line.items) → OnOk r (new.block ≡ kept_next old.block old.line.items)
-    → new.line.items ≡ [] → OnOk r (HasRead old (10 ∷ []) new)
-line_end_read (Ok x) old new sound waiting block line = feed_read old new sound waiting block line
-line_end_read (Err e) old new sound waiting block line = tt
+pub line_end_read : {T E : Type 0} (r : Result T E) (old new : Reader) (line bytes : List ℕ) → ended line ≡ [] → old.line.items ++ bytes ≡ line ++ 10 ∷ []
+    → OnOk r (new.waiting.items ≡ old.waiting.items ++ given old.block line) → OnOk r (new.block ≡ kept_next old.block line)
+    → new.line.items ≡ [] → OnOk r (HasRead old bytes new)
+line_end_read (Ok x) old new line bytes none ends waiting block begun = feed_read old new line bytes none ends waiting block begun
+line_end_read (Err e) old new line bytes none ends waiting block begun = tt
 
 -- a line without its carriage return is a front of it
 pub without_return-front : (line : List ℕ) → take (length (without_return line)) line ≡ without_return line
@@ -159,21 +162,9 @@ without_return-front (byte ∷ []) = by (byte == 13)
     by false = refl
 without_return-front (byte ∷ next ∷ bytes) = ap (λ l. byte ∷ l) (without_return-front (next ∷ bytes))
 
--- bytes that are read one after the other are read together
-pub read_both : (old between new : Reader) (first second : List ℕ) → HasRead old first between → HasRead between second new → HasRead old (first ++ second) new
-read_both old between new first second one two = record {
-  commands = λ over more. two.commands over more ∙ one.commands over (second ++ more) ∙ ap (λ (bytes : List ℕ). commands_from over old bytes) (sym (append_assoc first second more));
-}
-
--- one more line of a piece
-pub read_line : (start old between new : Reader) (piece left line behind : List ℕ) → CutsAtFeed left line behind → ((over : Bool) (more : List ℕ) → commands_from over old (left ++ more) ≡ commands_from over start (piece ++ more)) → HasRead old line between → HasRead between (10 ∷ []) new → (over : Bool) (more : List ℕ) → commands_from over new (behind ++ more) ≡ commands_from over start (piece ++ more)
-read_line start old between new piece left line behind cut promise one feed = λ over more.
-    let whole : line ++ (10 ∷ (behind ++ more)) ≡ left ++ more = sym (append_assoc line (10 ∷ behind) more) ∙ ap (λ (bytes : List ℕ). bytes ++ more) cut.parts in
-    feed.commands over (behind ++ more) ∙ one.commands over (10 ∷ (behind ++ more)) ∙ ap (λ (bytes : List ℕ). commands_from over old bytes) whole ∙ promise over more
-
--- the last line of a piece, which hasn't ended
-pub read_rest : (start old new : Reader) (piece left : List ℕ) → ((over : Bool) (more : List ℕ) → commands_from over old (left ++ more) ≡ commands_from over start (piece ++ more)) → HasRead old left new → HasRead start piece new
-read_rest start old new piece left promise rest = record { commands = λ over more. rest.commands over more ∙ promise over more }
+-- of which nothing is dropped where it is as long
+pub without_return-none : (line : List ℕ) → length (without_return line) ≡ length line → without_return line ≡ line
+without_return-none line same = sym (without_return-front line) ∙ ap (λ (n : ℕ). take n line) same ∙ take-length line
 
 -- an input that ends with a line feed, and one that lacks it
 pub end_with_line : (old new : Reader) → IsSound old → 0 < length old.line.items → HasRead old (10 ∷ []) new → new.line.items ≡ [] → new.waiting.items ++ cut_off new.block ≡ commands_from true old []
@@ -181,9 +172,6 @@ end_with_line old new sound some read none =
     let at_end : commands_from true new [] ≡ new.waiting.items ++ cut_off new.block = ap (λ (l : List ℕ). new.waiting.items ++ commands true new.block (lines_of true (l ++ []))) none in
     let as_line : lines_of true (old.line.items ++ 10 ∷ []) ≡ lines_of true (old.line.items ++ []) = lines_feed true old.line.items [] sound.one_line ∙ sym (ap (λ (l : List ℕ). lines_of true l) (append-nil old.line.items) ∙ whole_none old.line.items sound.one_line some) in
     sym at_end ∙ read.commands true [] ∙ ap (λ (lines : List (List ℕ)). old.waiting.items ++ commands true old.block lines) as_line
-
-pub end_without_line : (reader : Reader) → reader.line.items ≡ [] → reader.waiting.items ++ cut_off reader.block ≡ commands_from true reader []
-end_without_line reader none = sym (ap (λ (l : List ℕ). reader.waiting.items ++ commands true reader.block (lines_of true (l ++ []))) none)
 
 cut_off_form : (block : Option Block) → ((b : Block) → block ≡ Some b → IsOpen b) → list_all is_within_form (cut_off block) ≡ true
 unfolding cut_off

@@ -7,13 +7,14 @@ ghost use Rattle.pool_script.specs.Reading.{kept};
 use memchr::memchr;
 use pool_text::{LONGEST_LINE, OutOfMemory};
 
-/// The bytes before the first line feed, and those behind it; none where there is no line feed.
-pub(crate) fn split_line(bytes: &[u8]) -> Option<(&[u8], &[u8])>
+/// The bytes before the first line feed, the same with the line feed, and those behind it; none where there is no line
+/// feed.
+pub(crate) fn split_line(bytes: &[u8]) -> Option<(&[u8], &[u8], &[u8])>
     ensures { MatchOption result (ended bytes.now ≡ [])
-        (λ parts. CutsAtFeed bytes.now parts.0.now parts.1.now) }
+        (λ parts. CutsAtFeed bytes.now parts.0.now parts.1.now parts.2.now) }
 {
     match memchr(b'\n', bytes) {
-        Some(place) => Some((&bytes[..place], &bytes[place + 1..])),
+        Some(place) => Some((&bytes[..place], &bytes[..place + 1], &bytes[place + 1..])),
         None => None,
     }
 }

@@ -9,11 +9,12 @@ use pool_text::{LONGEST_LINE, past_blanks, without_return, word_of};
 /// The most bytes of a block.
 pub(crate) const LONGEST_BLOCK: usize = 65_536;
 
-/// Whether a line closes a block: it is exactly a dot.
+/// Whether a line closes a block: it is exactly a dot. Most lines are told by their length alone.
+#[tactic(auto, using(crate::proofs::LongLemmas::is_dot_above))]
 pub(crate) fn is_dot(line: &[u8]) -> bool
     ensures { result ≡ is_dot line.now }
 {
-    without_return(line) == b".".as_slice()
+    line.len() <= 2 && without_return(line) == b".".as_slice()
 }
 
 /// A line from its first word on.

@@ -68,7 +68,7 @@ impl Lines {
         ensures bounded { length self.new.rest ≤ 65537 }
     {
         let mut left = piece;
-        while let Some((line, behind)) = split_line(left) {
+        while let Some((line, _, behind)) = split_line(left) {
             extend_line(&mut self.line, line)?;
             self.end_line()?;
             left = behind;

@@ -1,6 +1,6 @@
 // The commands of lines, read one line at a time.
-ghost use Rattle.std.specs.Prelude.{◌≡◌, ◌++◌, ◌∷◌, [], true, false, None, Some, IfOk, IsSome, OnOk, OnErr};
-ghost use Rattle.pool_text.specs.Lines.{ended, without_return};
+ghost use Rattle.std.specs.Prelude.{◌≡◌, ◌++◌, ◌∷◌, [], true, false, None, Some, IfOk, IfSome, OnOk, OnErr};
+ghost use Rattle.pool_text.specs.Lines.{ended};
 ghost use Rattle.pool_script.specs.Commands.{cut_off, given, is_dot, line_command as command_of};
 ghost use Rattle.pool_script.specs.Reading.{kept_next};
 ghost use Rattle.pool_script.specs.Rows.{line_too_long};
@@ -13,6 +13,7 @@ use crate::parse::line_command;
 use pool_text::{LONGEST_LINE, OutOfMemory, Text, without_return};
 use std::alloc::Global;
 use std::collections::VecDeque;
+use std::mem;
 
 /// A block that has begun: the line that took it, and its text so far.
 #[derive(Drop)]
@@ -54,9 +55,8 @@ impl Reader {
         ensures ok { OnOk result (HasRead self.old piece.now self.new) }
     {
         let mut left = piece;
-        while let Some((line, behind)) = split_line(left) {
-            self.read_bytes(line)?;
-            self.end_line()?;
+        while let Some((line, with_feed, behind)) = split_line(left) {
+            self.read_ended(line, with_feed)?;
             left = behind;
         }
         self.read_bytes(left)
@@ -119,32 +119,54 @@ impl Reader {
         Ok(())
     }
 
-    /// Reads the line as one that has ended, and begins the next.
+    /// Reads bytes that end the line. `with_feed` is these bytes and the line feed. A whole line is read where it
+    /// stands, but for one that is too long, of which only the first bytes may be kept.
+    fn read_ended(&mut self, bytes: &[u8], with_feed: &[u8]) -> Result<(), OutOfMemory>
+        requires sound { IsSound self.old }
+        requires one_line { ended bytes.now ≡ [] }
+        requires feed { with_feed.now ≡ bytes.now ++ 10 ∷ [] }
+        ensures sound { IsSound self.new }
+        ensures ok { OnOk result (HasRead self.old with_feed.now self.new) }
+    {
+        if self.line.is_empty() && bytes.len() <= LONGEST_LINE {
+            return self.read_line(bytes, with_feed);
+        }
+        self.read_bytes(bytes)?;
+        self.end_line()
+    }
+
+    /// Reads the line that has begun as one that has ended, and begins the next.
     fn end_line(&mut self) -> Result<(), OutOfMemory>
         requires { IsSound self.old }
         ensures sound { IsSound self.new }
         ensures ok { OnOk result (HasRead self.old (10 ∷ []) self.new) }
         ensures line { self.new.line.items ≡ [] }
     {
-        let read = self.read_line();
-        self.line.clear();
+        let mut line = mem::replace(&mut self.line, Vec::new(self.alloc));
+        let len = line.len();
+        line.push(b'\n')?;
+        let read = self.read_line(&line[..len], &line);
+        line.clear();
+        self.line = line;
         read
     }
 
-    /// Reads the line, in a block or outside one. What is left of it has no meaning.
+    /// Reads a line, in a block or outside one. `with_feed` is the line and its line feed.
     #[tactic(auto, unfolding(crate::specs::Commands::given, crate::specs::Commands::next, crate::specs::Reading::kept_next))]
-    fn read_line(&mut self) -> Result<(), OutOfMemory>
+    fn read_line(&mut self, line: &[u8], with_feed: &[u8]) -> Result<(), OutOfMemory>
+        requires { with_feed.now ≡ line.now ++ 10 ∷ [] }
+        ensures line { self.new.line.items ≡ self.old.line.items }
         ensures ok_waiting { OnOk result
-            (self.new.waiting.items ≡ self.old.waiting.items ++ given self.old.block self.old.line.items) }
-        ensures ok_block { OnOk result (self.new.block ≡ kept_next self.old.block self.old.line.items) }
+            (self.new.waiting.items ≡ self.old.waiting.items ++ given self.old.block line.now) }
+        ensures ok_block { OnOk result (self.new.block ≡ kept_next self.old.block line.now) }
         ensures err_waiting { OnErr result (self.new.waiting.items ≡ self.old.waiting.items) }
         ensures err_block { OnErr result (self.new.block ≡ None) }
     {
         match &mut self.block {
-            None => self.read_outside(),
-            Some(_) if is_dot(&self.line) => self.close_block(),
+            None => self.read_outside(line),
+            Some(_) if is_dot(line) => self.close_block(),
             Some(block) => {
-                let lengthened = lengthen(block, &mut self.line);
+                let lengthened = lengthen(block, line, with_feed);
                 if lengthened.is_err() {
                     self.block = None;
                 }
@@ -153,14 +175,11 @@ impl Reader {
         }
     }
 
-    /// Reads the line as the dot that closes the block.
-    #[tactic(auto, unfolding(crate::specs::Commands::given, crate::specs::Commands::next, crate::specs::Reading::kept_next))]
+    /// Closes the block, whose text is whole.
     fn close_block(&mut self) -> Result<(), OutOfMemory>
-        requires open { IsSome self.old.block }
-        requires dot { is_dot self.old.line.items ≡ true }
         ensures line { self.new.line.items ≡ self.old.line.items }
-        ensures ok { OnOk result
-            (self.new.waiting.items ≡ self.old.waiting.items ++ given self.old.block self.old.line.items) }
+        ensures ok { IfSome self.old.block (λ block. OnOk result
+            (self.new.waiting.items ≡ self.old.waiting.items ++ command_of block.line (Some block.text) ∷ [])) }
         ensures err { OnErr result (self.new.waiting.items ≡ self.old.waiting.items) }
         ensures closed { self.new.block ≡ None }
     {
@@ -172,26 +191,26 @@ impl Reader {
         pushed
     }
 
-    /// Reads the line as one outside a block.
+    /// Reads a line outside a block.
     #[tactic(auto, unfolding(crate::specs::Commands::given, crate::specs::Commands::next, crate::specs::Reading::kept_next))]
-    fn read_outside(&mut self) -> Result<(), OutOfMemory>
+    fn read_outside(&mut self, line: &[u8]) -> Result<(), OutOfMemory>
         requires { self.old.block ≡ None }
         ensures line { self.new.line.items ≡ self.old.line.items }
         ensures ok_waiting { OnOk result
-            (self.new.waiting.items ≡ self.old.waiting.items ++ given None self.old.line.items) }
-        ensures ok_block { OnOk result (self.new.block ≡ kept_next None self.old.line.items) }
+            (self.new.waiting.items ≡ self.old.waiting.items ++ given None line.now) }
+        ensures ok_block { OnOk result (self.new.block ≡ kept_next None line.now) }
         ensures err_waiting { OnErr result (self.new.waiting.items ≡ self.old.waiting.items) }
         ensures err_block { OnErr result (self.new.block ≡ None) }
     {
-        if self.line.len() > LONGEST_LINE {
+        if line.len() > LONGEST_LINE {
             refuse_line(&mut self.waiting)
-        } else if takes_block(&self.line) {
-            self.block = Some(new_block(self.alloc, &self.line)?);
+        } else if takes_block(line) {
+            self.block = Some(new_block(self.alloc, line)?);
             Ok(())
-        } else if is_silent(&self.line) {
+        } else if is_silent(line) {
             Ok(())
         } else {
-            push_command(self.alloc, &mut self.waiting, &self.line, None)
+            push_command(self.alloc, &mut self.waiting, line, None)
         }
     }
 }
@@ -230,25 +249,21 @@ fn new_block(alloc: Global, line: &[u8]) -> Result<Block, OutOfMemory>
     })
 }
 
-/// Adds a line to the block, of which no more is kept once its text is too long. What is left of the line has no meaning.
+/// Adds a line to the block, of which no more is kept once its text is too long. `with_feed` is the line and its line
+/// feed, which stand together, so that where no carriage return is dropped they are added at once.
 #[tactic(auto, unfolding(crate::specs::Commands::next, crate::specs::Reading::kept_next))]
-fn lengthen(block: &mut Block, line: &mut Vec<u8>) -> Result<(), OutOfMemory>
-    requires { is_dot line.old.items ≡ false }
-    ensures { OnOk result (Some block.new ≡ kept_next (Some block.old) line.old.items) }
+fn lengthen(block: &mut Block, line: &[u8], with_feed: &[u8]) -> Result<(), OutOfMemory>
+    requires other { is_dot line.now ≡ false }
+    requires feed { with_feed.now ≡ line.now ++ 10 ∷ [] }
+    ensures { OnOk result (Some block.new ≡ kept_next (Some block.old) line.now) }
 {
     if block.text.bytes().len() > LONGEST_BLOCK {
         return Ok(());
     }
-    end_with_feed(line)?;
-    block.text.append(line)
-}
-
-/// Puts a line feed behind a line, in the place of the carriage return that may end it.
-fn end_with_feed(line: &mut Vec<u8>) -> Result<(), OutOfMemory>
-    ensures { OnOk result (line.new.items ≡ without_return line.old.items ++ 10 ∷ []) }
-{
-    let len = without_return(line).len();
-    line.truncate(len);
-    line.push(b'\n')?;
-    Ok(())
+    let front = without_return(line);
+    if front.len() == line.len() {
+        return block.text.append(with_feed);
+    }
+    block.text.append(front)?;
+    block.text.append(b"\n")
 }

@@ -19,7 +19,7 @@ loop-line-preserved c = record {
   over = c.in_ok-end_line.ensures.over ∙ ap (λ (h : Held Line). h.over) c.self.view_is ∙ c.loop-line.invariant.over;
   leaves =
       let waits = c.in_ok-end_line.ensures.waiting ∙ ap (λ (l : List ℕ). c.self.inside.waiting.items ++ given_line l ∷ []) c.in_ok-extend_line.ensures.ok in
-      Leaves-line c.args.self.now (record { waiting = c.self.inside.waiting.items; rest = c.self.inside.line.items; over = c.self.inside.over }) c.end_line.new.self c.args.piece.now c.loop-line.left.now c.in-Some.line.now c.in-Some.behind.now c.self.invariant c.in-Some.ensures waits c.in_ok-end_line.ensures.rest
+      Leaves-line c.args.self.now (record { waiting = c.self.inside.waiting.items; rest = c.self.inside.line.items; over = c.self.inside.over }) c.end_line.new.self c.args.piece.now c.loop-line.left.now c.in-Some.line.now _ c.in-Some.behind.now c.self.invariant c.in-Some.ensures waits c.in_ok-end_line.ensures.rest
       (subst (λ (h : Held Line). Leaves c.args.self.now c.args.piece.now h c.loop-line.left.now) (sym c.self.view_is) c.loop-line.invariant.leaves);
 }
 

@@ -5,8 +5,8 @@ use Rattle.pool_script.specs.Reading.{kept_next}
 use Rattle.pool_script.proofs.ReaderLemmas.{anyway}
 use Rattle.pool_script.proofs.reader.Reader.read_outside.Goals as goal
 
-pub returns-then-len-gt-LONGEST_LINE-clause-ok_block : goal.returns-then-len-gt-LONGEST_LINE-clause-ok_block
+pub returns-then-line-gt-LONGEST_LINE-clause-ok_block : goal.returns-then-line-gt-LONGEST_LINE-clause-ok_block
 unfolding kept_next next takes_block
-returns-then-len-gt-LONGEST_LINE-clause-ok_block c =
-    let none : c.args.self.now.block ≡ kept_next None c.args.self.now.line.items = grind (arith, nat_tests) in
+returns-then-line-gt-LONGEST_LINE-clause-ok_block c =
+    let none : c.args.self.now.block ≡ kept_next None c.args.line.now = grind (arith, nat_tests) in
     anyway c.refuse_line.result none

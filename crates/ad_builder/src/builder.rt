@@ -50,7 +50,7 @@ impl Operand {
         match self {
             Operand::Value(left, whole) => {
                 *left = left.with_element(measure);
-                add_element(whole, element)
+                lengthen(whole, element)
             }
             Operand::Open(_, _, _) => {
                 drop(element);
@@ -275,7 +275,7 @@ impl Builder {
         ensures { Carries (instructions.Define name) self.old self.new result }
     {
         let (right, value) = self.value()?;
-        if !count_definition(&mut self.operands, right) {
+        if !measure_last(&mut self.operands, right) {
             drop(value);
             return Err(OutOfMemory);
         }
@@ -298,6 +298,7 @@ impl Builder {
         self.put(measure, Expr::Frame(frame))
     }
 
+    /// Where its memory comes from.
     pub fn alloc(&self) -> Global {
         self.alloc
     }
@@ -381,7 +382,7 @@ fn take_open(operands: &mut Stack<Operand>) -> Option<(Measure, u32, u32)>
 
 /// Measures the ad literal that is the last operand with one definition more. Answers whether one is.
 #[inline(always)]
-fn count_definition(operands: &mut Stack<Operand>, definition: Measure) -> bool
+fn measure_last(operands: &mut Stack<Operand>, definition: Measure) -> bool
     ensures { IsTrue result → (l r : Measure) × (n outer : ℕ) × (rest : List Operand)
         × (operands.old ≡ kinds.Open l n outer ∷ rest) × (operands.new ≡ kinds.Open r n outer ∷ rest)
         × ((name : List ℕ) (x y : Inline) → IsMeasure l x → IsMeasure definition y → IsMeasure r (with_definition x name y)) }
@@ -511,7 +512,7 @@ fn with_last(mut list: Exprs, last: Expr) -> Result<Exprs, OutOfMemory>
 }
 
 /// Adds a tree to a list or to a call.
-fn add_element(whole: &mut Expr, element: Expr) -> Result<(), OutOfMemory>
+fn lengthen(whole: &mut Expr, element: Expr) -> Result<(), OutOfMemory>
     ensures { OnOk result (TakesElement (tree whole.old) (tree element) (tree whole.new)) }
 {
     match whole {

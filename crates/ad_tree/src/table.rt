@@ -21,6 +21,7 @@ impl Table {
         self.inner.len() as u32 + 1
     }
 
+    /// The frame of this number, of which 0 is the root.
     pub fn at(&self, frame: u32) -> &AdFrame
         requires { frame < length (table_frames self.now) }
         ensures { slice_get (table_frames self.now) frame ≡ Some (frame_of result.now) }

@@ -65,7 +65,22 @@ impl Exprs {
     }
 
     /// Adds an expression at the end.
+    #[inline(always)]
     pub fn push(&mut self, item: Expr) -> Result<(), OutOfMemory>
+        ensures ok { OnOk result (trees self.new ≡ trees self.old ++ tree item ∷ []) }
+        ensures err { OnErr result (trees self.new ≡ trees self.old) }
+    {
+        if self.items.len() < self.items.capacity() {
+            self.items.push_reserved(item);
+            return Ok(());
+        }
+        self.push_growing(item)
+    }
+
+    // Most lists are made with room for all that they take, so that what makes room stands apart.
+    #[cold]
+    #[inline(never)]
+    fn push_growing(&mut self, item: Expr) -> Result<(), OutOfMemory>
         ensures ok { OnOk result (trees self.new ≡ trees self.old ++ tree item ∷ []) }
         ensures err { OnErr result (trees self.new ≡ trees self.old) }
     {

@@ -29,7 +29,7 @@ const OPEN: Span = Span::At(Kind::Open, 0);
 ///
 /// The attributes of one name stand together in one order, by kind and number of their literals, so those that can make
 /// a test true are found by their place. An ad that is added waits until it is settled, since a pool may take in many ads
-/// before the first search: so searches ask for an index in which none waits.
+/// before the first search; and what isn't settled no search finds.
 #[derive(Drop)]
 pub struct Index {
     alloc: Global,
@@ -84,8 +84,8 @@ impl Index {
         self.slots.remove(&slot);
     }
 
-    /// Settles the ads that wait, so that the index can be searched. Each ad is settled once. Where memory is wanting, those
-    /// that are left go on waiting.
+    /// Settles the ads that wait, so that the index can be searched. Where memory is wanting, those that are left go on
+    /// waiting.
     pub fn settle(&mut self) -> Result<(), OutOfMemory>
         ensures ok { OnOk result ((rows : List Row) → IsKept self.old rows → IsIndex self.new rows) }
         ensures kept { (rows : List Row) → IsKept self.old rows → IsKept self.new rows }

@@ -1,14 +1,9 @@
-use Rattle.std.proofs.Common.{Result, Ok, Err, OnOk}
 use Rattle.std.proofs.Math.Logic.{∥∥₁_elim, ∥∥₁_map}
 use Rattle.std.proofs.Props.{props}
 use Rattle.ad_store.specs.Store.{stock_of}
 use Rattle.bilateral_match.specs.Rows.{rows_of}
+use Rattle.pool_state.proofs.LossLemmas.{on_ok}
 use Rattle.pool_state.proofs.indexed.IndexedStore.settle.Goals as goal
-
--- what a result tells, told on
-on_ok : {A E : Type 0} (r : Result A E) {P Q : Type 0} → (P → Q) → OnOk r P → OnOk r Q
-on_ok (Ok a) f h = f h
-on_ok (Err e) f h = h
 
 pub invariant_of-self : goal.invariant_of-self
 invariant_of-self c = record {
@@ -18,4 +13,4 @@ invariant_of-self c = record {
 
 pub returns-clause-ok : goal.returns-clause-ok
 returns-clause-ok c =
-    on_ok c.settle.result (λ settled. ∥∥₁_elim c.args.self.now.indexed (Prim.hlevel props) (λ kept. settled (rows_of (stock_of c.args.self.now.store)) kept)) c.settle.ensures.ok
+    on_ok c.settle.result _ _ (λ settled. ∥∥₁_elim c.args.self.now.indexed (Prim.hlevel props) (λ kept. settled (rows_of (stock_of c.args.self.now.store)) kept)) c.settle.ensures.ok

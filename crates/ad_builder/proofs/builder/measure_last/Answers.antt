@@ -1,6 +1,6 @@
 use Rattle.std.proofs.Common.{◌∷◌, ap, ◌∙◌}
 use Rattle.ad_builder.proofs.StackLemmas.{first-changed}
-use Rattle.ad_builder.proofs.builder.count_definition.Goals as goal
+use Rattle.ad_builder.proofs.builder.measure_last.Goals as goal
 
 pub returns-in-Some : goal.returns-in-Some
 returns-in-Some c = λ is.

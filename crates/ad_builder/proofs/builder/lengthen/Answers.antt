@@ -4,7 +4,7 @@ use Rattle.ad_tree.proofs.TreeLemmas.{tree-List, tree-Call}
 use Rattle.std.proofs.Common.{ap, [], ◌∷◌, ◌++◌, ◌∙◌}
 use Rattle.ad_tree.specs.Tree.{tree, trees, list, call}
 use Rattle.ad_tree.specs.contracts.tree.Expr.{enum}
-use Rattle.ad_builder.proofs.builder.add_element.Goals as goal
+use Rattle.ad_builder.proofs.builder.lengthen.Goals as goal
 
 pub returns-in-List : goal.returns-in-List
 returns-in-List c =

@@ -3,7 +3,7 @@ use Rattle.std.proofs.lemmas.List.{map-append}
 use Rattle.ad_tree.specs.Tree.{tree}
 use Rattle.ad_tree.proofs.DraftLemmas.{told_on_err}
 use Rattle.ad_tree.proofs.TreeLemmas.{trees-items}
-use Rattle.ad_tree.proofs.tree.Exprs.push.Goals as goal
+use Rattle.ad_tree.proofs.tree.Exprs.push_growing.Goals as goal
 
 pub returns-clause-ok : goal.returns-clause-ok
 returns-clause-ok c =

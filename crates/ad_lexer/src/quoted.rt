@@ -19,8 +19,9 @@ pub enum Front {
     Backslash,
 }
 
-/// The quoted name that the text begins with, or its fault.
+/// The quoted name that the text begins with, or its fault. It stays out of the loop over a text, as few texts have such names.
 #[tactic(auto, unfolding(crate::specs::Reading::name))]
+#[inline(never)]
 pub fn name(text: &[u8]) -> Step
     requires some { 0 < length text.now }
     requires room { length text.now < 2 ^ 32 }
@@ -46,6 +47,7 @@ pub fn string(text: &[u8]) -> Step
 }
 
 /// The quoted text whose opening quote stands before these bytes, or its fault, with places from that quote.
+#[inline(always)]
 fn quoted(kind: TokenKind, quote: u8, text: &[u8]) -> Step
     requires quoted { (quote == 34 || quote == 39) ≡ true }
     requires room { length text.now + 1 < 2 ^ 32 }

@@ -19,9 +19,8 @@ pub enum Front {
     Backslash,
 }
 
-/// The quoted name that the text begins with, or its fault. It stays out of the loop over a text, as few texts have such names.
+/// The quoted name that the text begins with, or its fault.
 #[tactic(auto, unfolding(crate::specs::Reading::name))]
-#[inline(never)]
 pub fn name(text: &[u8]) -> Step
     requires some { 0 < length text.now }
     requires room { length text.now < 2 ^ 32 }
@@ -46,7 +45,8 @@ pub fn string(text: &[u8]) -> Step
     quoted(TokenKind::Str, b'"', behind(text, 1))
 }
 
-/// The quoted text whose opening quote stands before these bytes, or its fault, with places from that quote.
+/// The quoted text whose opening quote stands before these bytes, or its fault, with places from that quote. It stands in the
+/// loop over a text, since a call takes as long as the few letters of most strings.
 #[inline(always)]
 fn quoted(kind: TokenKind, quote: u8, text: &[u8]) -> Step
     requires quoted { (quote == 34 || quote == 39) ≡ true }

@@ -5,6 +5,7 @@ pub mod ContentLemmas
 pub mod DecimalLemmas
 mod Fronts
 pub mod ItemLemmas
+pub mod LaneLemmas
 pub mod LetterLemmas
 pub mod MarkLemmas
 pub mod NumberLemmas

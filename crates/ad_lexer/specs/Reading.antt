@@ -31,6 +31,10 @@ is_in class.Hexadecimal byte = is_ascii_hexdigit byte
 is_in class.Line byte = is_line_byte byte
 is_in class.Plain byte = is_plain 34 byte && not (byte == 39)
 
+-- a byte at which a run ends
+abbrev pub is_outside : Class → ℕ → Bool
+is_outside class byte = not (is_in class byte)
+
 -- what the first byte of a text begins
 unfoldable pub begin_of : ℕ → Begin
 begin_of byte =

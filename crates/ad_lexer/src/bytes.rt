@@ -1,7 +1,10 @@
 // Runs of bytes of one class.
-ghost use Rattle.std.specs.Prelude.{◌≡◌, ◌≤◌, ◌<◌, drop, length, slice_index, take};
+ghost use Rattle.std.specs.Prelude.{◌≡◌, ◌≤◌, ◌<◌, drop, length, map, slice_index, take};
 ghost use Rattle.std.specs.List.{prefix_len};
-ghost use Rattle.ad_lexer.specs.Reading.{is_in};
+ghost use Rattle.std.specs.Simd.Lanes.{mask_l};
+ghost use Rattle.ad_lexer.specs.Reading.{is_in, is_outside};
+
+use std::simd::prelude::*;
 
 /// The bytes that runs are made of.
 #[derive(Clone, Copy)]
@@ -80,8 +83,66 @@ pub fn is_in(class: Class, byte: u8) -> bool
     }
 }
 
-/// How many bytes at the front of the text are of the class.
+/// How many bytes are looked at together.
+const LANES: usize = 16;
+
+/// A bit for each of the bytes that isn't of the class.
+#[inline(always)]
+fn stops(class: Class, bytes: u8x16) -> u64
+    ensures { result ≡ mask_l (map (is_outside class) bytes) }
+{
+    match class {
+        Class::Space => (bytes.simd_ne(u8x16::splat(b' '))
+            & bytes.simd_ne(u8x16::splat(b'\t'))
+            & bytes.simd_ne(u8x16::splat(b'\n'))
+            & bytes.simd_ne(u8x16::splat(b'\r'))
+            & bytes.simd_ne(u8x16::splat(12))).to_bitmask(),
+        Class::Word => {
+            let from_a = (bytes | u8x16::splat(32)) - u8x16::splat(b'a');
+            let from_0 = bytes - u8x16::splat(b'0');
+            (from_a.simd_ge(u8x16::splat(26))
+                & from_0.simd_ge(u8x16::splat(10))
+                & bytes.simd_ne(u8x16::splat(b'_'))).to_bitmask()
+        }
+        Class::Decimal => {
+            let from_0 = bytes - u8x16::splat(b'0');
+            from_0.simd_ge(u8x16::splat(10)).to_bitmask()
+        }
+        Class::Hexadecimal => {
+            let from_a = (bytes | u8x16::splat(32)) - u8x16::splat(b'a');
+            let from_0 = bytes - u8x16::splat(b'0');
+            (from_a.simd_ge(u8x16::splat(6)) & from_0.simd_ge(u8x16::splat(10))).to_bitmask()
+        }
+        Class::Line => bytes.simd_eq(u8x16::splat(b'\n')).to_bitmask(),
+        Class::Plain => (bytes.simd_eq(u8x16::splat(b'"'))
+            | bytes.simd_eq(u8x16::splat(b'\''))
+            | bytes.simd_eq(u8x16::splat(b'\\'))
+            | bytes.simd_eq(u8x16::splat(b'\n'))
+            | bytes.simd_eq(u8x16::splat(0))).to_bitmask(),
+    }
+}
+
+/// How many bytes at the front of the text are of the class. A run ends somewhere else each time, so that a loop over single bytes
+/// often takes the wrong branch at its end; most runs end among the first bytes that are looked at together. Each caller has one
+/// class, and only its tests where the function stands in it.
+#[inline(always)]
 pub fn run_len(class: Class, text: &[u8]) -> usize
+    ensures value { result ≡ prefix_len (is_in class) text.now }
+    ensures within { result ≤ length text.now }
+{
+    let mut len = 0;
+    while text.len() - len >= LANES {
+        let found = stops(class, u8x16::from_slice(&text[len..]));
+        if found != 0 {
+            return len + found.trailing_zeros() as usize;
+        }
+        len += LANES;
+    }
+    len + short_run_len(class, behind(text, len))
+}
+
+/// The same, byte by byte.
+fn short_run_len(class: Class, text: &[u8]) -> usize
     ensures value { result ≡ prefix_len (is_in class) text.now }
     ensures within { result ≤ length text.now }
 {

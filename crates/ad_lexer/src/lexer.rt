@@ -44,7 +44,7 @@ fn divide(alloc: Global, text: &[u8]) -> Result<Tokens<'_>, LexFault>
         let Marked { step, mark } = next(behind(text, at));
         match step {
             Step::End => return Ok(Tokens::of(text, spans)),
-            Step::Blank(len) => at += len,
+            Step::Blank(len) => at = behind_blank(text, at + len),
             Step::Token(kind, len) => {
                 let end = at + len;
                 spans.push(Span {
@@ -60,7 +60,8 @@ fn divide(alloc: Global, text: &[u8]) -> Result<Tokens<'_>, LexFault>
     }
 }
 
-/// The place itself, or the one behind it where a blank stands there: most tokens have one behind them.
+/// The place itself, or the one behind it where a blank stands there: most tokens have one behind them, and most
+/// lines begin with some.
 fn behind_blank(text: &[u8], place: usize) -> usize
     requires { place ≤ length text.now }
     ensures passes { PassesBlank text.now place result }

@@ -1,5 +1,7 @@
 // What stands at the front of a text.
 ghost use Rattle.std.specs.Prelude.{◌≡◌, ◌<◌, ◌≤◌, ◌^◌, length, slice_index, IfSome, Some, None};
+ghost use Rattle.std.specs.List.{prefix_len};
+ghost use Rattle.ad_lexer.specs.Blanks.{is_line_byte};
 ghost use Rattle.ad_lexer.specs.Reading as spec;
 ghost use Rattle.ad_lexer.specs.Words as words;
 ghost use Rattle.ad_lexer.specs.declared.next.Step.TheVariants as steps;
@@ -151,13 +153,22 @@ fn slash(text: &[u8]) -> Marked
     ensures marked { spec.IsMarked text.now result.step result.mark }
 {
     match byte_at(text, 1) {
-        b'/' => unmarked(Step::Blank(2 + run_len(Class::Line, behind(text, 2)))),
+        b'/' => unmarked(Step::Blank(2 + line_len(behind(text, 2)))),
         b'*' => match comment_len(behind(text, 2)) {
             Some(len) => unmarked(Step::Blank(2 + len)),
             None => unmarked(Step::Fault(LexKind::CommentEnd, 0)),
         },
         _ => symbol_of(Mark::Binary(BinOp::Div), 1),
     }
+}
+
+/// How many bytes stand before the end of the line. It stays out of the loop over a text, as few texts have comments.
+#[inline(never)]
+fn line_len(text: &[u8]) -> usize
+    ensures value { result ≡ prefix_len is_line_byte text.now }
+    ensures within { result ≤ length text.now }
+{
+    run_len(Class::Line, text)
 }
 
 /// The length up to and with the first `*/`. It stays out of the loop over a text, as few texts have such comments.

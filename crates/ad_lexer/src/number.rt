@@ -1,7 +1,7 @@
 // Integers, and the numbers that are none.
 ghost use Rattle.std.specs.Prelude.{◌≡◌, ◌<◌, ◌≤◌, ◌^◌, ◌&&◌, nat_lt, length, slice_index, take, true};
-ghost use Rattle.std.specs.Char.{digit_value, is_digit};
-ghost use Rattle.std.specs.List.{list_all};
+ghost use Rattle.std.specs.Char.{digit_value, is_ascii_hexdigit, is_digit};
+ghost use Rattle.std.specs.List.{list_all, prefix_len};
 ghost use Rattle.std.specs.Str.Parse.{digits_value};
 ghost use Rattle.ad_lexer.specs.Numbers as numbers;
 ghost use Rattle.ad_lexer.specs.Reading as spec;
@@ -13,6 +13,9 @@ use crate::token::TokenKind;
 
 /// Numbers of at most so many decimal digits are below 2^63.
 const SHORT_DIGITS: usize = 18;
+
+/// The same of hexadecimal ones.
+const SHORT_HEXADECIMAL_DIGITS: usize = 15;
 
 /// Whether the text begins with `0x` or `0X`.
 fn is_hexadecimal(text: &[u8]) -> bool
@@ -28,10 +31,19 @@ fn number_len(text: &[u8]) -> usize
     ensures within { result ≤ length text.now }
 {
     if is_hexadecimal(text) {
-        2 + run_len(Class::Hexadecimal, behind(text, 2))
+        2 + hexadecimal_len(behind(text, 2))
     } else {
         run_len(Class::Decimal, text)
     }
+}
+
+/// How many hexadecimal digits the text begins with. Few numbers have them, so that it stays out of the loop over a text.
+#[inline(never)]
+fn hexadecimal_len(text: &[u8]) -> usize
+    ensures value { result ≡ prefix_len is_ascii_hexdigit text.now }
+    ensures within { result ≤ length text.now }
+{
+    run_len(Class::Hexadecimal, text)
 }
 
 /// The integer that the text begins with, or its fault.
@@ -65,13 +77,18 @@ fn is_whole(text: &[u8], len: usize) -> bool
     !is_in(Class::Word, byte_at(text, len)) && (is_short(text, len) || is_integer(front(text, len)))
 }
 
-/// Whether the number has decimal digits of which the first isn't 0, and so few that their value fits.
+/// Whether the number is one digit, or has decimal digits of which the first isn't 0 or hexadecimal ones, and so few that their
+/// value fits.
 fn is_short(text: &[u8], len: usize) -> bool
     requires some { 0 < len }
     requires number { len ≡ numbers.number_len text.now }
     ensures { result ≡ true → numbers.is_integer (take len text.now) ≡ true }
 {
-    len <= SHORT_DIGITS && byte_at(text, 0) > b'0'
+    if is_hexadecimal(text) {
+        2 < len && len <= 2 + SHORT_HEXADECIMAL_DIGITS
+    } else {
+        len == 1 || (len <= SHORT_DIGITS && byte_at(text, 0) > b'0')
+    }
 }
 
 /// Whether a number has digits of its base alone, and a value below 2^63. Few numbers need it, so that it stays out of

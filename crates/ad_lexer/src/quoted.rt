@@ -45,7 +45,9 @@ pub fn string(text: &[u8]) -> Step
     quoted(TokenKind::Str, b'"', behind(text, 1))
 }
 
-/// The quoted text whose opening quote stands before these bytes, or its fault, with places from that quote.
+/// The quoted text whose opening quote stands before these bytes, or its fault, with places from that quote. It stands in the
+/// loop over a text, since a call takes as long as the few letters of most strings.
+#[inline(always)]
 fn quoted(kind: TokenKind, quote: u8, text: &[u8]) -> Step
     requires quoted { (quote == 34 || quote == 39) ≡ true }
     requires room { length text.now + 1 < 2 ^ 32 }

@@ -23,8 +23,8 @@ loop-spans-preserved-in-Blank c =
     let reads = sym c.in-Blank.is ∙ c.next-step.ensures.value ∙ ap next c.behind.ensures in
     let within : IsWithin (length (drop at text)) (steps.Blank n) =
     subst (λ s. IsWithin (length (drop at text)) s) c.in-Blank.is (subst (λ (l : List ℕ). IsWithin (length l) c.next-step.result.step) c.behind.ensures c.next-step.ensures.within) in (
-      reached_on text tokens at n (reached_blank text (drop at text) tokens at n c.loop-spans.invariant.0 reads),
-      omega (arith, within.1, length-drop at text, c.loop-spans.invariant.1),
+      reached_past text tokens (at + n) c.behind_blank-at.result (reached_on text tokens at n (reached_blank text (drop at text) tokens at n c.loop-spans.invariant.0 reads)) c.behind_blank-at.ensures.passes,
+      c.behind_blank-at.ensures.within,
       c.loop-spans.invariant.2,
       c.loop-spans.invariant.3,
     )
@@ -45,11 +45,11 @@ loop-spans-preserved c =
     subst (λ s. IsMarked rest s mark) c.in-Token.is (subst (λ (l : List ℕ). IsMarked l c.next-step.result.step mark) c.behind.ensures c.next-step.ensures.marked) in
     let pushed : spans ++ span_at kind mark at (at + n) ∷ [] ≡ c.push.new.self.items = sym c.in_ok-push-in-Token.ensures.items in
     let reached = reached_on text _ at n (reached_span text rest spans at kind mark n c.loop-spans.invariant.0 reads) in
-    let passed = reached_past text _ (at + n) c.behind_blank-at.result reached c.behind_blank-at.ensures.passes in
+    let passed = reached_past text _ (at + n) c.behind_blank-at-in-Token.result reached c.behind_blank-at-in-Token.ensures.passes in
     let within = within_push (length text) spans kind mark at (at + n) c.loop-spans.invariant.2 (omega arith) (omega (arith, fits.1, length-drop at text, c.loop-spans.invariant.1)) in
     let marked = marked_push text rest spans at kind mark n c.loop-spans.invariant.0 c.loop-spans.invariant.3 is in (
-      subst (λ (ss : List Span). Reached text (drop c.behind_blank-at.result text) (lexemes_of text ss) c.behind_blank-at.result) pushed passed,
-      c.behind_blank-at.ensures.within,
+      subst (λ (ss : List Span). Reached text (drop c.behind_blank-at-in-Token.result text) (lexemes_of text ss) c.behind_blank-at-in-Token.result) pushed passed,
+      c.behind_blank-at-in-Token.ensures.within,
       subst (λ (ss : List Span). are_within (length text) ss ≡ true) pushed within,
       subst (λ (ss : List Span). AreMarked text ss) pushed marked,
     )

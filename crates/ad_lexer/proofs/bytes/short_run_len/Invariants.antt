@@ -1,0 +1,10 @@
+use Rattle.std.proofs.Common.{◌≡◌, ◌+◌, length}
+use Rattle.std.specs.List.{prefix_len}
+use Rattle.ad_lexer.specs.Reading.{is_in}
+use Rattle.ad_lexer.proofs.bytes.short_run_len.Given as goal
+
+abbrev pub invariant-loop-rest : goal.invariant-loop-rest
+invariant-loop-rest l = (l.len + prefix_len (is_in l.class) l.rest ≡ prefix_len (is_in l.class) l.text) × (l.len + length l.rest ≡ length l.text)
+
+abbrev pub decreases-loop-rest : goal.decreases-loop-rest
+decreases-loop-rest l = length l.rest

@@ -7,6 +7,7 @@ pub mod InlineLemmas
 pub mod Measures
 mod NameLemmas
 mod OrderLemmas
+mod PlaceLemmas
 pub mod PlacedLemmas
 pub mod ReadLemmas
 pub mod SpellingLemmas

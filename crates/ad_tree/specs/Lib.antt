@@ -9,6 +9,7 @@ pub mod Kept
 pub mod Names
 pub mod Phrases
 pub mod Placed
+pub mod Places
 pub mod Requests
 pub mod Small
 pub mod Special

@@ -1,20 +1,26 @@
 // The attributes of a frame.
-ghost use Rattle.std.specs.Prelude.{◌≡◌, ◌+◌, ◌≤◌, ◌<◌, [], length, position, slice_set, OnOk, OnErr, IsTrue};
+ghost use Rattle.std.specs.Prelude.{◌≡◌, ◌+◌, ◌≤◌, [], length, position, OnOk, OnErr, IfSome, IfNone, IsTrue};
 ghost use Rattle.ad_tree.specs.Tree.{tree};
 ghost use Rattle.ad_tree.specs.Names.{same_name, are_apart};
 ghost use Rattle.ad_tree.specs.Frames.{names_of, put_attribute};
 ghost use Rattle.ad_tree.specs.Attributes.{attributes_of};
+ghost use Rattle.ad_tree.specs.Kept.{kept_in};
 ghost use Rattle.std.specs.HashSet.{spare};
 
-use crate::attribute::{Attribute, is_named};
+use crate::attribute::Attribute;
+use crate::indexed::IndexedList;
+use crate::list::{place_of, put_in_list};
 use indexmap::IndexSet;
 use pool_text::{LONGEST_SHORT_TEXT, OutOfMemory};
 use std::alloc::Global;
 use std::marker::Model;
 use std::mem;
 
-/// So many names are gone through in less time than a name is hashed.
-const FEW: usize = 32;
+/// So many names are gone through in less time than a digest of one is taken.
+const FEW: usize = 8;
+
+/// So many names have short digests of their own, mostly.
+const SEVERAL: usize = 64;
 
 /// The attributes of a frame in order, each name once, which contracts see as the list of them.
 #[derive(Drop)]
@@ -23,12 +29,20 @@ pub struct Attributes {
     kept: Kept,
 }
 
-// A list takes less memory and time than a set while it is short, and most frames have a few attributes alone. The set is
-// in a box, as it would make every frame larger.
+// A list takes less memory and time than what finds a name at once while it is short, and most frames have a few
+// attributes alone.
 #[derive(Drop)]
 enum Kept {
     Few(Vec<Attribute>),
-    Many(Box<IndexSet<Attribute>>),
+    Many(Many),
+}
+
+// In boxes, as they would make every frame larger. Both begin with their list, so to read an attribute takes no test of
+// which it is.
+#[derive(Drop)]
+enum Many {
+    Indexed(Box<IndexedList>),
+    Set(Box<IndexSet<Attribute>>),
 }
 
 impl Model for Attributes {
@@ -66,7 +80,8 @@ impl Attributes {
     {
         match &self.kept {
             Kept::Few(list) => list,
-            Kept::Many(set) => set.as_slice(),
+            Kept::Many(Many::Indexed(list)) => list.as_slice(),
+            Kept::Many(Many::Set(set)) => set.as_slice(),
         }
     }
 
@@ -74,15 +89,11 @@ impl Attributes {
     pub fn reserve(&mut self, more: usize) -> Result<(), OutOfMemory>
         ensures { self.new ≡ self.old }
     {
+        self.make_fit(more)?;
         match &mut self.kept {
-            Kept::Few(list) => {
-                if more <= FEW.saturating_sub(list.len()) {
-                    list.reserve_exact(more)?;
-                } else {
-                    self.make_set(more)?;
-                }
-            }
-            Kept::Many(set) => set.reserve_exact(more)?,
+            Kept::Few(list) => list.reserve_exact(more)?,
+            Kept::Many(Many::Indexed(list)) => list.reserve_exact(more)?,
+            Kept::Many(Many::Set(set)) => set.reserve_exact(more)?,
         }
         Ok(())
     }
@@ -93,7 +104,8 @@ impl Attributes {
     {
         match &mut self.kept {
             Kept::Few(list) => list.shrink_to_fit(),
-            Kept::Many(set) => set.shrink_to_fit(),
+            Kept::Many(Many::Indexed(list)) => list.shrink_to_fit(),
+            Kept::Many(Many::Set(set)) => set.shrink_to_fit(),
         }
     }
 
@@ -104,11 +116,9 @@ impl Attributes {
         ensures err { OnErr result (self.new ≡ self.old) }
         ensures apart { IsTrue (are_apart (names_of (attributes_of self.new))) }
     {
-        if self.is_full() {
-            if let Err(error) = self.make_set(1) {
-                drop(attribute);
-                return Err(error);
-            }
+        if let Err(error) = self.make_fit(1) {
+            drop(attribute);
+            return Err(error);
         }
         self.put(attribute)
     }
@@ -122,33 +132,70 @@ impl Attributes {
     {
         match &mut self.kept {
             Kept::Few(list) => put_in_list(list, attribute),
-            Kept::Many(set) => put_in_set(set, attribute),
+            Kept::Many(Many::Indexed(list)) => list.put(attribute),
+            Kept::Many(Many::Set(set)) => put_in_set(set, attribute),
         }
     }
 
-    // Whether one more name makes a list too long.
-    fn is_full(&self) -> bool {
-        match &self.kept {
-            Kept::Few(list) => list.len() >= FEW,
-            Kept::Many(_) => false,
+    // Brings the attributes into the form for so many more names, if they are in one for fewer.
+    #[inline(always)]
+    fn make_fit(&mut self, more: usize) -> Result<(), OutOfMemory>
+        ensures same { self.new ≡ self.old }
+        ensures apart { IsTrue (are_apart (names_of (attributes_of self.new))) }
+    {
+        let (count, most) = match &self.kept {
+            Kept::Few(list) => (list.len(), FEW),
+            Kept::Many(Many::Indexed(list)) => (list.as_slice().len(), SEVERAL),
+            Kept::Many(Many::Set(_)) => (0, usize::MAX),
+        };
+        if more <= most.saturating_sub(count) {
+            return Ok(());
         }
+        self.make_larger(more)
     }
 
-    // Makes a set of a list, with room for so many more names.
+    // The same, where they are.
     #[cold]
     #[inline(never)]
-    fn make_set(&mut self, more: usize) -> Result<(), OutOfMemory>
+    fn make_larger(&mut self, more: usize) -> Result<(), OutOfMemory>
+        ensures same { self.new ≡ self.old }
+        ensures apart { IsTrue (are_apart (names_of (attributes_of self.new))) }
+    {
+        if more <= SEVERAL.saturating_sub(self.as_slice().len()) {
+            self.make_indexed()
+        } else {
+            self.make_set(more)
+        }
+    }
+
+    // Makes an indexed list of a list.
+    fn make_indexed(&mut self) -> Result<(), OutOfMemory>
         ensures same { self.new ≡ self.old }
         ensures apart { IsTrue (are_apart (names_of (attributes_of self.new))) }
     {
         let Kept::Few(list) = &mut self.kept else {
             return Ok(());
         };
-        let set = IndexSet::with_capacity(self.alloc, list.len().saturating_add(more))?;
-        let mut set = Box::new(self.alloc, set)?;
+        let mut indexed = Box::new(self.alloc, IndexedList::new(self.alloc))?;
         let list = mem::replace(list, Vec::new(self.alloc));
+        indexed.fill(list);
+        self.kept = Kept::Many(Many::Indexed(indexed));
+        Ok(())
+    }
+
+    // Makes a set of a list, with room for so many more names.
+    fn make_set(&mut self, more: usize) -> Result<(), OutOfMemory>
+        ensures same { self.new ≡ self.old }
+        ensures apart { IsTrue (are_apart (names_of (attributes_of self.new))) }
+    {
+        let count = self.as_slice().len();
+        let set = IndexSet::with_capacity(self.alloc, count.saturating_add(more))?;
+        let mut set = Box::new(self.alloc, set)?;
+        let Some(list) = take_list(self.alloc, &mut self.kept) else {
+            return Ok(());
+        };
         fill(&mut set, list);
-        self.kept = Kept::Many(set);
+        self.kept = Kept::Many(Many::Set(set));
         Ok(())
     }
 
@@ -158,32 +205,22 @@ impl Attributes {
     {
         match &self.kept {
             Kept::Few(list) => scan(list, name),
-            Kept::Many(set) => look_up(self.alloc, set, name),
+            Kept::Many(Many::Indexed(list)) => list.position(name),
+            Kept::Many(Many::Set(set)) => look_up(self.alloc, set, name),
         }
     }
 }
 
-#[inline(always)]
-fn put_in_list(list: &mut Vec<Attribute>, attribute: Attribute) -> Result<(), OutOfMemory>
-    ensures ok { OnOk result (attributes_of list.new.items ≡ put_attribute attribute.name (tree attribute.expr) (attributes_of list.old.items)) }
-    ensures err { OnErr result (list.new.items ≡ list.old.items) }
+// The list that there is, if there is one.
+fn take_list(alloc: Global, kept: &mut Kept) -> Option<Vec<Attribute>>
+    ensures some { IfSome result (λ list. list.items ≡ kept_in kept.old) }
+    ensures none { IfNone result (kept_in kept.new ≡ kept_in kept.old) }
 {
-    match place_of(list, attribute.name.bytes()) {
-        Some(place) => put_at(list, place, attribute),
-        None => list.push(attribute)?,
+    match kept {
+        Kept::Few(list) => Some(mem::replace(list, Vec::new(alloc))),
+        Kept::Many(Many::Indexed(list)) => Some(list.take(alloc)),
+        Kept::Many(Many::Set(_)) => None,
     }
-    Ok(())
-}
-
-// In the place of the attribute that is there.
-#[cold]
-#[inline(never)]
-fn put_at(list: &mut Vec<Attribute>, place: usize, attribute: Attribute)
-    requires { place < length list.old.items }
-    ensures { list.new.items ≡ slice_set list.old.items place attribute }
-{
-    let replaced = mem::replace(&mut list[place], attribute);
-    drop(replaced);
 }
 
 #[inline(never)]
@@ -227,12 +264,4 @@ fn scan(attributes: &[Attribute], name: &[u8]) -> Option<usize>
     ensures { result ≡ position (same_name name.now) (names_of (attributes_of attributes.now)) }
 {
     place_of(attributes, name)
-}
-
-fn place_of(attributes: &[Attribute], name: &[u8]) -> Option<usize>
-    ensures { result ≡ position (λ a. same_name name.now a.name) attributes.now }
-{
-    attributes
-        .iter()
-        .position(|attribute| is_named(attribute, name))
 }

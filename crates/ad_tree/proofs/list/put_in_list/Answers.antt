@@ -3,7 +3,7 @@ use Rattle.std.proofs.lemmas.List.Quantifiers.{position-Some}
 use Rattle.ad_tree.specs.Names.{same_name}
 use Rattle.ad_tree.specs.Attributes.{attributes_of}
 use Rattle.ad_tree.proofs.FrameLemmas.{away_from, put-at, put-last, same_attribute}
-use Rattle.ad_tree.proofs.attributes.put_in_list.Goals as goal
+use Rattle.ad_tree.proofs.list.put_in_list.Goals as goal
 
 pub returns-in-Some-clause-ok : goal.returns-in-Some-clause-ok
 returns-in-Some-clause-ok c =

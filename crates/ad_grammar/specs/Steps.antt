@@ -2,7 +2,7 @@
 use Rattle.std.specs.Prelude.{◌≡◌, ℕ, Bool, true, false, List, [], ◌∷◌, drop, Option, None, Some, option_map, Result, Ok, Err}
 use Rattle.pool_text.specs.declared.language.UnOp.{UnOp}
 use Rattle.ad_tree.specs.Inline.{Inline, Inlines, Defs, no_defs, def}
-use Rattle.ad_tree.specs.Tree.{unary, name, select}
+use Rattle.ad_tree.specs.Tree.{literal, unary, name, select}
 use Rattle.ad_tree.specs.declared.tree.Scope.{Scope}
 use Rattle.ad_tree.specs.declared.tree.Scope.TheVariants.{Bare}
 use Rattle.ad_lexer.specs.declared.mark.Mark.{Mark}
@@ -13,7 +13,7 @@ use Rattle.ad_grammar.specs.declared.stop.Stop.TheVariants as stops
 use Rattle.ad_builder.specs.Machine.{top, below, with_elements, with_definitions}
 use Rattle.ad_grammar.specs.Rules.{Reading, Rule, and_then, name_at, prefix_word, arguments, assigned, named_in, definitions_behind}
 use Rattle.ad_builder.specs.Shapes.{leaf, over_one}
-use Rattle.ad_grammar.specs.Words.{Word, mark, scope_of, words}
+use Rattle.ad_grammar.specs.Words.{Word, plain, constant, mark, scope_of, words}
 
 -- the words that are left
 abbrev pub left : Reader → List Word
@@ -40,6 +40,12 @@ pub record Puts (wanted : Reading Inline) (answer : Result (Unit {0}) Stop) (res
   pub ok : (done : Unit {0}) → answer ≡ Ok done → wanted ≡ Some (top after, rest)
   pub on : (done : Unit {0}) → answer ≡ Ok done → below after ≡ before
   pub none : answer ≡ Err stops.Grammar → wanted ≡ None
+
+-- a plain name or a literal
+abbrev pub leaf_at : List Word → Reading Inline
+leaf_at (plain text ∷ ws) = Some (leaf (name Bare text), ws)
+leaf_at (constant lit ∷ ws) = Some (leaf (literal lit), ws)
+leaf_at ws = None
 
 -- a list, a call or an ad literal with what is read
 abbrev pub extended : Inline → Reading Inlines → Reading Inline

@@ -10,7 +10,7 @@ ghost use Rattle.ad_grammar.specs.Rules.{Rule};
 ghost use Rattle.ad_grammar.specs.Steps.{left, Puts, wrapped, applied, extended, completed};
 ghost use Rattle.ad_grammar.specs.Words.{mark as mark_word};
 
-use crate::phrase::{attribute, defined, finished, lone, selection, worded};
+use crate::phrase::{attribute, defined, finished, lone, operand, selection, worded};
 use crate::reader::Reader;
 use crate::stop::Stop;
 use ad_builder::{Instruction, Machine};
@@ -130,7 +130,7 @@ fn operations(
     Ok(())
 }
 
-/// Operators before an operand.
+/// Operators before an operand, which most have none of.
 #[cycle(grammar)]
 fn prefixes(
     alloc: Global,
@@ -141,6 +141,9 @@ fn prefixes(
     ensures { Puts (rules.prefixes (rules.expression fuel) (left reader.old))
         result (left reader.new) (stack machine.old) (stack machine.new) }
 {
+    if operand(alloc, reader, machine)? {
+        return Ok(());
+    }
     let operators = read_operators(alloc, reader)?;
     postfix(alloc, reader, machine, fuel)?;
     Ok(apply(machine, operators)?)

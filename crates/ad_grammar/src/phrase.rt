@@ -7,8 +7,8 @@ ghost use Rattle.ad_builder.specs.declared.instruction.Instruction.TheVariants a
 ghost use Rattle.ad_grammar.specs.declared.stop.Stop.TheVariants as stops;
 ghost use Rattle.ad_grammar.specs.HeldMarks.{front_mark};
 ghost use Rattle.ad_builder.specs.Machine.{stack, top, below, step};
-ghost use Rattle.ad_grammar.specs.Rules.{expression, plain_at, primary};
-ghost use Rattle.ad_grammar.specs.Steps.{left, Begins, Continues, Gives, Puts, attribute_at, defined_at, reference, selected};
+ghost use Rattle.ad_grammar.specs.Rules.{Rule, expression, plain_at, prefixes, primary};
+ghost use Rattle.ad_grammar.specs.Steps.{left, Begins, Continues, Gives, Puts, attribute_at, defined_at, leaf_at, reference, selected};
 ghost use Rattle.ad_grammar.specs.Words.{scope_of};
 
 use crate::reader::Reader;
@@ -33,6 +33,39 @@ pub(crate) fn lone(
     if !reader.ends_behind_next() {
         return Ok(false);
     }
+    leaf(alloc, reader, machine)
+}
+
+/// An operand that is a plain name or a literal, with which the mark behind it doesn't go on. Answers whether one stands there.
+#[inline(always)]
+pub(crate) fn operand(
+    alloc: Global,
+    reader: &mut Reader<'_>,
+    machine: &mut Machine,
+) -> Result<bool, OutOfMemory>
+    ensures read { result ≡ Ok true → (e : Rule) → prefixes e (left reader.old) ≡ Some (top (stack machine.new), left reader.new) }
+    ensures below { result ≡ Ok true → below (stack machine.new) ≡ stack machine.old }
+    ensures kept { result ≡ Ok false → left reader.new ≡ left reader.old }
+    ensures same { result ≡ Ok false → stack machine.new ≡ stack machine.old }
+{
+    if reader.extends_behind_next() {
+        return Ok(false);
+    }
+    leaf(alloc, reader, machine)
+}
+
+/// A plain name or a literal. Answers whether one stands there.
+#[inline(always)]
+fn leaf(
+    alloc: Global,
+    reader: &mut Reader<'_>,
+    machine: &mut Machine,
+) -> Result<bool, OutOfMemory>
+    ensures read { result ≡ Ok true → leaf_at (left reader.old) ≡ Some (top (stack machine.new), left reader.new) }
+    ensures below { result ≡ Ok true → below (stack machine.new) ≡ stack machine.old }
+    ensures kept { result ≡ Ok false → left reader.new ≡ left reader.old }
+    ensures same { result ≡ Ok false → stack machine.new ≡ stack machine.old }
+{
     if let Some(name) = reader.plain(alloc)? {
         bare(machine, name)?;
         return Ok(true);

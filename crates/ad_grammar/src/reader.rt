@@ -3,7 +3,7 @@ ghost use Rattle.std.specs.Prelude.{◌≡◌, ◌≤◌, length};
 ghost use Rattle.ad_grammar.specs.Meaning.{AreSpelled};
 
 use crate::nesting::{definitions_within, elements_ahead};
-use crate::operators::{ends, infix_of, prefix_of};
+use crate::operators::{ends, extends, infix_of, prefix_of};
 use crate::stop::Stop;
 use crate::word::literal;
 use ad_builder::Infix;
@@ -35,7 +35,7 @@ impl<'a> Reader<'a> {
     ghost use Rattle.ad_grammar.specs.Nesting.{nests_too_deep};
     ghost use Rattle.ad_grammar.specs.Rules.{name_at, infix_at};
     ghost use Rattle.ad_grammar.specs.Steps.{left, prefix_at, Takes, Gives, Finds, Continues};
-    ghost use Rattle.ad_grammar.specs.HeldMarks.{front_mark, ends_at, unmarked};
+    ghost use Rattle.ad_grammar.specs.HeldMarks.{front_mark, ends_at, extends_at, unmarked};
     ghost use Rattle.ad_grammar.specs.Words.{Word as MeantWord, plain, quoted, constant, mark as mark_word, word, words};
     ghost use Rattle.pool_text.specs.declared.language.Lit.{Lit as MeantLit};
     ghost use Rattle.ad_lexer.specs.declared.mark.Mark.TheVariants.{Dot, OpenBracket};
@@ -149,6 +149,20 @@ impl<'a> Reader<'a> {
         let place = self.at + 1;
         if place < len {
             ends(self.tokens.mark(place))
+        } else {
+            false
+        }
+    }
+
+    /// Whether a mark stands behind the next word with which that word goes on.
+    #[inline(always)]
+    pub(crate) fn extends_behind_next(&self) -> bool
+        ensures { result ≡ extends_at (drop 1 (left self.now)) }
+    {
+        let len = self.tokens.len();
+        let place = self.at + 1;
+        if place < len {
+            extends(self.tokens.mark(place))
         } else {
             false
         }

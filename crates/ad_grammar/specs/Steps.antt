@@ -2,7 +2,7 @@
 use Rattle.std.specs.Prelude.{◌≡◌, ℕ, Bool, true, false, List, [], ◌∷◌, drop, Option, None, Some, option_map, Result, Ok, Err}
 use Rattle.pool_text.specs.declared.language.UnOp.{UnOp}
 use Rattle.ad_tree.specs.Inline.{Inline, Inlines, Defs, no_defs, def}
-use Rattle.ad_tree.specs.Tree.{literal, unary, name, select}
+use Rattle.ad_tree.specs.Tree.{unary, name, select}
 use Rattle.ad_tree.specs.declared.tree.Scope.{Scope}
 use Rattle.ad_tree.specs.declared.tree.Scope.TheVariants.{Bare}
 use Rattle.ad_lexer.specs.declared.mark.Mark.{Mark}
@@ -10,7 +10,9 @@ use Rattle.ad_lexer.specs.declared.mark.Mark.TheVariants.{Dot}
 use Rattle.ad_grammar.specs.declared.reader.Reader.{Reader}
 use Rattle.ad_grammar.specs.declared.stop.Stop.{Stop}
 use Rattle.ad_grammar.specs.declared.stop.Stop.TheVariants as stops
-use Rattle.ad_builder.specs.Machine.{top, below, with_elements, with_definitions}
+use Rattle.ad_builder.specs.Machine.{top, below, step, with_elements, with_definitions}
+use Rattle.ad_builder.specs.declared.instruction.Instruction.{Instruction}
+use Rattle.ad_builder.specs.declared.instruction.Instruction.TheVariants as instructions
 use Rattle.ad_grammar.specs.Rules.{Reading, Rule, and_then, name_at, prefix_word, arguments, assigned, named_in, definitions_behind}
 use Rattle.ad_builder.specs.Shapes.{leaf, over_one}
 use Rattle.ad_grammar.specs.Words.{Word, plain, constant, mark, scope_of, words}
@@ -41,11 +43,16 @@ pub record Puts (wanted : Reading Inline) (answer : Result (Unit {0}) Stop) (res
   pub on : (done : Unit {0}) → answer ≡ Ok done → below after ≡ before
   pub none : answer ≡ Err stops.Grammar → wanted ≡ None
 
--- a plain name or a literal
-abbrev pub leaf_at : List Word → Reading Inline
-leaf_at (plain text ∷ ws) = Some (leaf (name Bare text), ws)
-leaf_at (constant lit ∷ ws) = Some (leaf (literal lit), ws)
-leaf_at ws = None
+-- a plain name or a literal, as the instruction that puts it on the stack
+abbrev pub put_at : List Word → Reading Instruction
+put_at (plain text ∷ ws) = Some (instructions.Name Bare text, ws)
+put_at (constant lit ∷ ws) = Some (instructions.Literal lit, ws)
+put_at ws = None
+
+-- a rule adds the tree that it reads to the list or the call that is the last on the stack, and stops where it reads nothing
+pub record Adds (wanted : Reading Inline) (answer : Result (Unit {0}) Stop) (rest : List Word) (before after : List Inline) : Type 0 where
+  pub ok : (done : Unit {0}) → answer ≡ Ok done → (x : Inline) × (wanted ≡ Some (x, rest)) × (after ≡ step instructions.Element (x ∷ before))
+  pub none : answer ≡ Err stops.Grammar → wanted ≡ None
 
 -- a list, a call or an ad literal with what is read
 abbrev pub extended : Inline → Reading Inlines → Reading Inline

@@ -3,9 +3,10 @@ use Rattle.std.proofs.Common.{◌≡◌, ℕ, ◌+◌, min, Bool, true, false, L
 use Rattle.ad_tree.specs.Draft.{draft_frames}
 use Rattle.ad_tree.specs.Frames.{Frame, empty_frame, defined}
 use Rattle.ad_tree.specs.Inline.{Inline, inner, no_defs, frames, height, number, spelled, spelled_tree, ad_of, phrase_of, phrase_tree}
-use Rattle.ad_tree.specs.Tree.{Label, Tree, node, frame, none, one, two, three, all, any, choice, pack}
+use Rattle.ad_tree.specs.Tree.{Label, Tree, node, frame, none, one, two, three, all, any, choice, pack, tree}
+use Rattle.ad_tree.specs.declared.tree.Expr.{Expr}
 use Rattle.ad_tree.proofs.InlineLemmas.{pack-push}
-use Rattle.ad_builder.specs.Builds.{slot, measure_of, HasPut, Holds}
+use Rattle.ad_builder.specs.Builds.{slot, measure_of, HasPut, HasTaken, Holds}
 use Rattle.ad_builder.specs.Counts.{counting_limit, tallest_measured, AreCounted}
 use Rattle.ad_builder.specs.JoinedTrees.{joined_tree, TakesElement}
 use Rattle.ad_builder.specs.Laid.{Slot, value, open_ad, Laid}
@@ -148,16 +149,13 @@ module _ (is_ad : Bool) (st : List Inline) where
       (measured (top (below st)) (top st)) (element-counted old.frames old.definitions st h.counted)
 
   -- the same where the tree below the last is changed in its place
-  pub element-changed : {u : Tree} {n : Measure} {old then new : Builder} (first last : Operand) → HasPut (value u) n then old
-      → slice_get then.operands 0 ≡ Some first → new.operands ≡ slice_set then.operands 0 last
-      → new.parent ≡ then.parent → draft_frames new.draft ≡ draft_frames then.draft → new.frames ≡ then.frames → new.definitions ≡ then.definitions
-      → (t v : Tree) × (slot first ≡ value t) × (slot last ≡ value v) × TakesElement t u v
-      → ((x y : Inline) → IsMeasure (measure_of first) x → IsMeasure n y → IsMeasure (measure_of last) (with_element x y))
+  pub element-changed : {u : Tree} {n : Measure} {old then new : Builder} → HasPut (value u) n then old → HasTaken u n then new
       → Holds is_ad old st → Holds is_ad new (with_element (top (below st)) (top st) ∷ below (below st))
-  element-changed {then} {new} first last second at is here drafted frames defs trees measured h =
-      let parts = first-changed then.operands last at in
+  element-changed {then = then} {new = new} second taken h =
+      let parts = first-changed then.operands taken.last taken.stood in
       let between : Builder = record then { operands = parts.0 } in
-      let taken_first : HasPut (value trees.0) (measure_of first) between then = record {
+      let trees = taken.trees in
+      let taken_first : HasPut (value trees.0) (measure_of taken.first) between then = record {
         operands = ap (map slot) parts.1 ∙ ap (λ s. s ∷ map slot parts.0) trees.2;
         measures = ap (map measure_of) parts.1;
         parent = refl;
@@ -165,15 +163,15 @@ module _ (is_ad : Bool) (st : List Inline) where
         frames = refl;
         definitions = refl;
       } in
-      let put_last : HasPut (value trees.1) (measure_of last) between new = record {
-        operands = ap (map slot) (is ∙ parts.2) ∙ ap (λ s. s ∷ map slot parts.0) trees.3;
-        measures = ap (map measure_of) (is ∙ parts.2);
-        parent = here;
-        drafted = drafted;
-        frames = frames;
-        definitions = defs;
+      let put_last : HasPut (value trees.1) (measure_of taken.last) between new = record {
+        operands = ap (map slot) (taken.stands ∙ parts.2) ∙ ap (λ s. s ∷ map slot parts.0) trees.3;
+        measures = ap (map measure_of) (taken.stands ∙ parts.2);
+        parent = taken.parent;
+        drafted = taken.drafted;
+        frames = taken.frames;
+        definitions = taken.definitions;
       } in
-      element-carried second taken_first trees.4 measured put_last h
+      element-carried second taken_first trees.4 taken.measured put_last h
 
   pub three-carried : {t u v w : Tree} {k m n r : Measure} {old then later between new : Builder} → HasPut (value v) n then old → HasPut (value u) m later then → HasPut (value t) k between later
       → w ≡ node choice (three t u v) → ((x y z : Inline) → IsMeasure k x → IsMeasure m y → IsMeasure n z → IsMeasure r (over_three choice x y z)) → HasPut (value w) r between new
@@ -243,6 +241,20 @@ module _ (is_ad : Bool) (st : List Inline) where
         measured = subst (λ ms. AreMeasures ms st) (sym put.measures) (subst (λ l. AreMeasures (map measure_of l) st) (sym all) h.measured);
         counted = recounted (put.frames ∙ frames) (put.definitions ∙ defs) h.counted;
       }
+
+-- a leaf that was added at once
+pub leaf-added : (is_ad : Bool) (st : List Inline) (label : Label) (m : Measure) (e : Expr) {old new : Builder} → tree e ≡ node label none → IsMeasure m (leaf label)
+    → HasTaken (tree e) m old new → Holds is_ad old st → Holds is_ad new (with_element (top st) (leaf label) ∷ below st)
+leaf-added is_ad st label m e {old} is measured taken h =
+    let put : HasPut (value (tree e)) m old (record old { operands = operands.Value m e ∷ old.operands }) = record {
+      operands = refl;
+      measures = refl;
+      parent = refl;
+      drafted = refl;
+      frames = refl;
+      definitions = refl;
+    } in
+    element-changed is_ad (leaf label ∷ st) put taken (leaf-carried is_ad st label is measured put h)
 
 -- ---- chains
 

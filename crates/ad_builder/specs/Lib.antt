@@ -3,6 +3,7 @@ pub mod Carried
 pub mod Counts
 pub mod JoinedTrees
 pub mod Laid
+pub mod Leaves
 pub mod Machine
 pub mod Measures
 pub mod Shapes

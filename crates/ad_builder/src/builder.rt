@@ -89,7 +89,7 @@ pub struct Builder {
 
 impl Builder {
     ghost use Rattle.ad_builder.specs.declared.instruction.Instruction.TheVariants as instructions;
-    ghost use Rattle.ad_builder.specs.Builds.{HasPut, Holds, Carries};
+    ghost use Rattle.ad_builder.specs.Builds.{HasPut, HasTaken, Holds, Carries, CarriesElement};
     ghost use Rattle.ad_builder.specs.Laid.{value};
 
     /// Nothing but an empty root.
@@ -248,12 +248,36 @@ impl Builder {
     fn element(&mut self) -> Result<(), OutOfMemory>
         ensures { Carries instructions.Element self.old self.new result }
     {
-        let (right, element) = self.value()?;
+        let (measure, element) = self.value()?;
+        self.add(measure, element)
+    }
+
+    /// Adds a tree to the list or the call that is the last.
+    #[inline(always)]
+    fn add(&mut self, measure: Measure, element: Expr) -> Result<(), OutOfMemory>
+        ensures { OnOk result (HasTaken (tree element) measure self.old self.new) }
+    {
         match self.operands.last_mut() {
-            Some(whole) => whole.add_element(right, element),
+            Some(whole) => whole.add_element(measure, element),
             None => {
                 drop(element);
                 Err(OutOfMemory)
+            }
+        }
+    }
+
+    /// Carries out an instruction, and adds the tree that it puts on the stack to the list or the call below. A leaf is added at
+    /// once.
+    #[inline(always)]
+    pub fn carry_out_element(&mut self, instruction: Instruction) -> Result<(), OutOfMemory>
+        ensures { CarriesElement instruction self.old self.new result }
+    {
+        match instruction {
+            Instruction::Literal(literal) => self.add(Measure::leaf(), Expr::Literal(literal)),
+            Instruction::Name(scope, name) => self.add(Measure::leaf(), Expr::Name(scope, name)),
+            other => {
+                self.carry_out(other)?;
+                self.element()
             }
         }
     }

@@ -1,4 +1,7 @@
 // What the machine does with the trees on its stack.
+ghost use Rattle.std.specs.Prelude.{◌≡◌};
+ghost use Rattle.ad_builder.specs.Leaves.{is_leaf};
+
 use ad_tree::Scope;
 use pool_text::{BinOp, Lit, Text, UnOp};
 
@@ -40,4 +43,18 @@ pub enum Instruction {
     Define(Text),
     /// Ends the definitions of the ad literal that is the last tree.
     Close,
+}
+
+impl Instruction {
+    /// Whether it puts a tree on the stack that is a literal or a name.
+    #[inline(always)]
+    pub(crate) fn is_leaf(&self) -> bool
+        ensures { result ≡ is_leaf self.now }
+    {
+        match self {
+            Instruction::Literal(_) => true,
+            Instruction::Name(_, _) => true,
+            _ => false,
+        }
+    }
 }

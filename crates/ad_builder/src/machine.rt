@@ -1,8 +1,9 @@
 // The machine.
-ghost use Rattle.std.specs.Prelude.{◌≡◌, ◌∷◌, [], IfOk, IsOk, OnErr, OnOk};
+ghost use Rattle.std.specs.Prelude.{◌≡◌, ◌∷◌, [], true, IfOk, IsOk, OnErr, OnOk};
 ghost use Rattle.ad_tree.specs.Ad.{ad_frames};
 ghost use Rattle.ad_tree.specs.Inline.{inner, no_defs, ad_of, phrase_of, phrase_tree};
 ghost use Rattle.ad_tree.specs.Tree.{tree};
+ghost use Rattle.ad_builder.specs.Leaves.{is_leaf};
 ghost use Rattle.ad_builder.specs.Machine.{stack, top, below, step, chosen};
 ghost use Rattle.ad_builder.specs.Sizes.{IsHigh, IsSize};
 
@@ -43,6 +44,8 @@ impl Model for Machine {
 }
 
 impl Machine {
+    ghost use Rattle.ad_builder.specs.declared.instruction.Instruction.TheVariants as instructions;
+
     /// A machine for an expression: nothing stands on its stack.
     pub fn of_expression(alloc: Global) -> Machine
         ensures { stack result ≡ [] }
@@ -88,6 +91,47 @@ impl Machine {
             }
             Err(error) => {
                 *self = Machine::of_expression(self.builder.alloc());
+                Err(error)
+            }
+        }
+    }
+
+    /// Carries an instruction out, and then `Element`. A leaf goes at once to the list or the call that takes it.
+    #[inline(always)]
+    pub fn push_element(&mut self, instruction: Instruction) -> Result<(), OutOfMemory>
+        ensures ok { OnOk result (stack self.new ≡ step instructions.Element (step instruction (stack self.old))) }
+        ensures err { OnErr result (stack self.new ≡ []) }
+        ensures high { IsHigh (stack self.old) → IsOk result }
+    {
+        if !instruction.is_leaf() {
+            self.push(instruction)?;
+            return self.push(Instruction::Element);
+        }
+        self.push_leaf(instruction)
+    }
+
+    // The same for an instruction that puts a leaf.
+    #[inline(always)]
+    fn push_leaf(&mut self, leaf: Instruction) -> Result<(), OutOfMemory>
+        requires { is_leaf leaf ≡ true }
+        ensures ok { OnOk result (stack self.new ≡ step instructions.Element (step leaf (stack self.old))) }
+        ensures err { OnErr result (stack self.new ≡ []) }
+        ensures high { IsHigh (stack self.old) → IsOk result }
+    {
+        self.history = self.history.with(&leaf).with(&Instruction::Element);
+        if self.is_high {
+            drop(leaf);
+            return Ok(());
+        }
+        match self.builder.carry_out_element(leaf) {
+            Ok(()) => {
+                let height = self.builder.last_height();
+                self.is_high = height > HEIGHT_LIMIT;
+                Ok(())
+            }
+            Err(error) => {
+                let alloc = self.builder.alloc();
+                *self = Machine::of_expression(alloc);
                 Err(error)
             }
         }

@@ -2,6 +2,7 @@ mod ChainLemmas
 mod CompleteLemmas
 mod Follows
 pub mod GrammarLaws
+mod LeafLemmas
 mod LevelLemmas
 mod MachineLemmas
 pub mod MadeLemmas

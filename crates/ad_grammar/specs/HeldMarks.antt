@@ -3,7 +3,7 @@ use Rattle.std.specs.Prelude.{◌≡◌, Bool, true, false, List, [], ◌∷◌,
 use Rattle.std.specs.Option.{option_and_then}
 use Rattle.pool_text.specs.declared.language.Lit.TheVariants.{Undefined}
 use Rattle.ad_lexer.specs.declared.mark.Mark.{Mark}
-use Rattle.ad_lexer.specs.declared.mark.Mark.TheVariants.{CloseParen, CloseBracket, CloseBrace, Comma, Semicolon}
+use Rattle.ad_lexer.specs.declared.mark.Mark.TheVariants.{OpenParen, CloseParen, OpenBracket, CloseBracket, CloseBrace, Comma, Semicolon, Dot}
 use Rattle.ad_grammar.specs.declared.nesting.Turn.{Turn}
 use Rattle.ad_grammar.specs.declared.nesting.Turn.TheVariants as turns
 use Rattle.ad_grammar.specs.Nesting.{opening, closing}
@@ -32,6 +32,16 @@ ends m = false
 
 abbrev pub ends_at : List Word → Bool
 ends_at ws = ends (front_mark ws)
+
+-- a mark with which a word goes on, as a selection, a subscript or a call
+abbrev pub extends : Option Mark → Bool
+extends (Some Dot) = true
+extends (Some OpenBracket) = true
+extends (Some OpenParen) = true
+extends m = false
+
+abbrev pub extends_at : List Word → Bool
+extends_at ws = extends (front_mark ws)
 
 -- the word of a token that is known to be no mark
 abbrev pub unmarked : Word → Word

@@ -10,10 +10,12 @@ use Rattle.ad_lexer.specs.declared.mark.Mark.TheVariants.{Dot}
 use Rattle.ad_grammar.specs.declared.reader.Reader.{Reader}
 use Rattle.ad_grammar.specs.declared.stop.Stop.{Stop}
 use Rattle.ad_grammar.specs.declared.stop.Stop.TheVariants as stops
-use Rattle.ad_builder.specs.Machine.{top, below, with_elements, with_definitions}
+use Rattle.ad_builder.specs.Machine.{top, below, step, with_elements, with_definitions}
+use Rattle.ad_builder.specs.declared.instruction.Instruction.{Instruction}
+use Rattle.ad_builder.specs.declared.instruction.Instruction.TheVariants as instructions
 use Rattle.ad_grammar.specs.Rules.{Reading, Rule, and_then, name_at, prefix_word, arguments, assigned, named_in, definitions_behind}
 use Rattle.ad_builder.specs.Shapes.{leaf, over_one}
-use Rattle.ad_grammar.specs.Words.{Word, mark, scope_of, words}
+use Rattle.ad_grammar.specs.Words.{Word, plain, constant, mark, scope_of, words}
 
 -- the words that are left
 abbrev pub left : Reader → List Word
@@ -39,6 +41,17 @@ pub record Gives {A B : Type 0} (seen : A → B) (wanted : Reading B) (answer : 
 pub record Puts (wanted : Reading Inline) (answer : Result (Unit {0}) Stop) (rest : List Word) (before after : List Inline) : Type 0 where
   pub ok : (done : Unit {0}) → answer ≡ Ok done → wanted ≡ Some (top after, rest)
   pub on : (done : Unit {0}) → answer ≡ Ok done → below after ≡ before
+  pub none : answer ≡ Err stops.Grammar → wanted ≡ None
+
+-- a plain name or a literal, as the instruction that puts it on the stack
+abbrev pub put_at : List Word → Reading Instruction
+put_at (plain text ∷ ws) = Some (instructions.Name Bare text, ws)
+put_at (constant lit ∷ ws) = Some (instructions.Literal lit, ws)
+put_at ws = None
+
+-- a rule adds the tree that it reads to the list or the call that is the last on the stack, and stops where it reads nothing
+pub record Adds (wanted : Reading Inline) (answer : Result (Unit {0}) Stop) (rest : List Word) (before after : List Inline) : Type 0 where
+  pub ok : (done : Unit {0}) → answer ≡ Ok done → (x : Inline) × (wanted ≡ Some (x, rest)) × (after ≡ step instructions.Element (x ∷ before))
   pub none : answer ≡ Err stops.Grammar → wanted ≡ None
 
 -- a list, a call or an ad literal with what is read

@@ -7,10 +7,10 @@ ghost use Rattle.ad_grammar.specs.Levels.{climb};
 ghost use Rattle.ad_builder.specs.Machine.{stack, top, below};
 ghost use Rattle.ad_grammar.specs.Rules as rules;
 ghost use Rattle.ad_grammar.specs.Rules.{Rule};
-ghost use Rattle.ad_grammar.specs.Steps.{left, Puts, wrapped, applied, extended, completed};
+ghost use Rattle.ad_grammar.specs.Steps.{left, Adds, Puts, wrapped, applied, extended, completed};
 ghost use Rattle.ad_grammar.specs.Words.{mark as mark_word};
 
-use crate::phrase::{attribute, defined, finished, lone, selection, worded};
+use crate::phrase::{attribute, defined, finished, lone, lone_element, operand, selection, worded};
 use crate::reader::Reader;
 use crate::stop::Stop;
 use ad_builder::{Instruction, Machine};
@@ -130,7 +130,7 @@ fn operations(
     Ok(())
 }
 
-/// Operators before an operand.
+/// Operators before an operand, which most have none of.
 #[cycle(grammar)]
 fn prefixes(
     alloc: Global,
@@ -141,6 +141,9 @@ fn prefixes(
     ensures { Puts (rules.prefixes (rules.expression fuel) (left reader.old))
         result (left reader.new) (stack machine.old) (stack machine.new) }
 {
+    if operand(alloc, reader, machine)? {
+        return Ok(());
+    }
     let operators = read_operators(alloc, reader)?;
     postfix(alloc, reader, machine, fuel)?;
     Ok(apply(machine, operators)?)
@@ -293,13 +296,32 @@ fn several(
     let mut turns = reader.count();
     while turns > 0 {
         turns -= 1;
-        expression(alloc, reader, machine, fuel)?;
-        machine.push(Instruction::Element)?;
+        element(alloc, reader, machine, fuel)?;
         if !reader.takes(Mark::Comma) {
             return Ok(());
         }
     }
     Err(Stop::Grammar)
+}
+
+/// An expression that is added to the tree that is the last on the stack. Most are a name or a literal alone.
+#[cycle(grammar)]
+fn element(
+    alloc: Global,
+    reader: &mut Reader<'_>,
+    machine: &mut Machine,
+    fuel: usize,
+) -> Result<(), Stop>
+    ensures { Adds (rules.expression fuel (left reader.old)) result (left reader.new) (stack machine.old) (stack machine.new) }
+{
+    if fuel == 0 {
+        return Err(Stop::Grammar);
+    }
+    if lone_element(alloc, reader, machine)? {
+        return Ok(());
+    }
+    expression(alloc, reader, machine, fuel)?;
+    Ok(machine.push(Instruction::Element)?)
 }
 
 /// The definitions of an ad behind its opening mark, which are made in the tree that is the last on the stack.

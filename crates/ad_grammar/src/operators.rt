@@ -1,7 +1,7 @@
 // The tables of operators.
 ghost use Rattle.std.specs.Prelude.{◌≡◌};
 ghost use Rattle.ad_grammar.specs.Operators.{infix_of, precedence, prefix_of};
-ghost use Rattle.ad_grammar.specs.HeldMarks.{ends};
+ghost use Rattle.ad_grammar.specs.HeldMarks.{ends, extends};
 
 use ad_builder::Infix;
 use ad_lexer::Mark;
@@ -57,6 +57,18 @@ pub fn ends(mark: Option<Mark>) -> bool
         Some(Mark::CloseBracket) => true,
         Some(Mark::CloseBrace) => true,
         Some(Mark::CloseParen) => true,
+        _ => false,
+    }
+}
+
+/// Whether a word goes on with the mark: as a selection, a subscript or a call.
+pub fn extends(mark: Option<Mark>) -> bool
+    ensures { result ≡ extends mark }
+{
+    match mark {
+        Some(Mark::Dot) => true,
+        Some(Mark::OpenBracket) => true,
+        Some(Mark::OpenParen) => true,
         _ => false,
     }
 }

@@ -1,5 +1,6 @@
 // Parts of the rules that hold no expression.
 ghost use Rattle.std.specs.Prelude.{◌≡◌, ◌∷◌, ℕ, Bool, true, false, List, Some, None, Ok, Err, OnOk, suc};
+ghost use Rattle.ad_tree.specs.Inline.{Inline};
 ghost use Rattle.ad_tree.specs.Tree.{name};
 ghost use Rattle.ad_tree.specs.declared.tree.Scope.TheVariants.{Bare};
 ghost use Rattle.ad_builder.specs.Shapes.{leaf};
@@ -7,8 +8,8 @@ ghost use Rattle.ad_builder.specs.declared.instruction.Instruction.TheVariants a
 ghost use Rattle.ad_grammar.specs.declared.stop.Stop.TheVariants as stops;
 ghost use Rattle.ad_grammar.specs.HeldMarks.{front_mark};
 ghost use Rattle.ad_builder.specs.Machine.{stack, top, below, step};
-ghost use Rattle.ad_grammar.specs.Rules.{expression, plain_at, primary};
-ghost use Rattle.ad_grammar.specs.Steps.{left, Begins, Continues, Gives, Puts, attribute_at, defined_at, reference, selected};
+ghost use Rattle.ad_grammar.specs.Rules.{Rule, expression, plain_at, prefixes, primary};
+ghost use Rattle.ad_grammar.specs.Steps.{left, Begins, Continues, Gives, Puts, attribute_at, defined_at, put_at, reference, selected};
 ghost use Rattle.ad_grammar.specs.Words.{scope_of};
 
 use crate::reader::Reader;
@@ -33,15 +34,65 @@ pub(crate) fn lone(
     if !reader.ends_behind_next() {
         return Ok(false);
     }
-    if let Some(name) = reader.plain(alloc)? {
-        bare(machine, name)?;
-        return Ok(true);
-    }
-    let Some(literal) = reader.literal(alloc)? else {
+    leaf(alloc, reader, machine)
+}
+
+/// An operand that is a plain name or a literal, with which the mark behind it doesn't go on. Answers whether one stands there.
+#[inline(always)]
+pub(crate) fn operand(
+    alloc: Global,
+    reader: &mut Reader<'_>,
+    machine: &mut Machine,
+) -> Result<bool, OutOfMemory>
+    ensures read { result ≡ Ok true → (e : Rule) → prefixes e (left reader.old) ≡ Some (top (stack machine.new), left reader.new) }
+    ensures below { result ≡ Ok true → below (stack machine.new) ≡ stack machine.old }
+    ensures kept { result ≡ Ok false → left reader.new ≡ left reader.old }
+    ensures same { result ≡ Ok false → stack machine.new ≡ stack machine.old }
+{
+    if reader.extends_behind_next() {
         return Ok(false);
-    };
-    machine.push(Instruction::Literal(literal))?;
-    Ok(true)
+    }
+    leaf(alloc, reader, machine)
+}
+
+/// An element of a list or a call that is a plain name or a literal alone. Answers whether one stands there.
+#[inline(always)]
+pub(crate) fn lone_element(
+    alloc: Global,
+    reader: &mut Reader<'_>,
+    machine: &mut Machine,
+) -> Result<bool, OutOfMemory>
+    ensures added { result ≡ Ok true → (x : Inline) × ((fuel : ℕ) → expression (suc fuel) (left reader.old) ≡ Some (x, left reader.new))
+        × (stack machine.new ≡ step instructions.Element (x ∷ stack machine.old)) }
+    ensures kept { result ≡ Ok false → left reader.new ≡ left reader.old }
+    ensures same { result ≡ Ok false → stack machine.new ≡ stack machine.old }
+{
+    if !reader.ends_behind_next() {
+        return Ok(false);
+    }
+    match reader.leaf(alloc)? {
+        Some(leaf) => {
+            machine.push_element(leaf)?;
+            Ok(true)
+        }
+        None => Ok(false),
+    }
+}
+
+/// A plain name or a literal. Answers whether one stands there.
+#[inline(always)]
+fn leaf(alloc: Global, reader: &mut Reader<'_>, machine: &mut Machine) -> Result<bool, OutOfMemory>
+    ensures put { result ≡ Ok true → (i : Instruction) × (put_at (left reader.old) ≡ Some (i, left reader.new)) × (stack machine.new ≡ step i (stack machine.old)) }
+    ensures kept { result ≡ Ok false → left reader.new ≡ left reader.old }
+    ensures same { result ≡ Ok false → stack machine.new ≡ stack machine.old }
+{
+    match reader.leaf(alloc)? {
+        Some(leaf) => {
+            machine.push(leaf)?;
+            Ok(true)
+        }
+        None => Ok(false),
+    }
 }
 
 /// A primary that begins with a word, and no mark. Answers whether it is a call, of which the arguments are still to be

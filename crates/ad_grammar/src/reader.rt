@@ -3,11 +3,12 @@ ghost use Rattle.std.specs.Prelude.{◌≡◌, ◌≤◌, length};
 ghost use Rattle.ad_grammar.specs.Meaning.{AreSpelled};
 
 use crate::nesting::{definitions_within, elements_ahead};
-use crate::operators::{ends, infix_of, prefix_of};
+use crate::operators::{ends, extends, infix_of, prefix_of};
 use crate::stop::Stop;
 use crate::word::literal;
-use ad_builder::Infix;
+use ad_builder::{Infix, Instruction};
 use ad_lexer::{Mark, Token, TokenKind, Tokens, content};
+use ad_tree::Scope;
 use pool_text::{Lit, OutOfMemory, Text, UnOp};
 use std::alloc::Global;
 
@@ -34,12 +35,13 @@ impl<'a> Reader<'a> {
     ghost use Rattle.ad_lexer.specs.Spelling.{Spells};
     ghost use Rattle.ad_grammar.specs.Nesting.{nests_too_deep};
     ghost use Rattle.ad_grammar.specs.Rules.{name_at, infix_at};
-    ghost use Rattle.ad_grammar.specs.Steps.{left, prefix_at, Takes, Gives, Finds, Continues};
-    ghost use Rattle.ad_grammar.specs.HeldMarks.{front_mark, ends_at, unmarked};
+    ghost use Rattle.ad_grammar.specs.Steps.{left, prefix_at, put_at, Takes, Gives, Finds, Continues};
+    ghost use Rattle.ad_grammar.specs.HeldMarks.{front_mark, ends_at, extends_at, unmarked};
     ghost use Rattle.ad_grammar.specs.Words.{Word as MeantWord, plain, quoted, constant, mark as mark_word, word, words};
     ghost use Rattle.pool_text.specs.declared.language.Lit.{Lit as MeantLit};
     ghost use Rattle.ad_lexer.specs.declared.mark.Mark.TheVariants.{Dot, OpenBracket};
     ghost use Rattle.ad_grammar.specs.declared.stop.Stop.{Stop};
+    ghost use Rattle.ad_builder.specs.declared.instruction.Instruction.{Instruction as Leaf};
 
     /// The place in front of the words of these tokens. `None` exactly where after some word more than 130 brackets and
     /// question marks are open.
@@ -121,6 +123,21 @@ impl<'a> Reader<'a> {
         }
     }
 
+    /// Takes a plain name or a literal, where one stands next, and answers what puts it on a stack.
+    #[inline(always)]
+    pub(crate) fn leaf(&mut self, alloc: Global) -> Result<Option<Instruction>, OutOfMemory>
+        ensures some { (i : Leaf) → result ≡ Ok (Some i) → put_at (left self.old) ≡ Some (i, left self.new) }
+        ensures kept { result ≡ Ok None → left self.new ≡ left self.old }
+    {
+        if let Some(name) = self.plain(alloc)? {
+            return Ok(Some(Instruction::Name(Scope::Bare, name)));
+        }
+        match self.literal(alloc)? {
+            Some(literal) => Ok(Some(Instruction::Literal(literal))),
+            None => Ok(None),
+        }
+    }
+
     /// Takes a quoted name, where one stands next.
     #[inline(never)]
     pub(crate) fn quoted(&mut self, alloc: Global) -> Result<Option<Text>, OutOfMemory>
@@ -149,6 +166,20 @@ impl<'a> Reader<'a> {
         let place = self.at + 1;
         if place < len {
             ends(self.tokens.mark(place))
+        } else {
+            false
+        }
+    }
+
+    /// Whether a mark stands behind the next word with which that word goes on.
+    #[inline(always)]
+    pub(crate) fn extends_behind_next(&self) -> bool
+        ensures { result ≡ extends_at (drop 1 (left self.now)) }
+    {
+        let len = self.tokens.len();
+        let place = self.at + 1;
+        if place < len {
+            extends(self.tokens.mark(place))
         } else {
             false
         }

@@ -1,5 +1,6 @@
-use Rattle.std.proofs.Common.{refl, arith, ◌≡◌, ◌+◌, ◌-◌, suc, true, false, ◌∷◌, length, Some, Ok, Err, ap, sym, ◌∙◌}
+use Rattle.std.proofs.Common.{refl, arith, ◌≡◌, ◌+◌, ◌-◌, suc, true, false, ◌∷◌, List, length, Some, Ok, Err, ap, sym, ◌∙◌}
 use Rattle.ad_grammar.specs.Levels.{climb}
+use Rattle.ad_tree.specs.Inline.{Inline}
 use Rattle.ad_builder.specs.Machine.{stack, top, below}
 use Rattle.ad_grammar.specs.Rules as rules
 use Rattle.ad_grammar.specs.Steps.{left, wrapped, extended, completed, ContinuesOk}
@@ -251,15 +252,14 @@ several-returns-then-not-takes t c =
     let start = stack c.args.machine.now in
     let w = extended (top start) (rules.several e (length ws) ws) in
     let before = stack c.loop-turns.machine in
-    let second = stack c.expression.new.machine in
-    let after = stack c.push.new.self in
-    let pushed = c.in_ok-push.ensures.ok in
-    let on = c.in_ok-expression.ensures.on c.in_ok-expression.field-0 refl in
+    let added = c.in_ok-element.ensures.ok c.in_ok-element.field-0 refl in
+    let second : List Inline = added.0 ∷ before in
+    let after = stack c.element.new.machine in
     puts-ok w (left c.takes.new.self) (below start) after tt
     (several-end e w c.loop-turns.turns before (left c.loop-turns.reader) c.loop-turns.invariant.read c.loop-turns-test.true
-    second after (left c.expression.new.reader) (left c.takes.new.self) on (c.in_ok-expression.ensures.ok c.in_ok-expression.field-0 refl) pushed
+    second after (left c.element.new.reader) (left c.takes.new.self) refl added.1 added.2
     (c.takes.ensures.other c.if-not-takes.true) (c.takes.ensures.kept c.if-not-takes.true))
-    (two-below (below start) before second after c.loop-turns.invariant.rest on (ap below pushed))
+    (two-below (below start) before second after c.loop-turns.invariant.rest refl (ap below added.2))
 
 pub several-loop-turns-preserved : goal.several-loop-turns-preserved
 several-loop-turns-preserved t c =
@@ -268,14 +268,14 @@ several-loop-turns-preserved t c =
     let start = stack c.args.machine.now in
     let w = extended (top start) (rules.several e (length ws) ws) in
     let before = stack c.loop-turns.machine in
-    let second = stack c.expression.new.machine in
-    let after = stack c.push.new.self in
-    let on = c.in_ok-expression.ensures.on c.in_ok-expression.field-0 refl in
+    let added = c.in_ok-element.ensures.ok c.in_ok-element.field-0 refl in
+    let second : List Inline = added.0 ∷ before in
+    let after = stack c.element.new.machine in
     record {
       read = several-more e w c.loop-turns.turns before (left c.loop-turns.reader) c.loop-turns.invariant.read c.loop-turns-test.true
-          second after (left c.expression.new.reader) (left c.takes.new.self) on (c.in_ok-expression.ensures.ok c.in_ok-expression.field-0 refl) c.in_ok-push.ensures.ok
+          second after (left c.element.new.reader) (left c.takes.new.self) refl added.1 added.2
           (c.takes.ensures.taken c.if-not-takes.false);
-      rest = two-below (below start) before second after c.loop-turns.invariant.rest on (ap below c.in_ok-push.ensures.ok);
+      rest = two-below (below start) before second after c.loop-turns.invariant.rest refl (ap below added.2);
     }
 
 pub some_definitions-returns-in_err-name : goal.some_definitions-returns-in_err-name
@@ -569,14 +569,14 @@ pub prefixes-returns-in_err-operators : goal.prefixes-returns-in_err-operators
 prefixes-returns-in_err-operators t c =
     let e = rules.expression c.args.fuel in
     let ws = left c.args.reader.now in
-    stops-full (rules.prefixes e ws) (left c.read_operators.new.reader) (stack c.args.machine.now) (stack c.args.machine.now) c.from_residual.result c.from_residual.ensures.0 c.from_residual.ensures.1
+    stops-full (rules.prefixes e ws) (left c.read_operators.new.reader) (stack c.args.machine.now) (stack c.operand.new.machine) c.from_residual-in_err-operators.result c.from_residual-in_err-operators.ensures.0 c.from_residual-in_err-operators.ensures.1
 
 pub prefixes-returns-in_err-postfix : goal.prefixes-returns-in_err-postfix
 prefixes-returns-in_err-postfix t c =
     let e = rules.expression c.args.fuel in
     let ws = left c.args.reader.now in
     stops-by (rules.prefixes e ws) (left c.postfix.new.reader) (stack c.args.machine.now) (stack c.postfix.new.machine) c.from_residual-in_err-postfix.result c.in_err-postfix.field-0.0 c.from_residual-in_err-postfix.ensures.0 c.from_residual-in_err-postfix.ensures.1
-    (λ stop. c.in_ok-operators.ensures e ∙ ap (wrapped c.in_ok-operators.operators.items) (c.in_err-postfix.ensures.none (ap Err stop)))
+    (λ stop. ap (rules.prefixes e) (sym (c.in_ok-operand.ensures.kept (ap Ok c.if-branch.false))) ∙ c.in_ok-operators.ensures e ∙ ap (wrapped c.in_ok-operators.operators.items) (c.in_err-postfix.ensures.none (ap Err stop)))
 
 pub prefixes-returns-in_err-apply : goal.prefixes-returns-in_err-apply
 prefixes-returns-in_err-apply t c =
@@ -584,23 +584,15 @@ prefixes-returns-in_err-apply t c =
     let ws = left c.args.reader.now in
     stops-full (rules.prefixes e ws) (left c.postfix.new.reader) (stack c.args.machine.now) (stack c.apply.new.machine) c.from_residual-in_err-apply.result c.from_residual-in_err-apply.ensures.0 c.from_residual-in_err-apply.ensures.1
 
-pub several-returns-in_err-expression : goal.several-returns-in_err-expression
-several-returns-in_err-expression t c =
+pub several-returns-in_err-element : goal.several-returns-in_err-element
+several-returns-in_err-element t c =
     let e = rules.expression c.args.fuel in
     let ws = left c.args.reader.now in
     let start = stack c.args.machine.now in
     let w = extended (top start) (rules.several e (length ws) ws) in
     let before = stack c.loop-turns.machine in
-    stops-by w (left c.expression.new.reader) (below start) (stack c.expression.new.machine) c.from_residual.result c.in_err-expression.field-0.0 c.from_residual.ensures.0 c.from_residual.ensures.1
-    (λ stop. several-valueless e w c.loop-turns.turns before (left c.loop-turns.reader) c.loop-turns.invariant.read c.loop-turns-test.true (c.in_err-expression.ensures.none (ap Err stop)))
-
-pub several-returns-in_err-push : goal.several-returns-in_err-push
-several-returns-in_err-push t c =
-    let e = rules.expression c.args.fuel in
-    let ws = left c.args.reader.now in
-    let start = stack c.args.machine.now in
-    let w = extended (top start) (rules.several e (length ws) ws) in
-    stops-full w (left c.expression.new.reader) (below start) (stack c.push.new.self) c.from_residual-in_err-push.result c.from_residual-in_err-push.ensures.0 c.from_residual-in_err-push.ensures.1
+    stops-by w (left c.element.new.reader) (below start) (stack c.element.new.machine) c.from_residual.result c.in_err-element.field-0.0 c.from_residual.ensures.0 c.from_residual.ensures.1
+    (λ stop. several-valueless e w c.loop-turns.turns before (left c.loop-turns.reader) c.loop-turns.invariant.read c.loop-turns-test.true (c.in_err-element.ensures.none (ap Err stop)))
 
 pub suffixes-returns-in_err-push : goal.suffixes-returns-in_err-push
 suffixes-returns-in_err-push t c =
@@ -719,8 +711,20 @@ conditionals-level-requires t c = omega arith
 pub conditionals-expression-requires : goal.conditionals-expression-requires
 conditionals-expression-requires t c = omega arith
 
-pub several-expression-requires : goal.several-expression-requires
-several-expression-requires t c = omega arith
+pub several-element-requires : goal.several-element-requires
+several-element-requires t c = omega arith
+
+pub element-expression-requires : goal.element-expression-requires
+element-expression-requires t c = omega arith
+
+pub element-returns-then-branch : goal.element-returns-then-branch
+element-returns-then-branch t c =
+    let ws = left c.args.reader.now in
+    let added = c.in_ok-lone_element.ensures.added (ap Ok c.if-branch.true) in
+    record {
+      ok = λ done e. (added.0, ap (λ n. rules.expression n ws) (less c.args.fuel (omega (arith, c.if-fuel-eq0.false))) ∙ added.1 (c.args.fuel - 1), added.2);
+      none = λ e. absurd cc;
+    }
 
 pub some_definitions-expression-requires : goal.some_definitions-expression-requires
 some_definitions-expression-requires t c = omega arith

@@ -46,6 +46,9 @@ decreases-elements l = 60 * l.fuel + 6
 abbrev pub decreases-several : goal.decreases-several
 decreases-several l = 60 * l.fuel + 5
 
+abbrev pub decreases-element : goal.decreases-element
+decreases-element l = 60 * l.fuel + 4
+
 abbrev pub decreases-definitions : goal.decreases-definitions
 decreases-definitions l = 60 * l.fuel + 6
 

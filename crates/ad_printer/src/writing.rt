@@ -1,6 +1,6 @@
 // The text of expressions and frames, appended piece by piece. `turns` bounds the descent through frames; an ad's number
 // of frames is enough of them.
-ghost use Rattle.std.specs.Prelude.{◌≡◌, ◌<◌, ◌∷◌, [], length, OnOk};
+ghost use Rattle.std.specs.Prelude.{◌≡◌, ◌<◌, ◌∷◌, [], codes, length, OnOk};
 ghost use Rattle.ad_lexer.specs.Tokens.{blank};
 ghost use Rattle.ad_tree.specs.Ad.{ad_frames};
 ghost use Rattle.ad_tree.specs.Frames.{attributes_at};
@@ -22,7 +22,8 @@ const CONDITION: u8 = 12;
 
 const LAST_PRECEDENCE: u8 = 13;
 
-/// An expression that stands in a frame of the ad.
+/// An expression that stands in a frame of the ad. What is called here stands apart, so that to choose among the kinds takes no
+/// place on the stack.
 #[cycle(writing)]
 pub fn write(out: &mut Vec<u8>, ad: &Ad, turns: u32, expr: &Expr) -> Result<(), OutOfMemory>
     ensures { OnOk result (Adds out.old.items (pieces_in (ad_frames ad.now) turns (tree expr.now)) out.new.items) }
@@ -32,8 +33,8 @@ pub fn write(out: &mut Vec<u8>, ad: &Ad, turns: u32, expr: &Expr) -> Result<(), 
         Expr::Name(scope, name) => write_reference(out, *scope, name.bytes()),
         Expr::Unary(op, a) => write_unary(out, ad, turns, *op, a),
         Expr::Binary(op, a, b) => write_binary(out, ad, turns, *op, a, b),
-        Expr::And(list) => write_row(out, ad, turns, b" && ", 11, 10, list),
-        Expr::Or(list) => write_row(out, ad, turns, b" || ", 12, 11, list),
+        Expr::And(list) => write_and(out, ad, turns, list),
+        Expr::Or(list) => write_or(out, ad, turns, list),
         Expr::Cond(a, b, c) => write_choice(out, ad, turns, a, b, c),
         Expr::Select(a, name) => write_selection(out, ad, turns, a, name.bytes()),
         Expr::Subscript(a, b) => write_subscript(out, ad, turns, a, b),
@@ -96,6 +97,24 @@ fn write_binary(
     add_few(out, infix_text(op))?;
     write_part(out, ad, turns, 1 + level, b)?;
     Ok(())
+}
+
+/// A chain of `&&`.
+#[cycle(writing)]
+#[inline(never)]
+fn write_and(out: &mut Vec<u8>, ad: &Ad, turns: u32, list: &Exprs) -> Result<(), OutOfMemory>
+    ensures { OnOk result (Adds out.old.items (row_in (ad_frames ad.now) turns (blank (codes " && ") ∷ []) 11 10 (trees list.now)) out.new.items) }
+{
+    write_row(out, ad, turns, b" && ", 11, 10, list)
+}
+
+/// A chain of `||`.
+#[cycle(writing)]
+#[inline(never)]
+fn write_or(out: &mut Vec<u8>, ad: &Ad, turns: u32, list: &Exprs) -> Result<(), OutOfMemory>
+    ensures { OnOk result (Adds out.old.items (row_in (ad_frames ad.now) turns (blank (codes " || ") ∷ []) 12 11 (trees list.now)) out.new.items) }
+{
+    write_row(out, ad, turns, b" || ", 12, 11, list)
 }
 
 #[cycle(writing)]
@@ -206,7 +225,6 @@ fn write_list(out: &mut Vec<u8>, ad: &Ad, turns: u32, list: &Exprs) -> Result<()
 /// Expressions with these bytes between them; `first` and `other` say how loosely the first and the others may bind
 /// without parentheses.
 #[cycle(writing)]
-#[inline(never)]
 fn write_row(
     out: &mut Vec<u8>,
     ad: &Ad,

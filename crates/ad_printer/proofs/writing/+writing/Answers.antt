@@ -12,11 +12,11 @@ use Rattle.ad_printer.proofs.writing.+writing.Goals.{write_frame-then-turns-eq0-
 
 pub write-returns-in-And : goal.write-returns-in-And
 write-returns-in-And t c =
-    and_arm (ad_frames c.args.ad.now) c.args.turns c.write_row.result (tree c.args.expr.now) (trees c.in-And.list) c.args.out.now.items c.write_row.new.out.items (ap tree c.in-And.is ∙ tree-And c.in-And.list) c.write_row.ensures
+    and_arm (ad_frames c.args.ad.now) c.args.turns c.write_and.result (tree c.args.expr.now) (trees c.in-And.list) c.args.out.now.items c.write_and.new.out.items (ap tree c.in-And.is ∙ tree-And c.in-And.list) c.write_and.ensures
 
 pub write-returns-in-Or : goal.write-returns-in-Or
 write-returns-in-Or t c =
-    or_arm (ad_frames c.args.ad.now) c.args.turns c.write_row-in-Or.result (tree c.args.expr.now) (trees c.in-Or.list) c.args.out.now.items c.write_row-in-Or.new.out.items (ap tree c.in-Or.is ∙ tree-Or c.in-Or.list) c.write_row-in-Or.ensures
+    or_arm (ad_frames c.args.ad.now) c.args.turns c.write_or.result (tree c.args.expr.now) (trees c.in-Or.list) c.args.out.now.items c.write_or.new.out.items (ap tree c.in-Or.is ∙ tree-Or c.in-Or.list) c.write_or.ensures
 
 pub write_call-returns : goal.write_call-returns
 write_call-returns t c =

@@ -22,6 +22,12 @@ decreases-write_unary l = levels l.turns (ad_frames l.ad.now) + 4 * size (tree l
 abbrev pub decreases-write_binary : goal.decreases-write_binary
 decreases-write_binary l = levels l.turns (ad_frames l.ad.now) + 4 * (size (tree l.a.now) + size (tree l.b.now)) + 2
 
+abbrev pub decreases-write_and : goal.decreases-write_and
+decreases-write_and l = levels l.turns (ad_frames l.ad.now) + 4 * size_all (pack (trees l.list.now)) + 3
+
+abbrev pub decreases-write_or : goal.decreases-write_or
+decreases-write_or l = levels l.turns (ad_frames l.ad.now) + 4 * size_all (pack (trees l.list.now)) + 3
+
 abbrev pub decreases-write_choice : goal.decreases-write_choice
 decreases-write_choice l = levels l.turns (ad_frames l.ad.now) + 4 * (size (tree l.condition.now) + (size (tree l.first.now) + size (tree l.second.now))) + 2
 

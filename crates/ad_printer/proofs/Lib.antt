@@ -1,6 +1,7 @@
 mod AddLemmas
 mod BackLemmas
 mod NestTrees
+mod NumberLemmas
 mod QuoteLemmas
 mod QuotingLemmas
 mod ReadLemmas

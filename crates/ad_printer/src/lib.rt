@@ -1,8 +1,10 @@
 //! Text of trees and of values, which the parser reads back.
 #![tactic(auto)]
 
+mod bytes;
 mod laws;
 mod operators;
+mod pieces;
 mod printing;
 mod quoting;
 mod value;

@@ -14,14 +14,19 @@ use ad_value::Value;
 use pool_text::{AdPlace, OutOfMemory, Text};
 use std::alloc::Global;
 
+// Room for a text at first: most ads and most values have no more.
+const AD_ROOM: usize = 4_096;
+
+const VALUE_ROOM: usize = 64;
+
 /// A frame of an ad as an ad literal, `[ name = expression; .. ]`, and `[ ]` where the ad has no such frame.
 /// What is printed of the root of an ad that a parse gave is parsed as an equal ad.
 pub fn print_ad(alloc: Global, ad: &Ad, frame: u32) -> Result<Text, OutOfMemory>
     ensures { IfOk result (λ text. text ≡ printed_frame (ad_frames ad.now) frame) }
 {
-    let mut out = Text::new(alloc);
+    let mut out = Vec::with_capacity(alloc, AD_ROOM)?;
     write_frame(&mut out, ad, ad.frames(), frame)?;
-    Ok(out)
+    Text::from_vec(alloc, out)
 }
 
 /// An expression that stands in a frame of the ad, with its ad literals in place. A frame that the ad hasn't is `[ ]`.
@@ -29,9 +34,9 @@ pub fn print_ad(alloc: Global, ad: &Ad, frame: u32) -> Result<Text, OutOfMemory>
 pub fn print_expr(alloc: Global, ad: &Ad, expr: &Expr) -> Result<Text, OutOfMemory>
     ensures { IfOk result (λ text. text ≡ printed (spelled_tree (ad_frames ad.now) (tree expr.now))) }
 {
-    let mut out = Text::new(alloc);
+    let mut out = Vec::with_capacity(alloc, VALUE_ROOM)?;
     write(&mut out, ad, ad.frames(), expr)?;
-    Ok(out)
+    Text::from_vec(alloc, out)
 }
 
 /// A value. An ad is printed as its frame, of the request for ad 0 and of the other ad for ad 1, and an ad inside a list
@@ -47,9 +52,9 @@ pub fn print_value(
     if let Some(place) = place_of(v) {
         return print_place(alloc, place, request, other);
     }
-    let mut out = Text::new(alloc);
+    let mut out = Vec::with_capacity(alloc, VALUE_ROOM)?;
     write_value(&mut out, v)?;
-    Ok(out)
+    Text::from_vec(alloc, out)
 }
 
 fn print_place(

@@ -9,43 +9,47 @@ ghost use Rattle.ad_printer.specs.Pieces.{is_plain_name, literal_piece, name_pie
 ghost use Rattle.ad_printer.specs.Quotes.{in_quotes, letter_for, octal_digits};
 ghost use Rattle.ad_printer.specs.Writing.{Adds, stands_plain};
 
+use crate::bytes::{is_word_byte, stands_plain};
+use crate::pieces::{add, add_byte, add_few, add_number};
 use ad_tree::Scope;
-use pool_text::{Lit, OutOfMemory, Text, append_number};
+use pool_text::{Lit, OutOfMemory};
 
 /// A literal.
-pub fn write_literal(out: &mut Text, literal: &Lit) -> Result<(), OutOfMemory>
-    ensures { OnOk result (Adds out.old (literal_piece literal.now ∷ []) out.new) }
+#[inline(never)]
+pub fn write_literal(out: &mut Vec<u8>, literal: &Lit) -> Result<(), OutOfMemory>
+    ensures { OnOk result (Adds out.old.items (literal_piece literal.now ∷ []) out.new.items) }
 {
     match literal {
-        Lit::Undefined => out.append(b"undefined")?,
-        Lit::Error => out.append(b"error")?,
-        Lit::Boolean(true) => out.append(b"true")?,
-        Lit::Boolean(false) => out.append(b"false")?,
-        Lit::Integer(n) => append_number(out, *n)?,
+        Lit::Undefined => add_few(out, b"undefined")?,
+        Lit::Error => add_few(out, b"error")?,
+        Lit::Boolean(true) => add_few(out, b"true")?,
+        Lit::Boolean(false) => add_few(out, b"false")?,
+        Lit::Integer(n) => add_number(out, *n)?,
         Lit::Str(text) => write_quoted(out, b'"', text.bytes())?,
     }
     Ok(())
 }
 
 /// A name in its scope.
-pub fn write_reference(out: &mut Text, scope: Scope, name: &[u8]) -> Result<(), OutOfMemory>
-    ensures { OnOk result (Adds out.old (scoped scope name.now) out.new) }
+#[inline(never)]
+pub fn write_reference(out: &mut Vec<u8>, scope: Scope, name: &[u8]) -> Result<(), OutOfMemory>
+    ensures { OnOk result (Adds out.old.items (scoped scope name.now) out.new.items) }
 {
     match scope {
         Scope::Bare => {}
-        Scope::My => out.append(b"MY.")?,
-        Scope::Target => out.append(b"TARGET.")?,
+        Scope::My => add(out, b"MY.")?,
+        Scope::Target => add(out, b"TARGET.")?,
     }
     write_name(out, name)?;
     Ok(())
 }
 
 /// A name as it is where it is a word that means nothing else, and otherwise in quotes.
-pub fn write_name(out: &mut Text, name: &[u8]) -> Result<(), OutOfMemory>
-    ensures { OnOk result (out.new ≡ out.old ++ bytes_of (name_piece name.now)) }
+pub fn write_name(out: &mut Vec<u8>, name: &[u8]) -> Result<(), OutOfMemory>
+    ensures { OnOk result (out.new.items ≡ out.old.items ++ bytes_of (name_piece name.now)) }
 {
     if is_plain_name(name) {
-        out.append(name)
+        add_few(out, name)
     } else {
         write_quoted(out, b'\'', name)
     }
@@ -75,9 +79,7 @@ fn begins_word(byte: u8) -> bool
 fn are_word_bytes(bytes: &[u8]) -> bool
     ensures { result ≡ list_all words.is_word_byte bytes.now }
 {
-    bytes
-        .iter()
-        .all(|byte| byte.is_ascii_alphanumeric() || *byte == b'_')
+    bytes.iter().all(|byte| is_word_byte(*byte))
 }
 
 fn is_reserved(name: &[u8]) -> bool
@@ -101,21 +103,21 @@ fn is_scope(name: &[u8]) -> bool
 }
 
 /// A text between quotes. Bytes that stand as they are are appended as one piece.
-pub fn write_quoted(out: &mut Text, quote: u8, text: &[u8]) -> Result<(), OutOfMemory>
-    ensures { OnOk result (out.new ≡ out.old ++ in_quotes quote text.now) }
+pub fn write_quoted(out: &mut Vec<u8>, quote: u8, text: &[u8]) -> Result<(), OutOfMemory>
+    ensures { OnOk result (out.new.items ≡ out.old.items ++ in_quotes quote text.now) }
 {
-    out.append(&[quote])?;
+    add_byte(out, quote)?;
     let mut rest = text;
     while rest.len() > 0 {
         let (plain, behind) = rest.split_at(plain_len(quote, rest));
-        out.append(plain)?;
+        add(out, plain)?;
         rest = behind;
         if let [byte, more @ ..] = rest {
             write_escape(out, quote, *byte)?;
             rest = more;
         }
     }
-    out.append(&[quote])
+    add_byte(out, quote)
 }
 
 /// How many bytes at the front of a text stand between quotes as they are.
@@ -135,38 +137,32 @@ fn plain_len(quote: u8, text: &[u8]) -> usize
     len
 }
 
-fn stands_plain(quote: u8, byte: u8) -> bool
-    ensures { result ≡ stands_plain quote byte }
-{
-    !(byte == quote || byte == b'\\' || byte < 32 || byte == 127)
-}
-
 /// The letter of one byte.
 #[tactic(auto, unfolding(crate::specs::Quotes::letter_for))]
-fn write_escape(out: &mut Text, quote: u8, byte: u8) -> Result<(), OutOfMemory>
-    ensures { OnOk result (out.new ≡ out.old ++ spelling (letter_for quote byte)) }
+fn write_escape(out: &mut Vec<u8>, quote: u8, byte: u8) -> Result<(), OutOfMemory>
+    ensures { OnOk result (out.new.items ≡ out.old.items ++ spelling (letter_for quote byte)) }
 {
     if byte == quote || byte == b'\\' {
-        return out.append(&[b'\\', byte]);
+        return add(out, &[b'\\', byte]);
     }
     match byte {
-        8 => out.append(b"\\b"),
-        b'\t' => out.append(b"\\t"),
-        b'\n' => out.append(b"\\n"),
-        12 => out.append(b"\\f"),
-        b'\r' => out.append(b"\\r"),
+        8 => add(out, b"\\b"),
+        b'\t' => add(out, b"\\t"),
+        b'\n' => add(out, b"\\n"),
+        12 => add(out, b"\\f"),
+        b'\r' => add(out, b"\\r"),
         _ => write_other(out, byte),
     }
 }
 
-fn write_other(out: &mut Text, byte: u8) -> Result<(), OutOfMemory>
-    ensures { OnOk result (out.new ≡ out.old ++ spelling (if nat_lt byte 32 || byte == 127 then octal (octal_digits byte) else plain byte)) }
+fn write_other(out: &mut Vec<u8>, byte: u8) -> Result<(), OutOfMemory>
+    ensures { OnOk result (out.new.items ≡ out.old.items ++ spelling (if nat_lt byte 32 || byte == 127 then octal (octal_digits byte) else plain byte)) }
 {
     if byte < 32 || byte == 127 {
         let digits = [b'0' + byte / 64, b'0' + byte / 8 % 8, b'0' + byte % 8];
-        out.append(b"\\")?;
-        out.append(&digits)
+        add(out, b"\\")?;
+        add(out, &digits)
     } else {
-        out.append(&[byte])
+        add_byte(out, byte)
     }
 }

@@ -3,9 +3,10 @@ ghost use Rattle.std.specs.Prelude.{◌≡◌, ◌++◌, OnOk};
 ghost use Rattle.ad_value.specs.Plain.{list as list_value, plain, plains, plains_of};
 ghost use Rattle.ad_printer.specs.Values.{place_of, value_text};
 
+use crate::pieces::{add, add_number};
 use crate::quoting::write_quoted;
 use ad_value::{Value, Values};
-use pool_text::{AdPlace, OutOfMemory, Text, append_number};
+use pool_text::{AdPlace, OutOfMemory};
 
 /// The place of an ad.
 pub fn place_of(v: &Value) -> Option<AdPlace>
@@ -24,35 +25,35 @@ pub fn place_of(v: &Value) -> Option<AdPlace>
 
 /// A value as it stands inside a list.
 #[cycle(value)]
-pub fn write_value(out: &mut Text, v: &Value) -> Result<(), OutOfMemory>
-    ensures { OnOk result (out.new ≡ out.old ++ value_text (plain v.now)) }
+pub fn write_value(out: &mut Vec<u8>, v: &Value) -> Result<(), OutOfMemory>
+    ensures { OnOk result (out.new.items ≡ out.old.items ++ value_text (plain v.now)) }
 {
     match v {
-        Value::Undefined => out.append(b"undefined"),
-        Value::Error => out.append(b"error"),
-        Value::Boolean(true) => out.append(b"true"),
-        Value::Boolean(false) => out.append(b"false"),
-        Value::Integer(n) => append_number(out, *n),
+        Value::Undefined => add(out, b"undefined"),
+        Value::Error => add(out, b"error"),
+        Value::Boolean(true) => add(out, b"true"),
+        Value::Boolean(false) => add(out, b"false"),
+        Value::Integer(n) => add_number(out, *n),
         Value::Str(text) => write_quoted(out, b'"', text.bytes()),
         Value::List(values) => write_values(out, values),
-        Value::Ad(_) => out.append(b"[...]"),
+        Value::Ad(_) => add(out, b"[...]"),
     }
 }
 
 #[cycle(value)]
-fn write_values(out: &mut Text, values: &Values) -> Result<(), OutOfMemory>
-    ensures { OnOk result (out.new ≡ out.old ++ value_text (list_value (plains_of (plains values.now)))) }
+fn write_values(out: &mut Vec<u8>, values: &Values) -> Result<(), OutOfMemory>
+    ensures { OnOk result (out.new.items ≡ out.old.items ++ value_text (list_value (plains_of (plains values.now)))) }
 {
     if values.len() == 0 {
-        out.append(b"{ }")?;
+        add(out, b"{ }")?;
         return Ok(());
     }
-    out.append(b"{ ")?;
+    add(out, b"{ ")?;
     write_value(out, values.at(0))?;
     for i in 1..values.len() {
-        out.append(b", ")?;
+        add(out, b", ")?;
         write_value(out, values.at(i))?;
     }
-    out.append(b" }")?;
+    add(out, b" }")?;
     Ok(())
 }

@@ -1,6 +1,6 @@
 // The text of expressions and frames, appended piece by piece. `turns` bounds the descent through frames; an ad's number
 // of frames is enough of them.
-ghost use Rattle.std.specs.Prelude.{◌≡◌, ◌<◌, ◌∷◌, [], length, OnOk};
+ghost use Rattle.std.specs.Prelude.{◌≡◌, ◌<◌, ◌∷◌, [], codes, length, OnOk};
 ghost use Rattle.ad_lexer.specs.Tokens.{blank};
 ghost use Rattle.ad_tree.specs.Ad.{ad_frames};
 ghost use Rattle.ad_tree.specs.Frames.{attributes_at};
@@ -10,9 +10,10 @@ ghost use Rattle.ad_printer.specs.Printed.{pieces};
 ghost use Rattle.ad_printer.specs.Writing.{Adds, definition_in, definitions_in, part_in, pieces_in, row_in};
 
 use crate::operators::{infix_text, loose, precedence, prefix_text};
+use crate::pieces::{add, add_few};
 use crate::quoting::{write_literal, write_name, write_reference};
 use ad_tree::{Ad, Expr, Exprs};
-use pool_text::{BinOp, OutOfMemory, Text, UnOp};
+use pool_text::{BinOp, OutOfMemory, UnOp};
 
 /// How loosely the operand of an operator before it may bind without parentheses, and a condition, and anything.
 const OPERAND: u8 = 2;
@@ -21,18 +22,19 @@ const CONDITION: u8 = 12;
 
 const LAST_PRECEDENCE: u8 = 13;
 
-/// An expression that stands in a frame of the ad.
+/// An expression that stands in a frame of the ad. What is called here stands apart, so that to choose among the kinds takes no
+/// place on the stack.
 #[cycle(writing)]
-pub fn write(out: &mut Text, ad: &Ad, turns: u32, expr: &Expr) -> Result<(), OutOfMemory>
-    ensures { OnOk result (Adds out.old (pieces_in (ad_frames ad.now) turns (tree expr.now)) out.new) }
+pub fn write(out: &mut Vec<u8>, ad: &Ad, turns: u32, expr: &Expr) -> Result<(), OutOfMemory>
+    ensures { OnOk result (Adds out.old.items (pieces_in (ad_frames ad.now) turns (tree expr.now)) out.new.items) }
 {
     match expr {
         Expr::Literal(literal) => write_literal(out, literal),
         Expr::Name(scope, name) => write_reference(out, *scope, name.bytes()),
         Expr::Unary(op, a) => write_unary(out, ad, turns, *op, a),
         Expr::Binary(op, a, b) => write_binary(out, ad, turns, *op, a, b),
-        Expr::And(list) => write_row(out, ad, turns, b" && ", 11, 10, list),
-        Expr::Or(list) => write_row(out, ad, turns, b" || ", 12, 11, list),
+        Expr::And(list) => write_and(out, ad, turns, list),
+        Expr::Or(list) => write_or(out, ad, turns, list),
         Expr::Cond(a, b, c) => write_choice(out, ad, turns, a, b, c),
         Expr::Select(a, name) => write_selection(out, ad, turns, a, name.bytes()),
         Expr::Subscript(a, b) => write_subscript(out, ad, turns, a, b),
@@ -45,115 +47,145 @@ pub fn write(out: &mut Text, ad: &Ad, turns: u32, expr: &Expr) -> Result<(), Out
 /// An operand, in parentheses where it binds more loosely than `bound`.
 #[cycle(writing)]
 fn write_part(
-    out: &mut Text,
+    out: &mut Vec<u8>,
     ad: &Ad,
     turns: u32,
     bound: u8,
     expr: &Expr,
 ) -> Result<(), OutOfMemory>
-    ensures { OnOk result (Adds out.old (part_in (ad_frames ad.now) turns bound (tree expr.now)) out.new) }
+    ensures { OnOk result (Adds out.old.items (part_in (ad_frames ad.now) turns bound (tree expr.now)) out.new.items) }
 {
     if loose(expr) <= bound {
         return write(out, ad, turns, expr);
     }
-    out.append(b"(")?;
+    add(out, b"(")?;
     write(out, ad, turns, expr)?;
-    out.append(b")")?;
+    add(out, b")")?;
     Ok(())
 }
 
 #[cycle(writing)]
-fn write_unary(out: &mut Text, ad: &Ad, turns: u32, op: UnOp, a: &Expr) -> Result<(), OutOfMemory>
-    ensures { OnOk result (Adds out.old (pieces_in (ad_frames ad.now) turns (node (unary op) (one (tree a.now)))) out.new) }
+#[inline(never)]
+fn write_unary(
+    out: &mut Vec<u8>,
+    ad: &Ad,
+    turns: u32,
+    op: UnOp,
+    a: &Expr,
+) -> Result<(), OutOfMemory>
+    ensures { OnOk result (Adds out.old.items (pieces_in (ad_frames ad.now) turns (node (unary op) (one (tree a.now)))) out.new.items) }
 {
-    out.append(prefix_text(op))?;
+    add(out, prefix_text(op))?;
     write_part(out, ad, turns, OPERAND, a)?;
     Ok(())
 }
 
 #[cycle(writing)]
+#[inline(never)]
 fn write_binary(
-    out: &mut Text,
+    out: &mut Vec<u8>,
     ad: &Ad,
     turns: u32,
     op: BinOp,
     a: &Expr,
     b: &Expr,
 ) -> Result<(), OutOfMemory>
-    ensures { OnOk result (Adds out.old (pieces_in (ad_frames ad.now) turns (node (binary op) (two (tree a.now) (tree b.now)))) out.new) }
+    ensures { OnOk result (Adds out.old.items (pieces_in (ad_frames ad.now) turns (node (binary op) (two (tree a.now) (tree b.now)))) out.new.items) }
 {
     let level = precedence(op);
     write_part(out, ad, turns, 2 + level, a)?;
-    out.append(infix_text(op))?;
+    add_few(out, infix_text(op))?;
     write_part(out, ad, turns, 1 + level, b)?;
     Ok(())
 }
 
+/// A chain of `&&`.
 #[cycle(writing)]
+#[inline(never)]
+fn write_and(out: &mut Vec<u8>, ad: &Ad, turns: u32, list: &Exprs) -> Result<(), OutOfMemory>
+    ensures { OnOk result (Adds out.old.items (row_in (ad_frames ad.now) turns (blank (codes " && ") ∷ []) 11 10 (trees list.now)) out.new.items) }
+{
+    write_row(out, ad, turns, b" && ", 11, 10, list)
+}
+
+/// A chain of `||`.
+#[cycle(writing)]
+#[inline(never)]
+fn write_or(out: &mut Vec<u8>, ad: &Ad, turns: u32, list: &Exprs) -> Result<(), OutOfMemory>
+    ensures { OnOk result (Adds out.old.items (row_in (ad_frames ad.now) turns (blank (codes " || ") ∷ []) 12 11 (trees list.now)) out.new.items) }
+{
+    write_row(out, ad, turns, b" || ", 12, 11, list)
+}
+
+#[cycle(writing)]
+#[inline(never)]
 fn write_choice(
-    out: &mut Text,
+    out: &mut Vec<u8>,
     ad: &Ad,
     turns: u32,
     condition: &Expr,
     first: &Expr,
     second: &Expr,
 ) -> Result<(), OutOfMemory>
-    ensures { OnOk result (Adds out.old
-        (pieces_in (ad_frames ad.now) turns (node choice (three (tree condition.now) (tree first.now) (tree second.now)))) out.new) }
+    ensures { OnOk result (Adds out.old.items
+        (pieces_in (ad_frames ad.now) turns (node choice (three (tree condition.now) (tree first.now) (tree second.now)))) out.new.items) }
 {
     write_part(out, ad, turns, CONDITION, condition)?;
-    out.append(b" ? ")?;
+    add(out, b" ? ")?;
     write_part(out, ad, turns, LAST_PRECEDENCE, first)?;
-    out.append(b" : ")?;
+    add(out, b" : ")?;
     write_part(out, ad, turns, LAST_PRECEDENCE, second)?;
     Ok(())
 }
 
 #[cycle(writing)]
+#[inline(never)]
 fn write_selection(
-    out: &mut Text,
+    out: &mut Vec<u8>,
     ad: &Ad,
     turns: u32,
     base: &Expr,
     name: &[u8],
 ) -> Result<(), OutOfMemory>
-    ensures { OnOk result (Adds out.old (pieces_in (ad_frames ad.now) turns (node (select name.now) (one (tree base.now)))) out.new) }
+    ensures { OnOk result (Adds out.old.items (pieces_in (ad_frames ad.now) turns (node (select name.now) (one (tree base.now)))) out.new.items) }
 {
     write_part(out, ad, turns, 0, base)?;
-    out.append(b".")?;
+    add(out, b".")?;
     write_name(out, name)?;
     Ok(())
 }
 
 #[cycle(writing)]
+#[inline(never)]
 fn write_subscript(
-    out: &mut Text,
+    out: &mut Vec<u8>,
     ad: &Ad,
     turns: u32,
     base: &Expr,
     place: &Expr,
 ) -> Result<(), OutOfMemory>
-    ensures { OnOk result (Adds out.old (pieces_in (ad_frames ad.now) turns (node subscript (two (tree base.now) (tree place.now)))) out.new) }
+    ensures { OnOk result (Adds out.old.items (pieces_in (ad_frames ad.now) turns (node subscript (two (tree base.now) (tree place.now)))) out.new.items) }
 {
     write_part(out, ad, turns, 1, base)?;
-    out.append(b"[")?;
+    add(out, b"[")?;
     write_part(out, ad, turns, LAST_PRECEDENCE, place)?;
-    out.append(b"]")?;
+    add(out, b"]")?;
     Ok(())
 }
 
 #[cycle(writing)]
+#[inline(never)]
 fn write_call(
-    out: &mut Text,
+    out: &mut Vec<u8>,
     ad: &Ad,
     turns: u32,
     name: &[u8],
     list: &Exprs,
 ) -> Result<(), OutOfMemory>
-    ensures { OnOk result (Adds out.old (pieces_in (ad_frames ad.now) turns (node (call_label name.now) (pack (trees list.now)))) out.new) }
+    ensures { OnOk result (Adds out.old.items (pieces_in (ad_frames ad.now) turns (node (call_label name.now) (pack (trees list.now)))) out.new.items) }
 {
-    out.append(name)?;
-    out.append(b"(")?;
+    add(out, name)?;
+    add(out, b"(")?;
     write_row(
         out,
         ad,
@@ -163,19 +195,20 @@ fn write_call(
         LAST_PRECEDENCE,
         list,
     )?;
-    out.append(b")")?;
+    add(out, b")")?;
     Ok(())
 }
 
 #[cycle(writing)]
-fn write_list(out: &mut Text, ad: &Ad, turns: u32, list: &Exprs) -> Result<(), OutOfMemory>
-    ensures { OnOk result (Adds out.old (pieces_in (ad_frames ad.now) turns (node list_label (pack (trees list.now)))) out.new) }
+#[inline(never)]
+fn write_list(out: &mut Vec<u8>, ad: &Ad, turns: u32, list: &Exprs) -> Result<(), OutOfMemory>
+    ensures { OnOk result (Adds out.old.items (pieces_in (ad_frames ad.now) turns (node list_label (pack (trees list.now)))) out.new.items) }
 {
     if list.len() == 0 {
-        out.append(b"{ }")?;
+        add(out, b"{ }")?;
         return Ok(());
     }
-    out.append(b"{ ")?;
+    add(out, b"{ ")?;
     write_row(
         out,
         ad,
@@ -185,7 +218,7 @@ fn write_list(out: &mut Text, ad: &Ad, turns: u32, list: &Exprs) -> Result<(), O
         LAST_PRECEDENCE,
         list,
     )?;
-    out.append(b" }")?;
+    add(out, b" }")?;
     Ok(())
 }
 
@@ -193,7 +226,7 @@ fn write_list(out: &mut Text, ad: &Ad, turns: u32, list: &Exprs) -> Result<(), O
 /// without parentheses.
 #[cycle(writing)]
 fn write_row(
-    out: &mut Text,
+    out: &mut Vec<u8>,
     ad: &Ad,
     turns: u32,
     between: &[u8],
@@ -201,14 +234,14 @@ fn write_row(
     other: u8,
     list: &Exprs,
 ) -> Result<(), OutOfMemory>
-    ensures { OnOk result (Adds out.old (row_in (ad_frames ad.now) turns (blank between.now ∷ []) first other (trees list.now)) out.new) }
+    ensures { OnOk result (Adds out.old.items (row_in (ad_frames ad.now) turns (blank between.now ∷ []) first other (trees list.now)) out.new.items) }
 {
     if list.len() == 0 {
         return Ok(());
     }
     write_part(out, ad, turns, first, list.at(0))?;
     for i in 1..list.len() {
-        out.append(between)?;
+        add_few(out, between)?;
         write_part(out, ad, turns, other, list.at(i))?;
     }
     Ok(())
@@ -216,28 +249,29 @@ fn write_row(
 
 /// A frame of the ad as an ad literal: `[ ]` where no turns are left or there is no such frame.
 #[cycle(writing)]
-pub fn write_frame(out: &mut Text, ad: &Ad, turns: u32, frame: u32) -> Result<(), OutOfMemory>
-    ensures { OnOk result (Adds out.old (pieces (opened (ad_frames ad.now) turns frame)) out.new) }
+#[inline(never)]
+pub fn write_frame(out: &mut Vec<u8>, ad: &Ad, turns: u32, frame: u32) -> Result<(), OutOfMemory>
+    ensures { OnOk result (Adds out.old.items (pieces (opened (ad_frames ad.now) turns frame)) out.new.items) }
 {
     if turns == 0 || frame >= ad.frames() || ad.count(frame) == 0 {
-        out.append(b"[ ]")?;
+        add(out, b"[ ]")?;
         return Ok(());
     }
-    out.append(b"[ ")?;
+    add(out, b"[ ")?;
     write_definitions(out, ad, turns - 1, frame)?;
-    out.append(b" ]")?;
+    add(out, b" ]")?;
     Ok(())
 }
 
 #[cycle(writing)]
-fn write_definitions(out: &mut Text, ad: &Ad, turns: u32, frame: u32) -> Result<(), OutOfMemory>
+fn write_definitions(out: &mut Vec<u8>, ad: &Ad, turns: u32, frame: u32) -> Result<(), OutOfMemory>
     requires frame { frame < length (ad_frames ad.now) }
     requires some { 0 < length (attributes_at (ad_frames ad.now) frame) }
-    ensures { OnOk result (Adds out.old (definitions_in (ad_frames ad.now) turns (attributes_at (ad_frames ad.now) frame)) out.new) }
+    ensures { OnOk result (Adds out.old.items (definitions_in (ad_frames ad.now) turns (attributes_at (ad_frames ad.now) frame)) out.new.items) }
 {
     write_definition(out, ad, turns, ad.name(frame, 0).bytes(), ad.expr(frame, 0))?;
     for attr in 1..ad.count(frame) {
-        out.append(b"; ")?;
+        add(out, b"; ")?;
         write_definition(
             out,
             ad,
@@ -251,16 +285,16 @@ fn write_definitions(out: &mut Text, ad: &Ad, turns: u32, frame: u32) -> Result<
 
 #[cycle(writing)]
 fn write_definition(
-    out: &mut Text,
+    out: &mut Vec<u8>,
     ad: &Ad,
     turns: u32,
     name: &[u8],
     expr: &Expr,
 ) -> Result<(), OutOfMemory>
-    ensures { OnOk result (Adds out.old (definition_in (ad_frames ad.now) turns name.now (tree expr.now)) out.new) }
+    ensures { OnOk result (Adds out.old.items (definition_in (ad_frames ad.now) turns name.now (tree expr.now)) out.new.items) }
 {
     write_name(out, name)?;
-    out.append(b" = ")?;
+    add(out, b" = ")?;
     write(out, ad, turns, expr)?;
     Ok(())
 }

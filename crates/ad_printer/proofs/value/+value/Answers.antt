@@ -12,5 +12,5 @@ write_values-write_value-requires-in-loop-i t c = (omega (arith, c.decreases, we
 
 pub write_values-loop-i-preserved : goal.write_values-loop-i-preserved
 write_values-loop-i-preserved t c =
-    element_step (plains c.args.values.now) c.loop-i.i (plain c.at-in-loop-i.result.now) c.loop-i.out c.append-in-loop-i.new.self c.write_value-in-loop-i.new.out _
-    c.at-in-loop-i.ensures c.in_ok-append-3.ensures.ok c.in_ok-write_value-2.ensures c.loop-i.invariant
+    element_step (plains c.args.values.now) c.loop-i.i (plain c.at-in-loop-i.result.now) c.loop-i.out.items c.add-in-loop-i.new.out.items c.write_value-in-loop-i.new.out.items _
+    c.at-in-loop-i.ensures c.in_ok-add-3.ensures c.in_ok-write_value-2.ensures c.loop-i.invariant

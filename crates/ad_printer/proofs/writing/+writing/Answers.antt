@@ -12,21 +12,21 @@ use Rattle.ad_printer.proofs.writing.+writing.Goals.{write_frame-then-turns-eq0-
 
 pub write-returns-in-And : goal.write-returns-in-And
 write-returns-in-And t c =
-    and_arm (ad_frames c.args.ad.now) c.args.turns c.write_row.result (tree c.args.expr.now) (trees c.in-And.list) c.args.out.now c.write_row.new.out (ap tree c.in-And.is ∙ tree-And c.in-And.list) c.write_row.ensures
+    and_arm (ad_frames c.args.ad.now) c.args.turns c.write_and.result (tree c.args.expr.now) (trees c.in-And.list) c.args.out.now.items c.write_and.new.out.items (ap tree c.in-And.is ∙ tree-And c.in-And.list) c.write_and.ensures
 
 pub write-returns-in-Or : goal.write-returns-in-Or
 write-returns-in-Or t c =
-    or_arm (ad_frames c.args.ad.now) c.args.turns c.write_row-in-Or.result (tree c.args.expr.now) (trees c.in-Or.list) c.args.out.now c.write_row-in-Or.new.out (ap tree c.in-Or.is ∙ tree-Or c.in-Or.list) c.write_row-in-Or.ensures
+    or_arm (ad_frames c.args.ad.now) c.args.turns c.write_or.result (tree c.args.expr.now) (trees c.in-Or.list) c.args.out.now.items c.write_or.new.out.items (ap tree c.in-Or.is ∙ tree-Or c.in-Or.list) c.write_or.ensures
 
 pub write_call-returns : goal.write_call-returns
 write_call-returns t c =
-    call_text (ad_frames c.args.ad.now) c.args.turns c.args.name.now (trees c.args.list.now) c.args.out.now c.append.new.self c.append-2.new.self c.write_row.new.out c.append-3.new.self
-    c.in_ok-append.ensures.ok c.in_ok-append-2.ensures.ok c.in_ok-write_row.ensures c.in_ok-append-3.ensures.ok
+    call_text (ad_frames c.args.ad.now) c.args.turns c.args.name.now (trees c.args.list.now) c.args.out.now.items c.add.new.out.items c.add-2.new.out.items c.write_row.new.out.items c.add-3.new.out.items
+    c.in_ok-add.ensures c.in_ok-add-2.ensures c.in_ok-write_row.ensures c.in_ok-add-3.ensures
 
 pub write_list-returns : goal.write_list-returns
 write_list-returns t c =
-    list_text (ad_frames c.args.ad.now) c.args.turns (trees c.args.list.now) c.args.out.now c.append-2.new.self c.write_row.new.out c.append-3.new.self
-    (omega (arith, c.len.ensures, c.if-len-eq0.false)) c.in_ok-append-2.ensures.ok c.in_ok-write_row.ensures c.in_ok-append-3.ensures.ok
+    list_text (ad_frames c.args.ad.now) c.args.turns (trees c.args.list.now) c.args.out.now.items c.add-2.new.out.items c.write_row.new.out.items c.add-3.new.out.items
+    (omega (arith, c.len.ensures, c.if-len-eq0.false)) c.in_ok-add-2.ensures c.in_ok-write_row.ensures c.in_ok-add-3.ensures
 
 pub write_row-write_part-requires : goal.write_row-write_part-requires
 write_row-write_part-requires t c = (omega (arith, c.decreases, size-at (trees c.args.list.now) 0 (tree c.at.result.now) c.at.ensures), tt)
@@ -36,8 +36,8 @@ write_row-write_part-requires-in-loop-i t c = (omega (arith, c.decreases, size-a
 
 pub write_row-loop-i-preserved : goal.write_row-loop-i-preserved
 write_row-loop-i-preserved t c =
-    row_step (ad_frames c.args.ad.now) c.args.turns (blank c.args.between.now ∷ []) c.args.other (trees c.args.list.now) c.loop-i.i (tree c.at-in-loop-i.result.now) c.loop-i.out c.append.new.self c.write_part-in-loop-i.new.out _
-    c.at-in-loop-i.ensures (c.in_ok-append.ensures.ok ∙ ap (λ bytes. c.loop-i.out ++ bytes) (sym (append-nil c.args.between.now))) c.in_ok-write_part-2.ensures c.loop-i.invariant
+    row_step (ad_frames c.args.ad.now) c.args.turns (blank c.args.between.now ∷ []) c.args.other (trees c.args.list.now) c.loop-i.i (tree c.at-in-loop-i.result.now) c.loop-i.out.items c.add_few.new.out.items c.write_part-in-loop-i.new.out.items _
+    c.at-in-loop-i.ensures (c.in_ok-add_few.ensures ∙ ap (λ bytes. c.loop-i.out.items ++ bytes) (sym (append-nil c.args.between.now))) c.in_ok-write_part-2.ensures c.loop-i.invariant
 
 pub write_definitions-write_definition-requires : goal.write_definitions-write_definition-requires
 write_definitions-write_definition-requires t c = (omega (arith, c.decreases, value-size (attributes_at (ad_frames c.args.ad.now) c.args.frame) 0 (tree c.expr.result.now) c.expr.ensures), tt)
@@ -49,22 +49,22 @@ write_definitions-write_definition-requires-in-loop-attr t c =
 pub write_definitions-loop-attr-preserved : goal.write_definitions-loop-attr-preserved
 write_definitions-loop-attr-preserved t c =
     definition_step (ad_frames c.args.ad.now) c.args.turns (then_space (codes ";")) (attributes_at (ad_frames c.args.ad.now) c.args.frame) c.loop-attr.attr c.bytes-in-loop-attr.result.now (tree c.expr-in-loop-attr.result.now)
-    c.loop-attr.out c.append.new.self c.write_definition-in-loop-attr.new.out _
-    (c.name-in-loop-attr.ensures ∙ ap Some (sym c.bytes-in-loop-attr.ensures)) c.expr-in-loop-attr.ensures c.in_ok-append.ensures.ok c.in_ok-write_definition-2.ensures c.loop-attr.invariant
+    c.loop-attr.out.items c.add.new.out.items c.write_definition-in-loop-attr.new.out.items _
+    (c.name-in-loop-attr.ensures ∙ ap Some (sym c.bytes-in-loop-attr.ensures)) c.expr-in-loop-attr.ensures c.in_ok-add.ensures c.in_ok-write_definition-2.ensures c.loop-attr.invariant
 
 pub write_definitions-returns : goal.write_definitions-returns
 write_definitions-returns t c =
-    definitions_text (ad_frames c.args.ad.now) c.args.turns (attributes_at (ad_frames c.args.ad.now) c.args.frame) c.bytes.result.now (tree c.expr.result.now) c.loop-attr.attr c.args.out.now c.write_definition.new.out c.loop-attr.out
+    definitions_text (ad_frames c.args.ad.now) c.args.turns (attributes_at (ad_frames c.args.ad.now) c.args.frame) c.bytes.result.now (tree c.expr.result.now) c.loop-attr.attr c.args.out.now.items c.write_definition.new.out.items c.loop-attr.out.items
     (c.name.ensures ∙ ap Some (sym c.bytes.ensures)) c.expr.ensures c.in_ok-write_definition.ensures c.loop-attr.invariant (omega (arith, c.count-attr-end.ensures, c.loop-attr-test.false))
 
 pub write_frame-returns-then-turns-eq0 : goal.write_frame-returns-then-turns-eq0
 write_frame-returns-then-turns-eq0 t c =
     elim c.then-turns-eq0.branch [
-      | write_frame-then-turns-eq0-via-then-turns-eq0 w ↦ no_turns_text (ad_frames c.args.ad.now) c.args.turns c.args.frame c.args.out.now c.append.new.self (omega (arith, w.if-turns-eq0.true)) c.in_ok-append.ensures.ok
+      | write_frame-then-turns-eq0-via-then-turns-eq0 w ↦ no_turns_text (ad_frames c.args.ad.now) c.args.turns c.args.frame c.args.out.now.items c.add.new.out.items (omega (arith, w.if-turns-eq0.true)) c.in_ok-add.ensures
       | write_frame-then-turns-eq0-via-else-turns-eq0+then-frame-frames w ↦
-          missing_text (ad_frames c.args.ad.now) c.args.turns c.args.frame c.args.out.now c.append.new.self (omega (arith, w.frames.ensures, w.if-frame-frames.true)) c.in_ok-append.ensures.ok
+          missing_text (ad_frames c.args.ad.now) c.args.turns c.args.frame c.args.out.now.items c.add.new.out.items (omega (arith, w.frames.ensures, w.if-frame-frames.true)) c.in_ok-add.ensures
       | write_frame-then-turns-eq0-via-else-turns-eq0+else-frame-frames+then-count-eq0 w ↦
-          no_attributes_text (ad_frames c.args.ad.now) c.args.turns c.args.frame c.args.out.now c.append.new.self (omega (arith, w.count.ensures, w.if-count-eq0.true)) c.in_ok-append.ensures.ok
+          no_attributes_text (ad_frames c.args.ad.now) c.args.turns c.args.frame c.args.out.now.items c.add.new.out.items (omega (arith, w.count.ensures, w.if-count-eq0.true)) c.in_ok-add.ensures
     ]
 
 pub write_frame-write_definitions-requires : goal.write_frame-write_definitions-requires
@@ -75,5 +75,5 @@ write_frame-write_definitions-requires t c = (
 
 pub write_frame-returns : goal.write_frame-returns
 write_frame-returns t c =
-    frame_text (ad_frames c.args.ad.now) c.args.turns c.args.frame c.args.out.now c.append-2.new.self c.write_definitions.new.out c.append-3.new.self
-    (omega (arith, c.if-turns-eq0.false)) (omega (arith, c.count.ensures, c.if-count-eq0.false)) c.in_ok-append-2.ensures.ok c.in_ok-write_definitions.ensures c.in_ok-append-3.ensures.ok
+    frame_text (ad_frames c.args.ad.now) c.args.turns c.args.frame c.args.out.now.items c.add-2.new.out.items c.write_definitions.new.out.items c.add-3.new.out.items
+    (omega (arith, c.if-turns-eq0.false)) (omega (arith, c.count.ensures, c.if-count-eq0.false)) c.in_ok-add-2.ensures c.in_ok-write_definitions.ensures c.in_ok-add-3.ensures

@@ -22,6 +22,12 @@ decreases-write_unary l = levels l.turns (ad_frames l.ad.now) + 4 * size (tree l
 abbrev pub decreases-write_binary : goal.decreases-write_binary
 decreases-write_binary l = levels l.turns (ad_frames l.ad.now) + 4 * (size (tree l.a.now) + size (tree l.b.now)) + 2
 
+abbrev pub decreases-write_and : goal.decreases-write_and
+decreases-write_and l = levels l.turns (ad_frames l.ad.now) + 4 * size_all (pack (trees l.list.now)) + 3
+
+abbrev pub decreases-write_or : goal.decreases-write_or
+decreases-write_or l = levels l.turns (ad_frames l.ad.now) + 4 * size_all (pack (trees l.list.now)) + 3
+
 abbrev pub decreases-write_choice : goal.decreases-write_choice
 decreases-write_choice l = levels l.turns (ad_frames l.ad.now) + 4 * (size (tree l.condition.now) + (size (tree l.first.now) + size (tree l.second.now))) + 2
 
@@ -53,9 +59,9 @@ decreases-write_definition l = levels l.turns (ad_frames l.ad.now) + 4 * size (t
 
 abbrev pub invariant-write_row-loop-i : goal.invariant-write_row-loop-i
 invariant-write_row-loop-i l =
-    l.out ++ rest_of_row (ad_frames l.ad) l.turns (blank l.between ∷ []) l.other (drop l.i (trees l.list)) ≡ l.initial.out ++ rest_of_row (ad_frames l.ad) l.turns (blank l.between ∷ []) l.other (drop 1 (trees l.list))
+    l.out.items ++ rest_of_row (ad_frames l.ad) l.turns (blank l.between ∷ []) l.other (drop l.i (trees l.list)) ≡ l.initial.out.items ++ rest_of_row (ad_frames l.ad) l.turns (blank l.between ∷ []) l.other (drop 1 (trees l.list))
 
 abbrev pub invariant-write_definitions-loop-attr : goal.invariant-write_definitions-loop-attr
 invariant-write_definitions-loop-attr l =
-    l.out ++ rest_of_definitions (ad_frames l.ad) l.turns (then_space (codes ";")) (drop l.attr (attributes_at (ad_frames l.ad) l.frame))
-    ≡ l.initial.out ++ rest_of_definitions (ad_frames l.ad) l.turns (then_space (codes ";")) (drop 1 (attributes_at (ad_frames l.ad) l.frame))
+    l.out.items ++ rest_of_definitions (ad_frames l.ad) l.turns (then_space (codes ";")) (drop l.attr (attributes_at (ad_frames l.ad) l.frame))
+    ≡ l.initial.out.items ++ rest_of_definitions (ad_frames l.ad) l.turns (then_space (codes ";")) (drop 1 (attributes_at (ad_frames l.ad) l.frame))

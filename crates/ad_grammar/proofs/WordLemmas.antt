@@ -6,7 +6,8 @@ use Rattle.std.proofs.lemmas.Slice.Eq.{bytes_eq-Decides}
 use Rattle.std.specs.Str.{bytes_eq}
 use Rattle.pool_text.specs.Folding.{folded}
 use Rattle.pool_text.specs.declared.language.BinOp.TheVariants.{Same, NotSame}
-use Rattle.pool_text.specs.declared.language.Lit.TheVariants.{Undefined, Error, Boolean}
+use Rattle.pool_text.specs.declared.language.Lit.TheVariants.{Undefined, Error, Boolean, Str}
+use Rattle.ad_lexer.specs.Content.{content}
 use Rattle.ad_lexer.specs.Lexeme.{Lexeme}
 use Rattle.ad_lexer.specs.Marks.{meaning_of, marks, mark_words, mark_of_kind, mark_of_lexeme, marks_of}
 use Rattle.ad_lexer.specs.Numbers.{value}
@@ -143,12 +144,22 @@ drop-next xs i = ap (λ n. drop n xs) (add-one i) ∙ by xs i
     by (y ∷ ys) zero = refl
     by (y ∷ ys) (suc k) = by ys k
 
--- what is spelled as a string or a quoted name is a quotation
+-- what is spelled as a string or a quoted name is a quotation, and means its content
 pub string-quotation : (kind : TokenKind) (bytes : List ℕ) → kind ≡ kinds.Str → Spells kind bytes → IsQuotation bytes
 string-quotation kind bytes is spells = let string = subst (λ k. Spells k bytes) is spells in inl (string.0, string.1)
 
 pub name-quotation : (kind : TokenKind) (bytes : List ℕ) → kind ≡ kinds.Quoted → Spells kind bytes → IsQuotation bytes
 name-quotation kind bytes is spells = let name = subst (λ k. Spells k bytes) is spells in inr (name.0, name.1)
+
+pub string-word : (kind : TokenKind) (bytes : List ℕ) → kind ≡ kinds.Str → word_of_kind kind bytes ≡ constant (Str (content bytes))
+string-word kind bytes is = ap (λ k. word_of_kind k bytes) is
+
+pub name-word : (kind : TokenKind) (bytes : List ℕ) → kind ≡ kinds.Quoted → word_of_kind kind bytes ≡ quoted (content bytes)
+name-word kind bytes is = ap (λ k. word_of_kind k bytes) is
+
+-- the token at a place is one
+pub same-token : (ts : List Lexeme) (i : ℕ) (t u : Lexeme) → slice_get ts i ≡ Some t → slice_get ts i ≡ Some u → t ≡ u
+same-token ts i t u e f = cc (e, f)
 
 pub integer-fits : (kind : TokenKind) (bytes : List ℕ) → kind ≡ kinds.Int → Spells kind bytes → value bytes < 2 ^ 63
 integer-fits kind bytes is spells = ltb-true (value bytes) (2 ^ 63) (and_parts _ _ (subst (λ k. Spells k bytes) is spells)).1

@@ -7,7 +7,7 @@ use crate::operators::{ends, extends, infix_of, prefix_of};
 use crate::stop::Stop;
 use crate::word::literal;
 use ad_builder::{Infix, Instruction};
-use ad_lexer::{Mark, Token, TokenKind, Tokens, content};
+use ad_lexer::{Mark, Token, TokenKind, Tokens};
 use ad_tree::Scope;
 use pool_text::{Lit, OutOfMemory, Text, UnOp};
 use std::alloc::Global;
@@ -27,7 +27,7 @@ pub struct Reader<'a> {
 }
 
 impl<'a> Reader<'a> {
-    ghost use Rattle.std.specs.Prelude.{◌<◌, ◌∷◌, ◌^◌, ℕ, List, drop, [], Some, None, Ok, Err, IfSome, true, false};
+    ghost use Rattle.std.specs.Prelude.{◌<◌, ◌∷◌, ◌^◌, ℕ, List, drop, slice_get, [], Some, None, Ok, Err, IfSome, true, false};
     ghost use Rattle.std.specs.Borrow.{Bor};
     ghost use Rattle.std.specs.Bool.{Decides};
     ghost use Rattle.ad_grammar.specs.Levels.{precedence_at};
@@ -72,6 +72,7 @@ impl<'a> Reader<'a> {
         ensures some { IfSome result (λ token. left self.now ≡ word (lexeme token) ∷ drop 1 (left self.now)) }
         ensures is { IfSome result (λ token. unmarked (word (lexeme token)) ≡ word (lexeme token)) }
         ensures spelled { IfSome result (λ token. ∥ Spells token.kind token.text.now ∥₁) }
+        ensures stands { IfSome result (λ token. slice_get self.now.tokens self.now.at ≡ Some (lexeme token)) }
         ensures none { result ≡ None → front_mark (left self.now) ≡ None → left self.now ≡ [] }
     {
         if self.at >= self.tokens.len() {
@@ -114,12 +115,19 @@ impl<'a> Reader<'a> {
         let Some(token) = self.unmarked() else {
             return Ok(None);
         };
-        match literal(alloc, &token)? {
-            Some(literal) => {
+        match token.kind {
+            TokenKind::Str => {
+                let text = self.tokens.content(alloc, self.at)?;
                 self.skip();
-                Ok(Some(literal))
+                Ok(Some(Lit::Str(text)))
             }
-            None => Ok(None),
+            _ => match literal(&token) {
+                Some(literal) => {
+                    self.skip();
+                    Ok(Some(literal))
+                }
+                None => Ok(None),
+            },
         }
     }
 
@@ -149,7 +157,7 @@ impl<'a> Reader<'a> {
         };
         match token.kind {
             TokenKind::Quoted => {
-                let name = content(alloc, token.text)?;
+                let name = self.tokens.content(alloc, self.at)?;
                 self.skip();
                 Ok(Some(name))
             }

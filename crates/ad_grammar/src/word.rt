@@ -1,32 +1,32 @@
 // The literals that tokens mean.
-ghost use Rattle.std.specs.Prelude.{◌≡◌, None, Ok, Some};
+ghost use Rattle.std.specs.Prelude.{◌≡◌, None, Some};
 ghost use Rattle.ad_lexer.specs.Spelling.{Spells};
 ghost use Rattle.ad_lexer.specs.Lexeme.{lexeme};
 ghost use Rattle.ad_lexer.specs.Marks.{meaning_of};
+ghost use Rattle.ad_lexer.specs.declared.token.TokenKind.TheVariants as kinds;
 ghost use Rattle.ad_grammar.specs.HeldMarks.{unmarked};
 ghost use Rattle.ad_grammar.specs.Words.{or_undefined, constant, reserved_words, word};
 ghost use Rattle.pool_text.specs.Folding.{folded};
 ghost use Rattle.pool_text.specs.declared.language.Lit.{Lit as MeantLit};
 
-use ad_lexer::{Token, TokenKind, content, integer};
-use pool_text::{Lit, OutOfMemory};
-use std::alloc::Global;
+use ad_lexer::{Token, TokenKind, integer};
+use pool_text::Lit;
 
-/// The literal that a token is, of those that are no marks.
+/// The literal that a token is, of those that are neither marks nor strings.
 #[inline(always)]
-pub fn literal(alloc: Global, token: &Token<'_>) -> Result<Option<Lit>, OutOfMemory>
+pub fn literal(token: &Token<'_>) -> Option<Lit>
     requires { ∥ Spells token.now.kind token.now.text.now ∥₁ }
-    ensures some { (lit : MeantLit) → result ≡ Ok (Some lit) → unmarked (word (lexeme token.now)) ≡ constant lit }
-    ensures none { result ≡ Ok None → (lit : MeantLit) → word (lexeme token.now) ≡ constant lit → ⊥ }
+    ensures some { (lit : MeantLit) → result ≡ Some lit → unmarked (word (lexeme token.now)) ≡ constant lit }
+    ensures none { result ≡ None → (lit : MeantLit) → word (lexeme token.now) ≡ constant lit → token.now.kind ≡ kinds.Str }
 {
     let text = token.text;
     match token.kind {
-        TokenKind::Int => Ok(Some(Lit::Integer(integer(text)))),
-        TokenKind::Str => Ok(Some(Lit::Str(content(alloc, text)?))),
-        TokenKind::Reserved => Ok(Some(reserved(text))),
-        TokenKind::Symbol => Ok(Some(Lit::Undefined)),
-        TokenKind::Plain => Ok(None),
-        TokenKind::Quoted => Ok(None),
+        TokenKind::Int => Some(Lit::Integer(integer(text))),
+        TokenKind::Reserved => Some(reserved(text)),
+        TokenKind::Symbol => Some(Lit::Undefined),
+        TokenKind::Str => None,
+        TokenKind::Plain => None,
+        TokenKind::Quoted => None,
     }
 }
 

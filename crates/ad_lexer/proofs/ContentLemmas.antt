@@ -1,9 +1,10 @@
 -- What a string or a quoted name means, letter by letter.
-use Rattle.std.proofs.Common.{◌≡◌, ℕ, zero, suc, ◌+◌, ◌-◌, ◌<◌, Bool, true, false, cond, eqb, List, [], ◌∷◌, ◌++◌, length, map, drop, slice_index, is_some, refl, sym, ◌∙◌, ap, arith, length-append, append_assoc, inl, inr, take, subst}
-use Rattle.std.proofs.lemmas.Bool.{cases_Bool, or_parts, not-true, true≢false, eq-eqb}
+use Rattle.std.proofs.Common.{◌≡◌, ℕ, zero, suc, ◌-◌, ◌<◌, Bool, true, false, cond, eqb, List, [], ◌∷◌, ◌++◌, length, map, drop, slice_index, is_some, refl, sym, ◌∙◌, ap, arith, length-append, append_assoc, inl, inr, take, subst}
+use Rattle.std.proofs.lemmas.Bool.{cases_Bool, and_parts, or_parts, not-true, true≢false, eq-eqb}
 use Rattle.std.proofs.lemmas.Bool.Decides.{nat_tests}
-use Rattle.std.proofs.lemmas.List.{drop_at, append-nil, get_or-drop}
-use Rattle.std.specs.List.{prefix_len}
+use Rattle.std.proofs.lemmas.List.{drop_at, take_at, append-nil}
+use Rattle.std.proofs.lemmas.List.Folds.{list_all-append}
+use Rattle.std.specs.List.{list_all, prefix_len}
 use Rattle.std.proofs.Math.Logic.{∥∥₁_elim}
 use Rattle.std.proofs.Math.Bridge.{le_prop}
 use Rattle.std.proofs.Math.Nat.{ℕ_set}
@@ -14,7 +15,7 @@ use Rattle.ad_lexer.specs.declared.bytes.Class.TheVariants as class
 use Rattle.ad_lexer.specs.declared.quoted.Front.TheVariants as fronts
 use Rattle.ad_lexer.proofs.LetterLemmas.{is_quote, spelling_some, octal_unescaped, digits_told, octal_digits, letter_met, plain_met}
 use Rattle.ad_lexer.proofs.QuotedLemmas.{letter_first, front_close, plain_in}
-use Rattle.ad_lexer.proofs.Runs.{run_step, run_stop}
+use Rattle.ad_lexer.proofs.Runs.{run_step, run_stop, run_passes}
 use mathlib.Core.List.{is_set}
 
 -- skipping bytes is going on behind them
@@ -156,20 +157,28 @@ unread_end quote bytes text rest (letter ∷ letters) is spelled are means none 
     let joined : rest ≡ spelling letter ++ more = spelled ∙ append_assoc (spelling letter) (spellings letters) (quote ∷ []) in
     absurd (none _ _ (ap (front quote) joined ∙ letter_met quote letter more is are.0))
 
-closes : (quote : ℕ) (rest : List ℕ) → is_quote quote ≡ true → slice_index rest 0 ≡ quote → front quote rest ≡ fronts.Close
-closes quote [] is first = absurd (true≢false (sym is ∙ ap is_quote (sym first)))
-closes quote (byte ∷ bytes) is first = ap (λ (b : ℕ). front quote (b ∷ bytes)) first ∙ front_close quote bytes
+-- letters that stand for themselves are what they mean
+plain_letter : (letter : Letter) → list_all (is_in class.Plain) (spelling letter) ≡ true → spelling letter ≡ meaning letter ∷ []
+plain_letter (plain byte) each = refl
+plain_letter (escape byte meant) each = absurd (true≢false (sym each))
+plain_letter (octal digits) each = absurd (true≢false (sym each))
 
--- where the closing quote stands behind the first run of bytes, that is all
-pub one_run : (bytes : List ℕ) → IsQuotation bytes → slice_index (drop 1 bytes) (prefix_len (is_in class.Plain) (drop 1 bytes)) ≡ slice_index bytes 0 → take (prefix_len (is_in class.Plain) (drop 1 bytes)) (drop 1 bytes) ≡ content bytes
-one_run bytes quotation closed =
-    let quote : ℕ = slice_index bytes 0 in
-    let letters : List ℕ = drop 1 bytes in
-    let n : ℕ = prefix_len (is_in class.Plain) letters in
-    let u = unread_run quote bytes [] letters (unread_first bytes quotation) in
-    let place : n + 0 ≡ n = omega arith in
-    let close = closes quote (drop n letters) u.quotes (get_or-drop n letters 0 0 ∙ ap (λ (k : ℕ). slice_index letters k) place ∙ closed) in
-    unread_end quote bytes (take n letters) (drop n letters) u.letters u.quotes u.spelled u.are u.means (λ len meant reads. absurd (cc (sym close ∙ reads)))
+plain_letters : (letters : List Letter) → list_all (is_in class.Plain) (spellings letters) ≡ true → spellings letters ≡ map meaning letters
+plain_letters [] each = refl
+plain_letters (letter ∷ letters) each =
+    let both = and_parts _ _ (sym (list_all-append (is_in class.Plain) (spelling letter) (spellings letters)) ∙ each) in
+    ap (λ (l : List ℕ). l ++ spellings letters) (plain_letter letter both.0) ∙ ap (λ (l : List ℕ). meaning letter ∷ l) (plain_letters letters both.1)
+
+-- where the first run of letters ends at the closing quote, that is all
+pub one_run : (bytes more text : List ℕ) → IsQuotation bytes → text ≡ drop 1 (bytes ++ more) → prefix_len (is_in class.Plain) text ≡ length bytes - 2 → take (length bytes - 2) text ≡ content bytes
+one_run bytes more text quotation behind run =
+    let q = quotation_quote bytes quotation in
+    let letters : List ℕ = spellings q.3.0 in
+    let stands : text ≡ letters ++ q.0 ∷ more = behind ∙ ap (λ (l : List ℕ). drop 1 (l ++ more)) q.3.1 ∙ append_assoc letters (q.0 ∷ []) more in
+    let len : length letters ≡ length bytes - 2 = omega (arith, ap (λ (l : List ℕ). length l) q.3.1, length-append letters (q.0 ∷ [])) in
+    let front : take (length bytes - 2) text ≡ letters = ap (λ (l : List ℕ). take (length bytes - 2) l) stands ∙ take_at letters (q.0 ∷ more) (length bytes - 2) len in
+    let each = subst (λ (l : List ℕ). list_all (is_in class.Plain) l ≡ true) (ap (λ (n : ℕ). take n text) run ∙ front) (run_passes (is_in class.Plain) text) in
+    front ∙ plain_letters q.3.0 each ∙ sym q.3.3 ∙ sym (quoted_content q.0 bytes q.1 q.2 q.3)
 
 -- a quotation has two quotes
 pub quotation_long : (bytes : List ℕ) → IsQuotation bytes → 1 < length bytes

@@ -1,9 +1,11 @@
 -- The tokens of a text are parts of it, in order, each spelled by its kind.
-use Rattle.std.proofs.Common.{◌≡◌, ℕ, ◌+◌, ◌-◌, ◌≤◌, List, [], ◌∷◌, ◌++◌, length, take, refl, sym, ◌∙◌, ap, subst, arith, length-append, append_assoc}
-use Rattle.std.proofs.lemmas.List.{take_at, drop_at}
+use Rattle.std.proofs.Common.{◌≡◌, ℕ, ◌+◌, ◌-◌, ◌≤◌, List, [], ◌∷◌, ◌++◌, length, take, drop, slice_get, zero, suc, Some, refl, sym, ◌∙◌, ap, subst, arith, length-append, append_assoc}
+use Rattle.std.proofs.lemmas.List.{take_at, drop_at, take-append-drop}
 use Rattle.std.specs.List.{slice_range}
+use Rattle.ad_lexer.specs.declared.token.Span.{Span}
 use Rattle.ad_lexer.specs.Lexeme.{Lexeme}
 use Rattle.ad_lexer.specs.Slices.{AreTokensOf}
+use Rattle.ad_lexer.specs.Spans.{lexeme_of, lexemes_of}
 use Rattle.ad_lexer.specs.Tokens.{Item, blank, token, Divides, lexemes, Tokens}
 
 -- tokens behind a place are behind each place before it
@@ -38,3 +40,11 @@ divides_slices front at (token kind bytes ∷ items) rest after is divides =
 
 pub tokens_slices : (text : List ℕ) (list : List Lexeme) → Tokens text list → AreTokensOf text 0 list
 tokens_slices text list tokens = subst (λ l. AreTokensOf text 0 l) (sym tokens.1.2) (divides_slices [] 0 tokens.1.0 text [] refl tokens.1.1)
+
+-- the bytes of a token stand in the source where it begins
+pub stands_in_source : (source : List ℕ) (spans : List Span) (i : ℕ) (t : Lexeme) → slice_get (lexemes_of source spans) i ≡ Some t → (more : List ℕ) × (t.text ++ more ≡ drop t.start source)
+stands_in_source source [] i t e = absurd (cc)
+stands_in_source source (span ∷ spans) zero t e =
+    let same : lexeme_of source span ≡ t = cc in
+    subst (λ (l : Lexeme). (more : List ℕ) × (l.text ++ more ≡ drop l.start source)) same (drop (span.end - span.start) (drop span.start source), take-append-drop (span.end - span.start) (drop span.start source))
+stands_in_source source (span ∷ spans) (suc i) t e = stands_in_source source spans i t e

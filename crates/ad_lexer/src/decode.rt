@@ -8,26 +8,13 @@ ghost use Rattle.ad_lexer.specs.Quoted.{IsQuotation};
 use crate::bytes::{Class, behind, byte_at, front, run_len};
 use crate::number::{digit_value, digits};
 use crate::quoted::{Front, front_of};
-use pool_text::{OutOfMemory, Text};
+use pool_text::OutOfMemory;
 use std::alloc::Global;
 
-/// What the letters between the quotes of a string or a quoted name mean, escapes undone.
-pub fn content(alloc: Global, spelling: &[u8]) -> Result<Text, OutOfMemory>
-    requires { ∥ IsQuotation spelling.now ∥₁ }
-    ensures { IfOk result (λ text. text ≡ content spelling.now) }
-{
-    let quote = byte_at(spelling, 0);
-    let letters = behind(spelling, 1);
-    let plain = run_len(Class::Plain, letters);
-    if byte_at(letters, plain) == quote {
-        Text::from_bytes(alloc, front(letters, plain))
-    } else {
-        Text::from_vec(alloc, unescaped(alloc, spelling)?)
-    }
-}
-
-/// The same, letter by letter, where some are escapes.
-fn unescaped(alloc: Global, spelling: &[u8]) -> Result<Vec<u8>, OutOfMemory>
+/// What the letters between the quotes of a string or a quoted name mean, where some are escapes. Few have any, so that it stays
+/// out of the rules that read names and strings.
+#[inline(never)]
+pub fn unescaped(alloc: Global, spelling: &[u8]) -> Result<Vec<u8>, OutOfMemory>
     requires { ∥ IsQuotation spelling.now ∥₁ }
     ensures { IfOk result (λ bytes. bytes.items ≡ content spelling.now) }
 {

@@ -14,7 +14,7 @@ mod quoted;
 mod symbol;
 mod token;
 
-pub use decode::{content, integer};
+pub use decode::integer;
 pub use fault::{LexFault, LexKind};
 pub use laws::{
     decimal_spells, integer_fits, one_answer, one_content, one_kind, quoted_in_utf8,

@@ -1,4 +1,6 @@
 // Tokens and lists of them.
+use crate::bytes::{Class, behind, run_len};
+use crate::decode::unescaped;
 use crate::mark::Mark;
 use pool_text::{OutOfMemory, Text};
 use std::alloc::Global;
@@ -56,8 +58,10 @@ impl<'a> Model for Tokens<'a> {
 
 impl<'a> Tokens<'a> {
     ghost use Rattle.std.specs.Prelude.{◌≡◌, ◌<◌, ◌^◌, length, slice_get, IfOk, Some, true};
+    ghost use Rattle.ad_lexer.specs.Content.{content};
     ghost use Rattle.ad_lexer.specs.Lexeme.{Lexeme, lexeme};
     ghost use Rattle.ad_lexer.specs.Marks.{marks_of};
+    ghost use Rattle.ad_lexer.specs.Quoted.{IsQuotation};
     ghost use Rattle.ad_lexer.specs.Spans.{are_within, lexemes_of, AreMarked};
 
     // The tokens that stand in the source at these spans.
@@ -110,5 +114,23 @@ impl<'a> Tokens<'a> {
         let Span { start, end, .. } = self.spans[i];
         let len = (end - start) as usize;
         Text::from_front(alloc, &self.source[start as usize..], len)
+    }
+
+    /// What the letters between the quotes of the token at place `i` mean, escapes undone. Most stand for themselves: then the
+    /// run of such letters ends where the token does.
+    #[inline(always)]
+    pub fn content(&self, alloc: Global, i: usize) -> Result<Text, OutOfMemory>
+        requires place { i < length self.now }
+        requires quotation { (l : Lexeme) → slice_get self.now i ≡ Some l → ∥ IsQuotation l.text ∥₁ }
+        ensures { IfOk result (λ text. (l : Lexeme) → slice_get self.now i ≡ Some l → text ≡ content l.text) }
+    {
+        let token = self.at(i);
+        let letters = behind(self.source, token.start as usize + 1);
+        let len = token.text.len() - 2;
+        if run_len(Class::Plain, letters) == len {
+            Text::from_front(alloc, letters, len)
+        } else {
+            Text::from_vec(alloc, unescaped(alloc, token.text)?)
+        }
     }
 }

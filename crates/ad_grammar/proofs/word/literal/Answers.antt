@@ -1,10 +1,6 @@
-use Rattle.std.proofs.Math.Logic.{∥∥₁_map}
 use Rattle.ad_lexer.proofs.ContentLemmas.{less_when}
-use Rattle.ad_grammar.proofs.WordLemmas.{string-quotation, integer-fits}
+use Rattle.ad_grammar.proofs.WordLemmas.{integer-fits}
 use Rattle.ad_grammar.proofs.word.literal.Goals as goal
-
-pub content-requires : goal.content-requires
-content-requires c = ∥∥₁_map c.requires (λ spells. string-quotation c.args.token.now.kind c.args.token.now.text.now c.in-Str.is spells)
 
 pub integer-requires : goal.integer-requires
 integer-requires c = less_when _ _ c.requires (λ spells. integer-fits c.args.token.now.kind c.args.token.now.text.now c.in-Int.is spells)

@@ -1,5 +1,5 @@
 -- How a builder changes with each instruction.
-use Rattle.std.proofs.Common.{◌≡◌, ℕ, ◌+◌, min, Bool, true, false, List, [], ◌∷◌, ◌++◌, length, map, slice_get, slice_set, Some, Result, Ok, Err, IfOk, OnOk, refl, sym, subst, ap, ◌∙◌, arith}
+use Rattle.std.proofs.Common.{◌≡◌, ℕ, ◌+◌, min, Bool, true, false, List, [], ◌∷◌, ◌++◌, length, map, slice_get, Some, Result, Ok, Err, IfOk, OnOk, refl, sym, subst, ap, ◌∙◌, arith}
 use Rattle.ad_tree.specs.Draft.{draft_frames}
 use Rattle.ad_tree.specs.Frames.{Frame, empty_frame, defined}
 use Rattle.ad_tree.specs.Inline.{Inline, inner, no_defs, frames, height, number, spelled, spelled_tree, ad_of, phrase_of, phrase_tree}

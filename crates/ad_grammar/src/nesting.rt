@@ -56,12 +56,48 @@ fn definitions_ended(room: usize, mark: Option<Mark>) -> usize {
 }
 
 /// How many elements stand before the closing mark of what was opened before a place, as far as the next words tell, so that
-/// there is room for them at once. Nothing else rests on it.
+/// there is room for them at once. Nothing else rests on it. Most elements are one word each, so that every second word tells.
 pub fn elements_ahead(tokens: &Tokens<'_>, from: usize) -> usize {
     let last = tokens.len().min(from.saturating_add(LOOKED_AHEAD));
+    for i in 0..LOOKED_AHEAD / 2 {
+        let place = from.saturating_add(2 * i);
+        match end_of_word(tokens, place, last) {
+            WordEnd::Comma => {}
+            WordEnd::Closing => return i + 1,
+            WordEnd::Other => return i.saturating_add(elements_within(tokens, place, last)),
+        }
+    }
+    LOOKED_AHEAD / 2
+}
+
+/// What stands behind a word.
+#[derive(Clone, Copy)]
+enum WordEnd {
+    Comma,
+    Closing,
+    Other,
+}
+
+/// What stands behind the word at a place, if one stands there that is no mark.
+#[inline(always)]
+fn end_of_word(tokens: &Tokens<'_>, place: usize, last: usize) -> WordEnd {
+    let last = last.min(tokens.len());
+    if place >= last || last - place < 2 || tokens.mark(place).is_some() {
+        return WordEnd::Other;
+    }
+    match tokens.mark(place + 1) {
+        Some(Mark::Comma) => WordEnd::Comma,
+        Some(Mark::CloseParen) => WordEnd::Closing,
+        Some(Mark::CloseBrace) => WordEnd::Closing,
+        _ => WordEnd::Other,
+    }
+}
+
+/// The same, word by word, from a place before which nothing is open.
+fn elements_within(tokens: &Tokens<'_>, from: usize, last: usize) -> usize {
     let mut elements: usize = 0;
     let mut open: usize = 0;
-    for i in from..last {
+    for i in from..last.min(tokens.len()) {
         let mark = tokens.mark(i);
         match turn_of(mark) {
             Turn::Opens => open = open.saturating_add(1),

@@ -1,7 +1,6 @@
 //! Text of trees and of values, which the parser reads back.
 #![tactic(auto)]
 
-mod bytes;
 mod laws;
 mod operators;
 mod pieces;

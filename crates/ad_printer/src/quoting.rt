@@ -9,7 +9,6 @@ ghost use Rattle.ad_printer.specs.Pieces.{is_plain_name, literal_piece, name_pie
 ghost use Rattle.ad_printer.specs.Quotes.{in_quotes, letter_for, octal_digits};
 ghost use Rattle.ad_printer.specs.Writing.{Adds, stands_plain};
 
-use crate::bytes::{is_word_byte, stands_plain};
 use crate::pieces::{add, add_byte, add_few, add_number};
 use ad_tree::Scope;
 use pool_text::{Lit, OutOfMemory};
@@ -79,7 +78,9 @@ fn begins_word(byte: u8) -> bool
 fn are_word_bytes(bytes: &[u8]) -> bool
     ensures { result ≡ list_all words.is_word_byte bytes.now }
 {
-    bytes.iter().all(|byte| is_word_byte(*byte))
+    bytes
+        .iter()
+        .all(|byte| byte.is_ascii_alphanumeric() || *byte == b'_')
 }
 
 fn is_reserved(name: &[u8]) -> bool
@@ -135,6 +136,12 @@ fn plain_len(quote: u8, text: &[u8]) -> usize
         rest = more;
     }
     len
+}
+
+fn stands_plain(quote: u8, byte: u8) -> bool
+    ensures { result ≡ stands_plain quote byte }
+{
+    !(byte == quote || byte == b'\\' || byte < 32 || byte == 127)
 }
 
 /// The letter of one byte.

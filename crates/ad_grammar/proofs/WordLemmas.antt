@@ -48,7 +48,7 @@ symbol-mark : (found : Option Mark) → mark_in (mark_word found) ≡ found
 symbol-mark None = refl
 symbol-mark (Some m) = refl
 
-kind-mark : (kind : TokenKind) (bytes : List ℕ) → mark_in (word_of_kind kind bytes) ≡ mark_of_kind kind bytes
+pub kind-mark : (kind : TokenKind) (bytes : List ℕ) → mark_in (word_of_kind kind bytes) ≡ mark_of_kind kind bytes
 kind-mark kinds.Plain bytes = refl
 kind-mark kinds.Reserved bytes = reserved-mark (folded bytes)
 kind-mark kinds.Quoted bytes = refl

@@ -11,6 +11,12 @@ const NESTING_LIMIT: usize = 130;
 /// How many words are looked at to tell how many elements a list has.
 const LOOKED_AHEAD: usize = 64;
 
+/// How many words a definition has in ordinary ads.
+const WORDS_A_DEFINITION: usize = 14;
+
+/// An ad with more definitions than this makes a table of all its names, which is too dear for a guess.
+const MOST_GUESSED: usize = 64;
+
 /// What a word does with constructs.
 #[derive(Clone, Copy)]
 pub enum Turn {
@@ -19,10 +25,22 @@ pub enum Turn {
     Neither,
 }
 
+/// How many definitions an ad may have, so that there is room for them at once; nothing else rests on the number. `None` exactly
+/// where after some word more constructs are open than the limit. Few texts open so many in all, and only those are looked at.
+pub fn room_within(tokens: &Tokens<'_>) -> Option<usize>
+    ensures some { IsSome result → nests_too_deep (words tokens.now) ≡ false }
+    ensures none { result ≡ None → nests_too_deep (words tokens.now) ≡ true }
+{
+    if tokens.openings() <= NESTING_LIMIT {
+        return Some((tokens.len() / WORDS_A_DEFINITION).min(MOST_GUESSED));
+    }
+    definitions_within(tokens)
+}
+
 /// How many definitions an ad has, as the semicolons in its own brackets tell, so that there is room for them at once; nothing
 /// else rests on the number. `None` exactly where after some word more constructs are open than the limit. The words that
 /// aren't marks open and close none.
-pub fn definitions_within(tokens: &Tokens<'_>) -> Option<usize>
+fn definitions_within(tokens: &Tokens<'_>) -> Option<usize>
     ensures some { IsSome result → nests_too_deep (words tokens.now) ≡ false }
     ensures none { result ≡ None → nests_too_deep (words tokens.now) ≡ true }
 {

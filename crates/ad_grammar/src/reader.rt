@@ -2,7 +2,7 @@
 ghost use Rattle.std.specs.Prelude.{◌≡◌, ◌≤◌, length};
 ghost use Rattle.ad_grammar.specs.Meaning.{AreSpelled};
 
-use crate::nesting::{definitions_within, elements_ahead};
+use crate::nesting::{elements_ahead, room_within};
 use crate::operators::{ends, extends, infix_of, prefix_of};
 use crate::stop::Stop;
 use crate::word::literal;
@@ -50,7 +50,7 @@ impl<'a> Reader<'a> {
         ensures some { IfSome result (λ reader. (left reader ≡ words tokens.entry) × (nests_too_deep (words tokens.entry) ≡ false)) }
         ensures none { result ≡ None → nests_too_deep (words tokens.entry) ≡ true }
     {
-        let definitions = definitions_within(&tokens)?;
+        let definitions = room_within(&tokens)?;
         Some(Reader {
             tokens,
             at: 0,

@@ -1,5 +1,5 @@
 -- Whole texts: one token list or one fault, and not both, and how far a text was divided. Nothing here knows of the kinds of tokens.
-use Rattle.std.proofs.Common.{◌≡◌, ◌⊎◌, ℕ, zero, suc, ◌<◌, ◌≤◌, false, List, length, take, slice_index, IsUtf8, sym, ◌∙◌, subst, inl, inr, arith, take_all, ◌+◌, [], ◌∷◌, ◌++◌, refl, ap, length-append, ◌-◌, true, drop, Option, Result, Ok, Err, append_assoc}
+use Rattle.std.proofs.Common.{◌≡◌, ◌⊎◌, ℕ, zero, suc, ◌<◌, ◌≤◌, false, List, map, length, take, slice_index, IsUtf8, sym, ◌∙◌, subst, inl, inr, arith, take_all, ◌+◌, [], ◌∷◌, ◌++◌, refl, ap, length-append, ◌-◌, true, drop, Option, Result, Ok, Err, append_assoc}
 use Rattle.std.proofs.lemmas.Bool.{cases_Bool, cases_lt, true≢false, le-leb}
 use Rattle.std.proofs.lemmas.Str.{IsUtf8-from_is_utf8, is_utf8-from_IsUtf8, IsUtf8-nil, utf8_valid_len-IsValidUpTo}
 use Rattle.std.specs.Str.{IsValidUpTo, is_utf8}
@@ -12,13 +12,13 @@ use Rattle.ad_lexer.specs.declared.mark.Mark.{Mark}
 use Rattle.ad_lexer.specs.declared.next.Step.{Step}
 use Rattle.ad_lexer.specs.Faults.{Wrong}
 use Rattle.ad_lexer.specs.Lexeme.{Lexeme}
-use Rattle.ad_lexer.specs.Marks.{mark_of_kind, mark_of_lexeme, marks_of}
+use Rattle.ad_lexer.specs.Marks.{mark_of_kind, mark_of_lexeme, marks_of, opening, openings_in}
 use Rattle.ad_lexer.specs.Tokens.{Item, blank, token, bytes_of, IsItem, Divides, lexemes, Tokens, IsIllFormed, HasFault, Fault, Answers, IsOrMemory}
 use Rattle.ad_lexer.specs.Reading.{next, PassesBlank}
 use Rattle.ad_lexer.specs.declared.fault.LexFault.{LexFault}
 use Rattle.ad_lexer.specs.declared.token.Span.{Span}
 use Rattle.ad_lexer.specs.declared.token.TokenKind.{TokenKind}
-use Rattle.ad_lexer.specs.Spans.{lexeme_of, lexemes_of, is_within, are_within, AreMarked}
+use Rattle.ad_lexer.specs.Spans.{lexeme_of, lexemes_of, is_within, are_within, openings_of, AreMarked}
 use Rattle.ad_lexer.specs.declared.next.Step.TheVariants as steps
 use Rattle.ad_lexer.specs.declared.fault.LexFault.TheVariants as faults
 use Rattle.ad_lexer.proofs.ItemLemmas.{step_of, item_next, item_same, token_found, spelled_some}
@@ -338,6 +338,21 @@ marked_push text rest spans at kind mark n reached before is =
 pub within_push : (len : ℕ) (spans : List Span) (kind : TokenKind) (mark : Option Mark) (start end : ℕ) → are_within len spans ≡ true → start ≤ end → end ≤ len → are_within len (spans ++ span_at kind mark start end ∷ []) ≡ true
 within_push len spans kind mark start end before ordered within =
     rw (list_all-append (is_within len) spans (span_at kind mark start end ∷ []), before, le-leb start end ordered, le-leb end len within) refl
+
+-- each mark that is pushed is counted
+openings_join : (first last : List (Option Mark)) → openings_in (first ++ last) ≡ openings_in first + openings_in last
+openings_join [] last = omega arith
+openings_join (m ∷ first) last = omega (arith, openings_join first last)
+
+pub openings_push : (spans : List Span) (kind : TokenKind) (mark : Option Mark) (start end : ℕ) → openings_of (spans ++ span_at kind mark start end ∷ []) ≡ openings_of spans + opening mark
+openings_push spans kind mark start end =
+    let marks : List (Option Mark) = map (λ (s : Span). s.mark) spans in
+    let joined = ap openings_in (map-append (λ (s : Span). s.mark) spans (span_at kind mark start end ∷ [])) in
+    omega (arith, joined, openings_join marks (mark ∷ []))
+
+pub passes_on : (text : List ℕ) (place next : ℕ) → PassesBlank text place next → place ≤ next
+passes_on text place next (inl same) = omega (arith, same)
+passes_on text place next (inr passed) = omega (arith, passed.1)
 
 -- ---- the ends
 

@@ -1,5 +1,5 @@
 -- The mark that a token is.
-use Rattle.std.specs.Prelude.{ℕ, List, [], ◌∷◌, map, codes, Option, None, Some, if◌then◌else◌}
+use Rattle.std.specs.Prelude.{ℕ, ◌+◌, List, [], ◌∷◌, map, codes, Option, None, Some, if◌then◌else◌}
 use Rattle.std.specs.Str.{bytes_eq}
 use Rattle.pool_text.specs.Folding.{folded}
 use Rattle.pool_text.specs.declared.language.BinOp.TheVariants.{BitOr, BitXor, BitAnd, Equal, Unequal, Same, NotSame, Less, AtMost, Greater, AtLeast, ShiftLeft, ShiftRight, ShiftZero, Add, Sub, Mul, Div, Rem}
@@ -43,3 +43,16 @@ mark_of_lexeme token = mark_of_kind token.kind token.text
 -- the marks that tokens are, each at its token's place
 abbrev pub marks_of : List Lexeme → List (Option Mark)
 marks_of tokens = map mark_of_lexeme tokens
+
+-- how many constructs a mark opens: a bracket of the three kinds, or the question mark of a conditional
+abbrev pub opening : Option Mark → ℕ
+opening (Some OpenParen) = 1
+opening (Some OpenBracket) = 1
+opening (Some OpenBrace) = 1
+opening (Some Question) = 1
+opening mark = 0
+
+-- and how many they open in all
+abbrev pub openings_in : List (Option Mark) → ℕ
+openings_in [] = 0
+openings_in (mark ∷ more) = opening mark + openings_in more

@@ -3,7 +3,7 @@ use Rattle.std.specs.Prelude.{◌≡◌, ℕ, Bool, ◌&&◌, nat_le, List, map,
 use Rattle.std.specs.List.{list_all}
 use Rattle.ad_lexer.specs.declared.token.Span.{Span}
 use Rattle.ad_lexer.specs.Lexeme.{Lexeme}
-use Rattle.ad_lexer.specs.Marks.{marks_of}
+use Rattle.ad_lexer.specs.Marks.{marks_of, openings_in}
 
 -- the token at a span of a source
 abbrev pub lexeme_of : List ℕ → Span → Lexeme
@@ -25,3 +25,7 @@ are_within len spans = list_all (is_within len) spans
 -- each span holds the mark of its token
 abbrev pub AreMarked : List ℕ → List Span → Type 0
 AreMarked source spans = map (λ span. span.mark) spans ≡ marks_of (lexemes_of source spans)
+
+-- how many constructs the tokens at spans open in all
+abbrev pub openings_of : List Span → ℕ
+openings_of spans = openings_in (map (λ span. span.mark) spans)

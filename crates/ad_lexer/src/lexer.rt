@@ -39,11 +39,12 @@ fn divide(alloc: Global, text: &[u8]) -> Result<Tokens<'_>, LexFault>
     ensures { spec.Answers text.now result }
 {
     let mut spans = Vec::with_capacity(alloc, text.len() / BYTES_A_TOKEN)?;
+    let mut openings = 0;
     let mut at = 0;
     loop {
-        let Marked { step, mark } = next(behind(text, at));
+        let Marked { step, mark } = next(behind(text, at), &mut openings);
         match step {
-            Step::End => return Ok(Tokens::of(text, spans)),
+            Step::End => return Ok(Tokens::of(text, spans, openings)),
             Step::Blank(len) => at = behind_blank(text, at + len),
             Step::Token(kind, len) => {
                 let end = at + len;

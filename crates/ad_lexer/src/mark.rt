@@ -1,6 +1,7 @@
 // The marks that tokens are.
-ghost use Rattle.std.specs.Prelude.{◌≡◌};
+ghost use Rattle.std.specs.Prelude.{◌≡◌, Some};
 ghost use Rattle.pool_text.specs.Folding.{folded};
+ghost use Rattle.ad_lexer.specs.Marks as spec;
 ghost use Rattle.ad_lexer.specs.Marks.{mark_words, meaning_of};
 
 use pool_text::BinOp;
@@ -28,9 +29,21 @@ pub enum Mark {
     Binary(BinOp),
 }
 
+/// How many constructs a mark opens: brackets of the three kinds, or a conditional.
+#[inline(always)]
+pub fn opening(mark: Mark) -> usize
+    ensures { result ≡ spec.opening (Some mark) }
+{
+    match mark {
+        Mark::OpenParen | Mark::OpenBracket | Mark::OpenBrace | Mark::Question => 1,
+        _ => 0,
+    }
+}
+
 /// `is` and `isnt` are operators.
 pub fn mark_of_reserved(text: &[u8]) -> Option<Mark>
-    ensures { result ≡ meaning_of mark_words (folded text.now) }
+    ensures value { result ≡ meaning_of mark_words (folded text.now) }
+    ensures opens { spec.opening result ≡ 0 }
 {
     if text.eq_ignore_ascii_case(b"is") {
         Some(Mark::Binary(BinOp::Same))

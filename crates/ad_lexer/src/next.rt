@@ -1,7 +1,8 @@
 // What stands at the front of a text.
-ghost use Rattle.std.specs.Prelude.{◌≡◌, ◌<◌, ◌≤◌, ◌^◌, length, slice_index, IfSome, Some, None};
+ghost use Rattle.std.specs.Prelude.{◌≡◌, ◌+◌, ◌<◌, ◌≤◌, ◌^◌, length, slice_index, IfSome, Some, None};
 ghost use Rattle.std.specs.List.{prefix_len};
 ghost use Rattle.ad_lexer.specs.Blanks.{is_line_byte};
+ghost use Rattle.ad_lexer.specs.Marks.{opening};
 ghost use Rattle.ad_lexer.specs.Reading as spec;
 ghost use Rattle.ad_lexer.specs.Words as words;
 ghost use Rattle.ad_lexer.specs.declared.next.Step.TheVariants as steps;
@@ -9,7 +10,7 @@ ghost use Rattle.ad_lexer.specs.declared.token.TokenKind.TheVariants.{Symbol};
 
 use crate::bytes::{Class, behind, byte_at, front, is_in, run_len};
 use crate::fault::LexKind;
-use crate::mark::{Mark, mark_of_reserved};
+use crate::mark::{Mark, mark_of_reserved, opening};
 use crate::number::number;
 use crate::quoted::{name, string};
 use crate::symbol::{alone, symbol};
@@ -66,18 +67,23 @@ fn begin_of(byte: u8) -> Begin
     }
 }
 
-/// What stands at the front of a text: an item of it, or its fault.
+/// What stands at the front of a text: an item of it, or its fault. A mark that opens a construct is counted, in the one arm that
+/// reads such marks, so that others cost nothing.
 #[tactic(auto, unfolding(crate::specs::Reading::next))]
-pub fn next(text: &[u8]) -> Marked
-    requires { length text.now < 2 ^ 32 }
+pub fn next(text: &[u8], openings: &mut usize) -> Marked
+    requires room { length text.now < 2 ^ 32 }
+    requires few { openings.old < 2 ^ 32 }
     ensures value { result.step ≡ spec.next text.now }
     ensures within { spec.IsWithin (length text.now) result.step }
     ensures marked { spec.IsMarked text.now result.step result.mark }
+    ensures counted { openings.old + opening result.mark ≤ openings.new }
+    ensures most { openings.new ≤ openings.old + 1 }
 {
     let [first, ..] = text else {
         return unmarked(Step::End);
     };
     if let Some(mark) = alone(*first) {
+        *openings += opening(mark);
         return symbol_of(mark, 1);
     }
     match begin_of(*first) {
@@ -129,6 +135,7 @@ fn word(text: &[u8]) -> Marked
     ensures value { result.step ≡ spec.word text.now }
     ensures within { spec.IsWithin (length text.now) result.step }
     ensures marked { spec.IsMarked text.now result.step result.mark }
+    ensures opens { opening result.mark ≡ 0 }
 {
     let len = run_len(Class::Word, text);
     let bytes = front(text, len);
@@ -151,6 +158,7 @@ fn slash(text: &[u8]) -> Marked
     ensures value { result.step ≡ spec.slash text.now }
     ensures within { spec.IsWithin (length text.now) result.step }
     ensures marked { spec.IsMarked text.now result.step result.mark }
+    ensures opens { opening result.mark ≡ 0 }
 {
     match byte_at(text, 1) {
         b'/' => unmarked(Step::Blank(2 + line_len(behind(text, 2)))),

@@ -1,5 +1,6 @@
 // Symbols.
-ghost use Rattle.std.specs.Prelude.{◌≡◌, ◌<◌, ◌≤◌, length, IfSome};
+ghost use Rattle.std.specs.Prelude.{◌≡◌, ◌<◌, ◌≤◌, length, slice_index, IfSome, Some, None};
+ghost use Rattle.ad_lexer.specs.Marks.{opening};
 ghost use Rattle.ad_lexer.specs.Reading as spec;
 
 use crate::bytes::byte_at;
@@ -11,10 +12,12 @@ use pool_text::BinOp;
 /// The longest symbol that the text begins with, or its fault.
 #[tactic(auto, unfolding(crate::specs::Reading::symbol))]
 pub fn symbol(text: &[u8]) -> Marked
-    requires { 0 < length text.now }
+    requires some { 0 < length text.now }
+    requires other { spec.alone (slice_index text.now 0) ≡ None }
     ensures value { result.step ≡ spec.symbol text.now }
     ensures within { spec.IsWithin (length text.now) result.step }
     ensures marked { spec.IsMarked text.now result.step result.mark }
+    ensures opens { opening result.mark ≡ 0 }
 {
     let second = byte_at(text, 1);
     if text[0] == b'.' && second.is_ascii_digit() {
@@ -55,8 +58,10 @@ pub fn alone(byte: u8) -> Option<Mark>
 /// The longest symbol that these bytes begin with, and its length.
 #[tactic(auto, unfolding(crate::specs::Reading::symbol_len))]
 fn longest(first: u8, second: u8, third: u8) -> Option<(Mark, usize)>
+    requires { spec.alone first ≡ None }
     ensures value { spec.IsLongest first second third result }
     ensures within { IfSome result (λ found. (0 < found.1) × (found.1 ≤ 3) × (2 ≤ found.1 → 0 < second) × (3 ≤ found.1 → 0 < third)) }
+    ensures opens { IfSome result (λ found. opening (Some found.0) ≡ 0) }
 {
     Some(match (first, second, third) {
         (b'=', b'=', _) => (Mark::Binary(BinOp::Equal), 2),

@@ -42,35 +42,49 @@ pub(crate) struct Span {
 pub struct Tokens<'a> {
     source: &'a [u8],
     spans: Vec<Span>,
+    openings: usize,
 }
 
 impl<'a> Model for Tokens<'a> {
-    ghost use Rattle.std.specs.Prelude.{◌≡◌, List, length, true};
+    ghost use Rattle.std.specs.Prelude.{◌≡◌, ◌≤◌, List, length, true};
     ghost use Rattle.ad_lexer.specs.Lexeme.{Lexeme};
-    ghost use Rattle.ad_lexer.specs.Spans.{are_within, lexemes_of, AreMarked};
+    ghost use Rattle.ad_lexer.specs.Spans.{are_within, lexemes_of, openings_of, AreMarked};
 
     ghost Value = { List Lexeme };
 
     ghost view = { λ t. lexemes_of t.source.now t.spans.items };
 
-    ghost invariant = { λ t. (are_within (length t.source.now) t.spans.items ≡ true) × AreMarked t.source.now t.spans.items };
+    ghost invariant = { λ t. (are_within (length t.source.now) t.spans.items ≡ true) × AreMarked t.source.now t.spans.items × (openings_of t.spans.items ≤ t.openings) };
 }
 
 impl<'a> Tokens<'a> {
-    ghost use Rattle.std.specs.Prelude.{◌≡◌, ◌<◌, ◌^◌, length, slice_get, IfOk, Some, true};
+    ghost use Rattle.std.specs.Prelude.{◌≡◌, ◌<◌, ◌≤◌, ◌^◌, length, slice_get, IfOk, Some, true};
     ghost use Rattle.ad_lexer.specs.Content.{content};
     ghost use Rattle.ad_lexer.specs.Lexeme.{Lexeme, lexeme};
-    ghost use Rattle.ad_lexer.specs.Marks.{marks_of};
+    ghost use Rattle.ad_lexer.specs.Marks.{marks_of, openings_in};
     ghost use Rattle.ad_lexer.specs.Quoted.{IsQuotation};
-    ghost use Rattle.ad_lexer.specs.Spans.{are_within, lexemes_of, AreMarked};
+    ghost use Rattle.ad_lexer.specs.Spans.{are_within, lexemes_of, openings_of, AreMarked};
 
     // The tokens that stand in the source at these spans.
-    pub(crate) fn of(source: &'a [u8], spans: Vec<Span>) -> Tokens<'a>
+    pub(crate) fn of(source: &'a [u8], spans: Vec<Span>, openings: usize) -> Tokens<'a>
         requires within { are_within (length source.now) spans.items ≡ true }
         requires marked { AreMarked source.now spans.items }
+        requires counted { openings_of spans.items ≤ openings }
         ensures { result ≡ lexemes_of source.now spans.items }
     {
-        Tokens { source, spans }
+        Tokens {
+            source,
+            spans,
+            openings,
+        }
+    }
+
+    /// No fewer than the tokens that open a construct: brackets of the three kinds, and the question marks of conditionals.
+    #[inline]
+    pub fn openings(&self) -> usize
+        ensures { openings_in (marks_of self.now) ≤ result }
+    {
+        self.openings
     }
 
     /// How many tokens there are.

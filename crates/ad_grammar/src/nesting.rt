@@ -11,7 +11,10 @@ const NESTING_LIMIT: usize = 130;
 /// How many words are looked at to tell how many elements a list has.
 const LOOKED_AHEAD: usize = 64;
 
-/// How many words a definition has in ordinary ads.
+/// So many words are gone over in little time.
+const FEW_WORDS: usize = 256;
+
+/// How many words a definition has in ordinary ads of more words.
 const WORDS_A_DEFINITION: usize = 14;
 
 /// An ad with more definitions than this makes a table of all its names, which is too dear for a guess.
@@ -26,12 +29,13 @@ pub enum Turn {
 }
 
 /// How many definitions an ad may have, so that there is room for them at once; nothing else rests on the number. `None` exactly
-/// where after some word more constructs are open than the limit. Few texts open so many in all, and only those are looked at.
+/// where after some word more constructs are open than the limit. Few texts open so many in all, and only those and short ones are
+/// gone over.
 pub fn room_within(tokens: &Tokens<'_>) -> Option<usize>
     ensures some { IsSome result → nests_too_deep (words tokens.now) ≡ false }
     ensures none { result ≡ None → nests_too_deep (words tokens.now) ≡ true }
 {
-    if tokens.openings() <= NESTING_LIMIT {
+    if tokens.len() > FEW_WORDS && tokens.openings() <= NESTING_LIMIT {
         return Some((tokens.len() / WORDS_A_DEFINITION).min(MOST_GUESSED));
     }
     definitions_within(tokens)

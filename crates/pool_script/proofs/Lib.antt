@@ -5,5 +5,6 @@ pub mod LinesLemmas
 pub mod LongLemmas
 pub mod ReaderLemmas
 pub mod RestLemmas
+pub mod RunLemmas
 pub mod ScriptLemmas
 pub mod StandingLemmas

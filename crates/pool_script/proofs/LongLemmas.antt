@@ -56,7 +56,7 @@ long_answer : (line text text2 : List ℕ) → is_long text ≡ true → is_long
 unfolding line_command
 long_answer line text text2 long long2 = same_option (keyword_of (word_of (text_of line))) (words_behind (text_of line)) text text2 (block_text-long text long ∙ sym (block_text-long text2 long2))
 
-abbrev block_at : List ℕ → List ℕ → Option Block
+abbrev pub block_at : List ℕ → List ℕ → Option Block
 block_at line text = Some (record { line = line; text = text })
 
 -- two texts that are too long are answered alike

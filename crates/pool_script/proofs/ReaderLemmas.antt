@@ -60,7 +60,7 @@ no_dots_with : (lines : List (List ℕ)) (line : List ℕ) → no_dots lines ≡
 no_dots_with [] line none no_dot = rw no_dot refl
 no_dots_with (l ∷ lines) line none no_dot = rw (and_left (not (bytes_eq l (codes "."))) (no_dots lines) none, no_dots_with lines line (and_right (not (bytes_eq l (codes "."))) (no_dots lines) none) no_dot) refl
 
-are_lines_with : (text line : List ℕ) → are_block_lines text ≡ true → ended line ≡ [] → bytes_eq line (codes ".") ≡ false → are_block_lines (text ++ line ++ 10 ∷ []) ≡ true
+pub are_lines_with : (text line : List ℕ) → are_block_lines text ≡ true → ended line ≡ [] → bytes_eq line (codes ".") ≡ false → are_block_lines (text ++ line ++ 10 ∷ []) ≡ true
 are_lines_with text line are none no_dot =
     let whole = nil_if_empty (rest_of text) (and_left (is_empty (rest_of text)) (no_dots (ended text)) are) in
     let dots = and_right (is_empty (rest_of text)) (no_dots (ended text)) are in
@@ -80,7 +80,7 @@ open_with block line is_open none fits no_dot short = record {
   short = length_with block.text line short fits;
 }
 
-open_at : (old new : Block) → Some old ≡ Some new → IsOpen old → IsOpen new
+pub open_at : (old new : Block) → Some old ≡ Some new → IsOpen old → IsOpen new
 open_at old new is is_open = let same : old ≡ new = cc in subst IsOpen same is_open
 
 open_outside : (line : List ℕ) → ended line ≡ [] → (block : Block) → kept_next None line ≡ Some block → IsOpen block

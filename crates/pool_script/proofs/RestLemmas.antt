@@ -14,16 +14,14 @@ use Rattle.pool_script.specs.declared.reader.Reader.{Reader}
 use Rattle.pool_script.proofs.CutLemmas.{AreLines, are_lines, ended_none-append, lines_feed, lines_feeds}
 use Rattle.pool_script.proofs.FormLemmas.{takes_block-short}
 use Rattle.pool_text.proofs.ReturnLemmas.{without_return-push}
+use Rattle.pool_script.proofs.LongLemmas.{block_at}
 use Rattle.pool_script.proofs.ReaderLemmas.{and_left, and_right, nil_if_empty, no_dots}
-
-abbrev block_at : List ℕ → List ℕ → Option Block
-block_at line text = Some (record { line = line; text = text })
 
 or_true : (b : Bool) → (b || true) ≡ true
 or_true true = refl
 or_true false = refl
 
-not_true : (b : Bool) → not b ≡ true → b ≡ false
+pub not_true : (b : Bool) → not b ≡ true → b ≡ false
 not_true true is = sym is
 not_true false is = refl
 
@@ -37,9 +35,13 @@ unfolding next
 takes_next line takes = rw takes refl
 
 -- a line that isn't a dot goes into the block's text
-text_step : (over : Bool) (line text l : List ℕ) (lines : List (List ℕ)) → is_dot l ≡ false → commands over (block_at line text) (l ∷ lines) ≡ commands over (block_at line (text ++ without_return l ++ 10 ∷ [])) lines
+pub text_step : (over : Bool) (line text l : List ℕ) (lines : List (List ℕ)) → is_dot l ≡ false → commands over (block_at line text) (l ∷ lines) ≡ commands over (block_at line (text ++ without_return l ++ 10 ∷ [])) lines
 unfolding given next
 text_step over line text l lines is = rw is refl
+
+-- a text with its first line taken out of those behind it
+pub text_feeds : (text line : List ℕ) (lines : List (List ℕ)) → (text ++ line ++ 10 ∷ []) ++ with_feeds lines ≡ text ++ with_feeds (line ∷ lines)
+text_feeds text line lines = ap (λ (t : List ℕ). t ++ with_feeds lines) (append_assoc text line (10 ∷ [])) ∙ append_assoc text (line ++ 10 ∷ []) (with_feeds lines)
 
 dropped : (l : List ℕ) → without_return (with_return l) ≡ l
 dropped l = without_return-push l 13
@@ -49,7 +51,7 @@ text_again : (over : Bool) (line text : List ℕ) (lines more : List (List ℕ))
 text_again over line text [] more none = ap (λ (t : List ℕ). commands over (block_at line t) more) (sym (append-nil text))
 text_again over line text (l ∷ lines) more none =
     let no_dot : is_dot (with_return l) ≡ false = ap (λ (w : List ℕ). bytes_eq w (codes ".")) (dropped l) ∙ not_true (bytes_eq l (codes ".")) (and_left (not (bytes_eq l (codes "."))) (no_dots lines) none) in
-    text_step over line text (with_return l) (map with_return lines ++ more) no_dot ∙ ap (λ (w : List ℕ). commands over (block_at line (text ++ w ++ 10 ∷ [])) (map with_return lines ++ more)) (dropped l) ∙ text_again over line (text ++ l ++ 10 ∷ []) lines more (and_right (not (bytes_eq l (codes "."))) (no_dots lines) none) ∙ ap (λ (t : List ℕ). commands over (block_at line t) more) (ap (λ (t : List ℕ). t ++ with_feeds lines) (append_assoc text l (10 ∷ [])) ∙ append_assoc text (l ++ 10 ∷ []) (with_feeds lines))
+    text_step over line text (with_return l) (map with_return lines ++ more) no_dot ∙ ap (λ (w : List ℕ). commands over (block_at line (text ++ w ++ 10 ∷ [])) (map with_return lines ++ more)) (dropped l) ∙ text_again over line (text ++ l ++ 10 ∷ []) lines more (and_right (not (bytes_eq l (codes "."))) (no_dots lines) none) ∙ ap (λ (t : List ℕ). commands over (block_at line t) more) (text_feeds text l lines)
 
 lines_with_return : (lines : List (List ℕ)) → AreLines lines → AreLines (map with_return lines)
 lines_with_return [] are = tt

@@ -5,5 +5,6 @@ pub mod GivenLines
 pub mod Keywords
 pub mod Reading
 pub mod Rows
+pub mod Runs
 pub mod Standing
 pub mod Names

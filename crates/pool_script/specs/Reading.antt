@@ -45,6 +45,11 @@ commands_from over reader more = reader.waiting.items ++ commands over reader.bl
 pub record HasRead (old : Reader) (bytes : List ℕ) (new : Reader) : Type 0 where
   pub commands : (over : Bool) (more : List ℕ) → commands_from over new more ≡ commands_from over old (bytes ++ more)
 
+-- the new reader has read a piece up to what is left of it
+pub record HasReadTo (old : Reader) (piece : List ℕ) (new : Reader) (left : List ℕ) : Type 0 where
+  pub no_more : length left ≤ length piece
+  pub commands : (over : Bool) (more : List ℕ) → commands_from over new (left ++ more) ≡ commands_from over old (piece ++ more)
+
 -- a line that ends in a carriage return, so that dropping one gives the line again
 abbrev pub with_return : List ℕ → List ℕ
 with_return line = line ++ 13 ∷ []

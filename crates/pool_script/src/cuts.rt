@@ -3,7 +3,9 @@ ghost use Rattle.std.specs.Prelude.{◌≡◌, ◌++◌, ◌≤◌, [], length, 
 ghost use Rattle.pool_text.specs.Lines.{ended};
 ghost use Rattle.pool_script.specs.Cuts.{CutsAtFeed};
 ghost use Rattle.pool_script.specs.Reading.{kept};
+ghost use Rattle.pool_script.specs.Runs.{run_of};
 
+use crate::line::is_plain;
 use memchr::memchr;
 use pool_text::{LONGEST_LINE, OutOfMemory};
 
@@ -29,4 +31,18 @@ pub(crate) fn extend_line(line: &mut Vec<u8>, bytes: &[u8]) -> Result<(), OutOfM
     let fits = room.min(bytes.len());
     line.extend_from_slice(&bytes[..fits])?;
     Ok(())
+}
+
+/// How many bytes at the front are lines that a block takes as they stand, with their line feeds.
+pub(crate) fn run_of_lines(bytes: &[u8]) -> usize
+    ensures { result ≡ length (run_of bytes.now) }
+{
+    let mut left = bytes;
+    while let Some(len) = memchr(b'\n', left) {
+        if !is_plain(&left[..len]) {
+            break;
+        }
+        left = &left[len + 1..];
+    }
+    bytes.len() - left.len()
 }

@@ -2,6 +2,7 @@
 ghost use Rattle.std.specs.Prelude.{◌≡◌};
 ghost use Rattle.pool_text.specs.Words.{is_silent, text_of};
 ghost use Rattle.pool_script.specs.Commands.{is_dot, takes_block};
+ghost use Rattle.pool_script.specs.Runs.{is_plain};
 
 use crate::keyword::keyword_of;
 use pool_text::{LONGEST_LINE, past_blanks, without_return, word_of};
@@ -15,6 +16,13 @@ pub(crate) fn is_dot(line: &[u8]) -> bool
     ensures { result ≡ is_dot line.now }
 {
     line.len() <= 2 && without_return(line) == b".".as_slice()
+}
+
+/// Whether a block takes a line as it stands: the line doesn't close the block, and no carriage return is dropped from it.
+pub(crate) fn is_plain(line: &[u8]) -> bool
+    ensures { result ≡ is_plain line.now }
+{
+    !is_dot(line) && without_return(line).len() == line.len()
 }
 
 /// A line from its first word on.

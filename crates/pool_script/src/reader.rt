@@ -1,14 +1,15 @@
-// The commands of lines, read one line at a time.
-ghost use Rattle.std.specs.Prelude.{◌≡◌, ◌++◌, ◌∷◌, [], true, false, None, Some, IfOk, IfSome, OnOk, OnErr};
+// The commands of lines. They are read one at a time, but for those that a block takes as they stand, which are read many at once.
+ghost use Rattle.std.specs.Prelude.{◌≡◌, ◌++◌, ◌∷◌, [], length, true, false, None, Some, IfOk, IfSome, OnOk, OnErr};
 ghost use Rattle.pool_text.specs.Lines.{ended};
 ghost use Rattle.pool_script.specs.Commands.{cut_off, given, is_dot, line_command as command_of};
 ghost use Rattle.pool_script.specs.Reading.{kept_next};
 ghost use Rattle.pool_script.specs.Rows.{line_too_long};
+ghost use Rattle.pool_script.specs.Runs.{run_into};
 
 use crate::Command;
 use crate::command::LINE_TOO_LONG;
-use crate::cuts::{extend_line, split_line};
-use crate::line::{LONGEST_BLOCK, is_dot, is_silent, takes_block};
+use crate::cuts::{extend_line, run_of_lines, split_line};
+use crate::line::{LONGEST_BLOCK, is_dot, is_plain, is_silent, takes_block};
 use crate::parse::line_command;
 use pool_text::{LONGEST_LINE, OutOfMemory, Text, without_return};
 use std::alloc::Global;
@@ -32,7 +33,7 @@ pub(crate) struct Reader {
 }
 
 impl Reader {
-    ghost use Rattle.pool_script.specs.Reading.{commands_from, HasRead, IsSound};
+    ghost use Rattle.pool_script.specs.Reading.{commands_from, HasRead, HasReadTo, IsSound};
 
     /// A reader of no bytes, which takes no memory yet.
     pub(crate) fn new(alloc: Global) -> Reader
@@ -54,10 +55,15 @@ impl Reader {
         ensures sound { IsSound self.new }
         ensures ok { OnOk result (HasRead self.old piece.now self.new) }
     {
-        let mut left = piece;
+        let mut left = self.read_run(piece)?;
         while let Some((line, with_feed, behind)) = split_line(left) {
             self.read_ended(line, with_feed)?;
-            left = behind;
+            // Behind a carriage return most often others stand, and each such line would be looked at twice.
+            left = if is_plain(line) {
+                self.read_run(behind)?
+            } else {
+                behind
+            };
         }
         self.read_bytes(left)
     }
@@ -106,6 +112,20 @@ impl Reader {
         let refused = push_command(self.alloc, &mut self.waiting, block.line.bytes(), None);
         drop(block);
         refused
+    }
+
+    /// Reads the lines at the front of a piece that an open block takes as they stand, all at once, and gives what is left of the
+    /// piece: all of it outside a block, or where a line has begun.
+    #[inline(always)]
+    fn read_run<'a>(&mut self, piece: &'a [u8]) -> Result<&'a [u8], OutOfMemory>
+        requires { IsSound self.old }
+        ensures sound { IsSound self.new }
+        ensures ok { IfOk result (λ left. HasReadTo self.old piece.now self.new left.now) }
+    {
+        match &mut self.block {
+            Some(block) if self.line.is_empty() => lengthen_by_run(block, piece),
+            _ => Ok(piece),
+        }
     }
 
     /// Reads bytes of the line.
@@ -266,4 +286,26 @@ fn lengthen(block: &mut Block, line: &[u8], with_feed: &[u8]) -> Result<(), OutO
     }
     block.text.append(front)?;
     block.text.append(b"\n")
+}
+
+/// Adds the lines at the front of a piece that the block takes as they stand, as many as it has room for, and gives what is left
+/// of the piece.
+fn lengthen_by_run<'a>(block: &mut Block, piece: &'a [u8]) -> Result<&'a [u8], OutOfMemory>
+    ensures ok { OnOk result
+        (block.new ≡ record { line = block.old.line; text = block.old.text ++ run_into block.old piece.now }) }
+    ensures err { OnErr result (block.new ≡ block.old) }
+    ensures left { IfOk result (λ left. run_into block.old piece.now ++ left.now ≡ piece.now) }
+{
+    let (run, left) = piece.split_at(run_into(block, piece));
+    block.text.append(run)?;
+    Ok(left)
+}
+
+/// How many bytes those lines have. Only bytes that the block has room for are searched, so that a block that is too long, whose
+/// lines are read one by one, isn't searched to the end of the piece at each of them.
+fn run_into(block: &Block, piece: &[u8]) -> usize
+    ensures { result ≡ length (run_into block.now piece.now) }
+{
+    let room = LONGEST_BLOCK.saturating_sub(block.text.bytes().len());
+    run_of_lines(&piece[..room.min(piece.len())])
 }

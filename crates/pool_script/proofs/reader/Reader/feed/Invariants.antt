@@ -5,7 +5,7 @@ use Rattle.pool_script.proofs.reader.Reader.feed.Given as goal
 abbrev pub invariant-loop-line : goal.invariant-loop-line
 invariant-loop-line l = record {
   sound : IsSound l.self;
-  promise : (over : Bool) (more : List ℕ) → commands_from over l.self (l.left ++ more) ≡ commands_from over l.initial.self (l.piece ++ more);
+  promise : (over : Bool) (more : List ℕ) → commands_from over l.self (l.left ++ more) ≡ commands_from over l.fn.self (l.piece ++ more);
 }
 
 abbrev pub decreases-loop-line : goal.decreases-loop-line

@@ -5,13 +5,12 @@ use Rattle.ad_tree.specs.Inline.{Inline, Inlines, Defs, end, next, no_defs, def}
 use Rattle.ad_tree.specs.Tree.{select, subscript, choice, call, list}
 use Rattle.ad_lexer.specs.declared.mark.Mark.{Mark}
 use Rattle.ad_lexer.specs.declared.mark.Mark.TheVariants.{OpenParen, CloseParen, OpenBracket, CloseBracket, OpenBrace, CloseBrace, Comma, Dot, Assign, Question, Colon}
-use Rattle.ad_builder.specs.declared.instruction.Infix.{Infix}
 use Rattle.ad_builder.specs.declared.instruction.Instruction.TheVariants as instructions
 use Rattle.ad_grammar.specs.declared.stop.Stop.{Stop}
 use Rattle.ad_grammar.specs.declared.stop.Stop.TheVariants as stops
 use Rattle.ad_builder.specs.Machine.{top, below, step, chosen, with_element, with_elements, with_definition}
-use Rattle.ad_grammar.specs.Rules.{Rule, Reading, and_then, name_at, close_paren, close_bracket, close_brace, several_behind, several, arguments, elements, assigned, definitions_behind, definitions_at, ad_behind, plain_at, primary, postfix, suffixes, infix_at, operation_or, operations, level_at, colon, choice_behind, conditionals}
-use Rattle.ad_builder.specs.Shapes.{over_one, over_two, over_three, joined}
+use Rattle.ad_grammar.specs.Rules.{Rule, Reading, and_then, name_at, close_paren, close_bracket, close_brace, several_behind, several, arguments, elements, assigned, definitions_behind, definitions_at, ad_behind, plain_at, primary, postfix, suffixes, level_at, colon, choice_behind, conditionals}
+use Rattle.ad_builder.specs.Shapes.{over_one, over_two, over_three}
 use Rattle.ad_grammar.specs.Steps.{Begins, Puts, defined_at, selected, extended, completed}
 use Rattle.ad_grammar.specs.Words.{Word, plain, quoted, constant, mark}
 use Rattle.ad_grammar.proofs.MachineLemmas.{choices, chosen-top, chosen-below, chosen-next, choices-next, extended-new, extended-next, completed-new, completed-next}
@@ -309,29 +308,6 @@ module _ (p : ℕ) (start before first : List Inline) (on : below first ≡ befo
   pub conditionals-below_more : (second : List Inline) → below second ≡ first → (x : Inline) → below (chosen (p + 1) (x ∷ second)) ≡ start
   conditionals-below_more second on_that x =
       ap below (sym (chosen-next p before first second on on_that x)) ∙ inv (over_three choice (top first) (top second) x)
-
--- ---- operations ----
-
-module _ (tight : Rule) (w : Reading Inline) (k n : ℕ) (before : List Inline) (ws : List Word) (inv : w ≡ operations tight k n (top before) ws) (some : 0 < n)
-    (rest : List Word) (op : Infix) (found : infix_at k ws ≡ Some (op, rest)) where
-  turn : operations tight k n (top before) ws ≡ and_then (tight rest) (λ y. operations tight k (n - 1) (joined op (top before) y))
-  turn = ap (λ m. operations tight k m (top before) ws) (less n some) ∙ ap (operation_or tight (operations tight k (n - 1)) (top before) ws) found
-
-  pub operations-operandless : tight rest ≡ None → w ≡ None
-  operations-operandless none = inv ∙ turn ∙ ap (λ r. and_then r (λ y. operations tight k (n - 1) (joined op (top before) y))) none
-
-  pub operations-more : (second after : List Inline) (now : List Word) → below second ≡ before → tight rest ≡ Some (top second, now) → after ≡ step (instructions.Infix op) second
-      → w ≡ operations tight k (n - 1) (top after) now
-  operations-more second after now on read is =
-      inv ∙ turn ∙ ap (λ r. and_then r (λ y. operations tight k (n - 1) (joined op (top before) y))) read
-      ∙ ap (λ st. operations tight k (n - 1) (joined op (top st) (top second)) now) (sym on)
-      ∙ ap (λ st. operations tight k (n - 1) (top st) now) (sym is)
-
-pub operations-end : (tight : Rule) (w : Reading Inline) (k n : ℕ) (before : List Inline) (ws now : List Word) → w ≡ operations tight k n (top before) ws → 0 < n → infix_at k ws ≡ None → now ≡ ws
-    → w ≡ Some (top before, now)
-operations-end tight w k n before ws now inv some none kept =
-    inv ∙ ap (λ m. operations tight k m (top before) ws) (less n some) ∙ ap (operation_or tight (operations tight k (n - 1)) (top before) ws) none
-    ∙ ap (λ r. Some (top before, r)) (sym kept)
 
 -- what stands below two trees that an instruction joins
 pub two-below : (start before second after : List Inline) → below before ≡ start → below second ≡ before → below after ≡ below (below second) → below after ≡ start

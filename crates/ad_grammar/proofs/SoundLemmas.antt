@@ -79,7 +79,7 @@ start : {R : List Word → Inline → Type 0} {ws : List Word} (front : List Wor
 start front rest split of h = gives _ rest (part front split (of, ready front rest h))
 
 -- an operator in front that binds this loosely
-abbrev ReadsInfix : ℕ → List Word → Infix → List Word → Type 0
+abbrev pub ReadsInfix : ℕ → List Word → Infix → List Word → Type 0
 ReadsInfix k ws op rest = (m : Mark) × (ws ≡ mark m ∷ rest) × (infix_of m ≡ Some (k, op))
 
 at_precedence-holds : (k : ℕ) (m : Mark) (known : Option (ℕ × Infix)) → infix_of m ≡ known
@@ -91,7 +91,7 @@ at_precedence-holds k m (Some (j, op)) is ws = by (j == k) refl
     by true e = let same : j ≡ k = grind (arith, nat_tests) in gives _ _ (m, refl, is ∙ ap (λ i. Some (i, op)) same)
     by false e = none
 
-infix_at-holds : (k : ℕ) (ws : List Word) → Holds (ReadsInfix k ws) (infix_at k ws)
+pub infix_at-holds : (k : ℕ) (ws : List Word) → Holds (ReadsInfix k ws) (infix_at k ws)
 infix_at-holds k (mark m ∷ ws) = at_precedence-holds k m (infix_of m) refl ws
 infix_at-holds k ws = none
 
@@ -243,7 +243,7 @@ module _ (e : Rule) (inner_sound : IsSound IsExpr e) where
     operations-sound (suc n) x ws s =
         operation-sound (operations tight (suc k) n) (operations-sound n) x ws s (infix_at (suc k) ws) (infix_at-holds (suc k) ws)
 
-  level_at-sound : (k : ℕ) → IsSound (IsLevel k) (level_at e k)
+  pub level_at-sound : (k : ℕ) → IsSound (IsLevel k) (level_at e k)
   level_at-sound zero ws = by_rule (prefixes-sound ws) single
   level_at-sound (suc k) ws = and_then-holds (by_rule (level_at-sound k ws) (tighter k)) (λ x rest s.
       operations-sound k (level_at e k) (level_at-sound k) ws (length rest) x rest s)

@@ -83,8 +83,8 @@ fn level(
     climb(alloc, reader, machine, fuel, precedence)
 }
 
-/// Operators that bind at most this loosely behind an operand, level by level from the tightest. Levels whose operators
-/// don't stand next are passed over at once.
+/// Operators that bind at most this loosely behind an operand, each with its right operand. Behind one of them operators that
+/// bind as tightly or looser may follow, since the right operand has taken those that bind tighter.
 #[cycle(grammar)]
 fn climb(
     alloc: Global,
@@ -97,41 +97,17 @@ fn climb(
         result (left reader.new) (below (stack machine.old)) (stack machine.new) }
 {
     let mut reached = 0;
-    while let Some(next) = reader.precedence(reached, precedence) {
-        operations(alloc, reader, machine, fuel, next)?;
-        reached = next;
-    }
-    Ok(())
-}
-
-/// Operators of one precedence behind an operand, each with its right operand.
-#[cycle(grammar)]
-fn operations(
-    alloc: Global,
-    reader: &mut Reader<'_>,
-    machine: &mut Machine,
-    fuel: usize,
-    precedence: usize,
-) -> Result<(), Stop>
-    requires { 1 ≤ precedence }
-    ensures { Puts (rules.operations (rules.level_at (rules.expression fuel) (precedence - 1)) precedence
-        (length (left reader.old)) (top (stack machine.old)) (left reader.old))
-        result (left reader.new) (below (stack machine.old)) (stack machine.new) }
-{
-    let mut turns = reader.count();
-    while turns > 0 {
-        turns -= 1;
-        let Some(operator) = reader.infix(precedence) else {
-            return Ok(());
-        };
-        level(alloc, reader, machine, fuel, precedence - 1)?;
+    while let Some((next, operator)) = reader.operator(reached, precedence) {
+        level(alloc, reader, machine, fuel, next - 1)?;
         machine.push(Instruction::Infix(operator))?;
+        reached = next - 1;
     }
     Ok(())
 }
 
 /// Operators before an operand, which most have none of.
 #[cycle(grammar)]
+#[inline(always)]
 fn prefixes(
     alloc: Global,
     reader: &mut Reader<'_>,
@@ -144,6 +120,24 @@ fn prefixes(
     if operand(alloc, reader, machine)? {
         return Ok(());
     }
+    if reader.has_prefix() {
+        return prefixed(alloc, reader, machine, fuel);
+    }
+    postfix(alloc, reader, machine, fuel)
+}
+
+/// An operand behind operators before it.
+#[cycle(grammar)]
+#[inline(never)]
+fn prefixed(
+    alloc: Global,
+    reader: &mut Reader<'_>,
+    machine: &mut Machine,
+    fuel: usize,
+) -> Result<(), Stop>
+    ensures { Puts (rules.prefixes (rules.expression fuel) (left reader.old))
+        result (left reader.new) (stack machine.old) (stack machine.new) }
+{
     let operators = read_operators(alloc, reader)?;
     postfix(alloc, reader, machine, fuel)?;
     Ok(apply(machine, operators)?)
@@ -151,6 +145,7 @@ fn prefixes(
 
 /// A primary with selections and subscripts behind it, which few have.
 #[cycle(grammar)]
+#[inline(always)]
 fn postfix(
     alloc: Global,
     reader: &mut Reader<'_>,
@@ -169,6 +164,7 @@ fn postfix(
 
 /// Selections and subscripts behind an operand.
 #[cycle(grammar)]
+#[inline(never)]
 fn suffixes(
     alloc: Global,
     reader: &mut Reader<'_>,
@@ -196,6 +192,7 @@ fn suffixes(
 
 /// What needs no operator.
 #[cycle(grammar)]
+#[inline(always)]
 fn primary(
     alloc: Global,
     reader: &mut Reader<'_>,
@@ -216,6 +213,7 @@ fn primary(
 
 /// A primary that begins with a mark, behind it.
 #[cycle(grammar)]
+#[inline(always)]
 fn marked(
     alloc: Global,
     reader: &mut Reader<'_>,
@@ -265,6 +263,7 @@ fn arguments(
 
 /// The elements of a list behind its opening mark.
 #[cycle(grammar)]
+#[inline(always)]
 fn elements(
     alloc: Global,
     reader: &mut Reader<'_>,
@@ -283,6 +282,7 @@ fn elements(
 
 /// One expression or more, divided by commas, which are added to the tree that is the last on the stack.
 #[cycle(grammar)]
+#[inline(always)]
 fn several(
     alloc: Global,
     reader: &mut Reader<'_>,

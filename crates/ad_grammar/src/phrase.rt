@@ -130,6 +130,7 @@ fn put(machine: &mut Machine, instruction: Instruction) -> Result<bool, Stop>
 }
 
 /// A plain name, a call, or a name in a scope. Answers whether it is a call.
+#[inline(always)]
 fn named(
     alloc: Global,
     reader: &mut Reader<'_>,
@@ -147,6 +148,7 @@ fn named(
 }
 
 /// A plain name, where no call begins, or a name in a scope.
+#[inline(always)]
 fn reference(
     alloc: Global,
     reader: &mut Reader<'_>,

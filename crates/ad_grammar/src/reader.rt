@@ -27,7 +27,7 @@ pub struct Reader<'a> {
 }
 
 impl<'a> Reader<'a> {
-    ghost use Rattle.std.specs.Prelude.{◌<◌, ◌∷◌, ◌^◌, ℕ, List, drop, slice_get, [], Some, None, Ok, Err, IfSome, true, false};
+    ghost use Rattle.std.specs.Prelude.{◌<◌, ◌∷◌, ◌^◌, ℕ, List, drop, is_some, slice_get, [], Some, None, Ok, Err, IfSome, true, false};
     ghost use Rattle.std.specs.Borrow.{Bor};
     ghost use Rattle.std.specs.Bool.{Decides};
     ghost use Rattle.ad_grammar.specs.Levels.{precedence_at};
@@ -278,30 +278,31 @@ impl<'a> Reader<'a> {
         }
     }
 
-    /// The precedence of the operator between operands that stands next, where it is above `tighter` and at most `last`.
-    pub(crate) fn precedence(&self, tighter: usize, last: usize) -> Option<usize>
-        ensures some { (n : ℕ) → result ≡ Some n → (precedence_at (left self.now) ≡ Some n) × (tighter < n) × (n ≤ last) }
-        ensures none { result ≡ None → (n : ℕ) → precedence_at (left self.now) ≡ Some n → tighter < n → n ≤ last → ⊥ }
+    /// Takes the operator between operands that stands next, where its precedence is above `tighter` and at most `last`. Answers
+    /// the precedence too.
+    pub(crate) fn operator(&mut self, tighter: usize, last: usize) -> Option<(usize, Infix)>
+        ensures taken { (n : ℕ) (op : Infix) → result ≡ Some (n, op) → infix_at n (left self.old) ≡ Some (op, left self.new) }
+        ensures within { IfSome result (λ found. (tighter < found.0) × (found.0 ≤ last)) }
+        ensures none { result ≡ None → (n : ℕ) → precedence_at (left self.old) ≡ Some n → tighter < n → n ≤ last → ⊥ }
+        ensures kept { result ≡ None → left self.new ≡ left self.old }
     {
-        let (found, _) = infix_of(self.mark()?)?;
-        if tighter < found && found <= last {
-            Some(found)
-        } else {
-            None
-        }
-    }
-
-    /// Takes an operator that binds so loosely between two operands.
-    pub(crate) fn infix(&mut self, precedence: usize) -> Option<Infix>
-        ensures { Finds (λ (op : Infix). op) (infix_at precedence (left self.old)) result (left self.old) (left self.new) }
-    {
-        let mark = self.mark()?;
-        let (found, operator) = infix_of(mark)?;
-        if found != precedence {
+        let (precedence, operator) = infix_of(self.mark()?)?;
+        if precedence <= tighter || last < precedence {
             return None;
         }
         self.skip();
-        Some(operator)
+        Some((precedence, operator))
+    }
+
+    /// Whether an operator before an operand stands next.
+    #[inline(always)]
+    pub(crate) fn has_prefix(&self) -> bool
+        ensures { result ≡ is_some (prefix_at (left self.now)) }
+    {
+        match self.mark() {
+            Some(mark) => prefix_of(mark).is_some(),
+            None => false,
+        }
     }
 
     /// Takes an operator before an operand.

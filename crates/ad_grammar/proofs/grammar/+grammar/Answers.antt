@@ -3,11 +3,11 @@ use Rattle.ad_grammar.specs.Levels.{climb}
 use Rattle.ad_tree.specs.Inline.{Inline}
 use Rattle.ad_builder.specs.Machine.{stack, top, below}
 use Rattle.ad_grammar.specs.Rules as rules
-use Rattle.ad_grammar.specs.Steps.{left, wrapped, extended, completed, ContinuesOk}
+use Rattle.ad_grammar.specs.Steps.{left, extended, completed, ContinuesOk}
 use Rattle.ad_grammar.specs.Words.{mark as mark_word}
 use Rattle.ad_grammar.proofs.MachineLemmas.{choices, choices-nil}
-use Rattle.ad_grammar.proofs.RuleLemmas.{less, puts-ok, stops-now, puts-expected, reputs, stops-here, stops-by, stops-full, arguments-unread, arguments-broken, arguments-closed, elements-unread, elements-broken, elements-closed, list-begun, ad-begun, paren-none, paren-closed, paren-broken, primary-none, postfix-none, postfix-alone, conditionals-operandless, conditionals-choiceless, conditionals-end, conditionals-unclosed, conditionals-more, conditionals-below, conditionals-below_more, operations-end, operations-operandless, operations-more, two-below, several-valueless, several-end, several-more, definitions-unnamed, definitions-valueless, definitions-stopped, definitions-end, definitions-more, suffixes-end, suffixes-select, suffixes-unselected, suffixes-placeless, suffixes-broken, suffixes-subscript}
-use Rattle.ad_grammar.proofs.LevelLemmas.{level-climbed, level-none, climb-end, climb-broken, climb-more}
+use Rattle.ad_grammar.proofs.RuleLemmas.{less, puts-ok, stops-now, puts-expected, reputs, stops-here, stops-by, stops-full, arguments-unread, arguments-broken, arguments-closed, elements-unread, elements-broken, elements-closed, list-begun, ad-begun, paren-none, paren-closed, paren-broken, primary-none, postfix-none, postfix-alone, conditionals-operandless, conditionals-choiceless, conditionals-end, conditionals-unclosed, conditionals-more, conditionals-below, conditionals-below_more, two-below, several-valueless, several-end, several-more, definitions-unnamed, definitions-valueless, definitions-stopped, definitions-end, definitions-more, suffixes-end, suffixes-select, suffixes-unselected, suffixes-placeless, suffixes-broken, suffixes-subscript}
+use Rattle.ad_grammar.proofs.LevelLemmas.{level-climbed, level-none, climb-end, climb-operandless, climb-shorter, climb-more}
 use Rattle.ad_grammar.proofs.grammar.+grammar.Goals as goal
 
 pub expression-returns : goal.expression-returns
@@ -44,41 +44,54 @@ level-returns t c =
 
 pub climb-returns : goal.climb-returns
 climb-returns t c =
-    let e = rules.expression c.args.fuel in
-    let before = stack c.args.machine.now in
-    let now = stack c.loop-next.machine in
-    let w = climb e 0 c.args.precedence (top before) (left c.args.reader.now) in
-    puts-ok w (left c.loop-next.reader) (below before) now tt
-    (climb-end e w c.loop-next.reached c.args.precedence (top now) (left c.loop-next.reader) c.loop-next.invariant.read c.loop-next.invariant.within
-    (c.in_default.ensures.none refl))
+    let start = stack c.args.machine.now in
+    let before = stack c.loop-next.machine in
+    let w = climb (rules.expression c.args.fuel) 0 c.args.precedence (top start) (left c.args.reader.now) in
+    let now = left c.operator.new.self in
+    puts-ok w now (below start) before tt
+    (climb-end c.args.fuel w c.loop-next.reached c.args.precedence before (left c.loop-next.reader) c.loop-next.invariant.read now
+    c.loop-next.invariant.within (c.in_default.ensures.none refl) (c.in_default.ensures.kept refl))
     c.loop-next.invariant.rest
 
-pub climb-returns-in_err-operations : goal.climb-returns-in_err-operations
-climb-returns-in_err-operations t c =
-    let e = rules.expression c.args.fuel in
-    let before = stack c.args.machine.now in
-    let now = stack c.loop-next.machine in
-    let w = climb e 0 c.args.precedence (top before) (left c.args.reader.now) in
-    let next = c.in-Some.ensures.some c.in-Some.next refl in
-    stops-by w (left c.operations.new.reader) (below before) (stack c.operations.new.machine)
-    c.from_residual.result c.in_err-operations.field-0.0 c.from_residual.ensures.0 c.from_residual.ensures.1
-    (λ stop. climb-broken e w c.loop-next.reached c.args.precedence (top now) (left c.loop-next.reader) c.loop-next.invariant.read
-    c.in-Some.next next.1 next.2 next.0 (c.in_err-operations.ensures.none (ap Err stop)))
+pub climb-returns-in_err-level : goal.climb-returns-in_err-level
+climb-returns-in_err-level t c =
+    let start = stack c.args.machine.now in
+    let w = climb (rules.expression c.args.fuel) 0 c.args.precedence (top start) (left c.args.reader.now) in
+    let found = c.in-Some.ensures.within in
+    stops-by w (left c.level.new.reader) (below start) (stack c.level.new.machine)
+    c.from_residual.result c.in_err-level.field-0.0 c.from_residual.ensures.0 c.from_residual.ensures.1
+    (λ stop. climb-operandless c.args.fuel w c.loop-next.reached c.args.precedence (stack c.loop-next.machine) (left c.loop-next.reader) c.loop-next.invariant.read
+    c.in-Some.next c.in-Some.operator (left c.operator.new.self) found.0 found.1 (c.in-Some.ensures.taken c.in-Some.next c.in-Some.operator refl)
+    (c.in_err-level.ensures.none (ap Err stop)))
 
 pub climb-loop-next-preserved : goal.climb-loop-next-preserved
 climb-loop-next-preserved t c =
-    let e = rules.expression c.args.fuel in
-    let before = stack c.args.machine.now in
-    let now = stack c.loop-next.machine in
-    let w = climb e 0 c.args.precedence (top before) (left c.args.reader.now) in
-    let next = c.in-Some.ensures.some c.in-Some.next refl in
+    let start = stack c.args.machine.now in
+    let before = stack c.loop-next.machine in
+    let second = stack c.level.new.machine in
+    let after = stack c.push.new.self in
+    let w = climb (rules.expression c.args.fuel) 0 c.args.precedence (top start) (left c.args.reader.now) in
+    let found = c.in-Some.ensures.within in
+    let right = c.in_ok-level.ensures in
+    let on = right.on c.in_ok-level.field-0 refl in
     record {
-      read = climb-more e w c.loop-next.reached c.args.precedence (top now) (left c.loop-next.reader) c.loop-next.invariant.read
-          c.in-Some.next next.1 next.2 next.0 (top (stack c.operations.new.machine)) (left c.operations.new.reader)
-          (c.in_ok-operations.ensures.ok c.in_ok-operations.field-0 refl);
-      rest = c.in_ok-operations.ensures.on c.in_ok-operations.field-0 refl ∙ c.loop-next.invariant.rest;
-      within = next.2;
+      read = climb-more c.args.fuel w c.loop-next.reached c.args.precedence before (left c.loop-next.reader) c.loop-next.invariant.read
+          c.in-Some.next c.in-Some.operator (left c.operator.new.self) found.0 found.1 (c.in-Some.ensures.taken c.in-Some.next c.in-Some.operator refl)
+          second after (left c.level.new.reader) (right.ok c.in_ok-level.field-0 refl) on c.in_ok-push.ensures.ok;
+      rest = two-below (below start) before second after c.loop-next.invariant.rest on (ap below c.in_ok-push.ensures.ok);
+      within = omega (arith, found.1);
     }
+
+pub climb-loop-next-smaller : goal.climb-loop-next-smaller
+climb-loop-next-smaller t c =
+    let start = stack c.args.machine.now in
+    let before = stack c.loop-next.machine in
+    let w = climb (rules.expression c.args.fuel) 0 c.args.precedence (top start) (left c.args.reader.now) in
+    let found = c.in-Some.ensures.within in
+    let right = c.in_ok-level.ensures in
+    climb-shorter c.args.fuel w c.loop-next.reached c.args.precedence before (left c.loop-next.reader) c.loop-next.invariant.read
+    c.in-Some.next c.in-Some.operator (left c.operator.new.self) found.0 found.1 (c.in-Some.ensures.taken c.in-Some.next c.in-Some.operator refl)
+    (stack c.level.new.machine) (stack c.push.new.self) (left c.level.new.reader) (right.ok c.in_ok-level.field-0 refl)
 
 pub conditionals-returns-then-not-takes : goal.conditionals-returns-then-not-takes
 conditionals-returns-then-not-takes t c =
@@ -135,25 +148,6 @@ conditionals-loop-turns-preserved t c =
           (inside.ok c.in_ok-expression.field-0 refl) (c.in_ok-expect.ensures.ok _ refl);
       rest = conditionals-below_more p start before first on c.loop-turns.invariant.rest second on_that;
       few = omega (arith, c.loop-turns.invariant.few, c.loop-turns-test.true);
-    }
-
-pub operations-loop-turns-preserved : goal.operations-loop-turns-preserved
-operations-loop-turns-preserved t c =
-    let k = c.args.precedence in
-    let tight = rules.level_at (rules.expression c.args.fuel) (k - 1) in
-    let ws = left c.args.reader.now in
-    let start = stack c.args.machine.now in
-    let w = rules.operations tight k (length ws) (top start) ws in
-    let before = stack c.loop-turns.machine in
-    let second = stack c.level.new.machine in
-    let after = stack c.push.new.self in
-    let right = c.in_ok-level.ensures in
-    let on = right.on c.in_ok-level.field-0 refl in
-    record {
-      read = operations-more tight w k c.loop-turns.turns before (left c.loop-turns.reader) c.loop-turns.invariant.read
-          c.loop-turns-test.true (left c.infix.new.self) c.in-Some.operator (c.in-Some.ensures.some c.in-Some.operator refl)
-          second after (left c.level.new.reader) on (right.ok c.in_ok-level.field-0 refl) c.in_ok-push.ensures.ok;
-      rest = two-below (below start) before second after c.loop-turns.invariant.rest on (ap below c.in_ok-push.ensures.ok);
     }
 
 pub arguments-returns : goal.arguments-returns
@@ -526,27 +520,6 @@ marked-returns-in_err-expression-in-OpenParen t c =
     stops-by (rules.primary e (mark_word c.args.mark ∷ left c.args.reader.now)) (left c.expression.new.reader) (stack c.args.machine.now) (stack c.expression.new.machine) c.from_residual-in_err-expression-in-OpenParen.result c.in_err-expression-in-OpenParen.field-0.0 c.from_residual-in_err-expression-in-OpenParen.ensures.0 c.from_residual-in_err-expression-in-OpenParen.ensures.1
     (λ stop. paren-none e c.args.mark (left c.args.reader.now) c.in-OpenParen.is (c.in_err-expression-in-OpenParen.ensures.none (ap Err stop)))
 
-pub operations-returns-in_err-level : goal.operations-returns-in_err-level
-operations-returns-in_err-level t c =
-    let k = c.args.precedence in
-    let tight = rules.level_at (rules.expression c.args.fuel) (k - 1) in
-    let ws = left c.args.reader.now in
-    let start = stack c.args.machine.now in
-    let w = rules.operations tight k (length ws) (top start) ws in
-    let before = stack c.loop-turns.machine in
-    stops-by w (left c.level.new.reader) (below start) (stack c.level.new.machine) c.from_residual.result c.in_err-level.field-0.0 c.from_residual.ensures.0 c.from_residual.ensures.1
-    (λ stop. operations-operandless tight w k c.loop-turns.turns before (left c.loop-turns.reader) c.loop-turns.invariant.read c.loop-turns-test.true
-    (left c.infix.new.self) c.in-Some.operator (c.in-Some.ensures.some c.in-Some.operator refl) (c.in_err-level.ensures.none (ap Err stop)))
-
-pub operations-returns-in_err-push : goal.operations-returns-in_err-push
-operations-returns-in_err-push t c =
-    let k = c.args.precedence in
-    let tight = rules.level_at (rules.expression c.args.fuel) (k - 1) in
-    let ws = left c.args.reader.now in
-    let start = stack c.args.machine.now in
-    let w = rules.operations tight k (length ws) (top start) ws in
-    stops-full w (left c.level.new.reader) (below start) (stack c.push.new.self) c.from_residual-in_err-push.result c.from_residual-in_err-push.ensures.0 c.from_residual-in_err-push.ensures.1
-
 pub postfix-returns-in_err-primary : goal.postfix-returns-in_err-primary
 postfix-returns-in_err-primary t c =
     let e = rules.expression c.args.fuel in
@@ -564,25 +537,6 @@ postfix-returns t c =
     puts-ok (rules.postfix e ws) rest start after tt
     (postfix-alone e ws rest (top after) (c.in_ok-primary.ensures.ok c.in_ok-primary.field-0 refl) (c.has_suffix.ensures.dot c.if-has_suffix.false) (c.has_suffix.ensures.bracket c.if-has_suffix.false))
     (c.in_ok-primary.ensures.on c.in_ok-primary.field-0 refl)
-
-pub prefixes-returns-in_err-operators : goal.prefixes-returns-in_err-operators
-prefixes-returns-in_err-operators t c =
-    let e = rules.expression c.args.fuel in
-    let ws = left c.args.reader.now in
-    stops-full (rules.prefixes e ws) (left c.read_operators.new.reader) (stack c.args.machine.now) (stack c.operand.new.machine) c.from_residual-in_err-operators.result c.from_residual-in_err-operators.ensures.0 c.from_residual-in_err-operators.ensures.1
-
-pub prefixes-returns-in_err-postfix : goal.prefixes-returns-in_err-postfix
-prefixes-returns-in_err-postfix t c =
-    let e = rules.expression c.args.fuel in
-    let ws = left c.args.reader.now in
-    stops-by (rules.prefixes e ws) (left c.postfix.new.reader) (stack c.args.machine.now) (stack c.postfix.new.machine) c.from_residual-in_err-postfix.result c.in_err-postfix.field-0.0 c.from_residual-in_err-postfix.ensures.0 c.from_residual-in_err-postfix.ensures.1
-    (λ stop. ap (rules.prefixes e) (sym (c.in_ok-operand.ensures.kept (ap Ok c.if-branch.false))) ∙ c.in_ok-operators.ensures e ∙ ap (wrapped c.in_ok-operators.operators.items) (c.in_err-postfix.ensures.none (ap Err stop)))
-
-pub prefixes-returns-in_err-apply : goal.prefixes-returns-in_err-apply
-prefixes-returns-in_err-apply t c =
-    let e = rules.expression c.args.fuel in
-    let ws = left c.args.reader.now in
-    stops-full (rules.prefixes e ws) (left c.postfix.new.reader) (stack c.args.machine.now) (stack c.apply.new.machine) c.from_residual-in_err-apply.result c.from_residual-in_err-apply.ensures.0 c.from_residual-in_err-apply.ensures.1
 
 pub several-returns-in_err-element : goal.several-returns-in_err-element
 several-returns-in_err-element t c =
@@ -624,9 +578,6 @@ conditionals-overflow_add-pending t c = omega (arith, c.loop-turns.invariant.few
 
 pub conditionals-loop-turns-smaller : goal.conditionals-loop-turns-smaller
 conditionals-loop-turns-smaller t c = omega (arith, c.loop-turns-test.true)
-
-pub operations-loop-turns-smaller : goal.operations-loop-turns-smaller
-operations-loop-turns-smaller t c = omega (arith, c.loop-turns-test.true)
 
 pub several-loop-turns-smaller : goal.several-loop-turns-smaller
 several-loop-turns-smaller t c = omega (arith, c.loop-turns-test.true)
@@ -686,24 +637,6 @@ suffixes-returns t c =
     let out : c.loop-turns.turns ≡ 0 = omega (arith, c.loop-turns-test.false) in
     puts-ok (rules.suffixes e (length ws) (top start) ws) (left c.loop-turns.reader) (below start) before tt
     (c.loop-turns.invariant.read ∙ ap (λ n. rules.suffixes e n (top before) (left c.loop-turns.reader)) out) c.loop-turns.invariant.rest
-
-pub operations-returns-in_default : goal.operations-returns-in_default
-operations-returns-in_default t c =
-    let k = c.args.precedence in
-    let tight = rules.level_at (rules.expression c.args.fuel) (k - 1) in
-    let ws = left c.args.reader.now in
-    let start = stack c.args.machine.now in
-    let w = rules.operations tight k (length ws) (top start) ws in
-    let before = stack c.loop-turns.machine in
-    puts-ok w (left c.infix.new.self) (below start) before tt
-    (operations-end tight w k c.loop-turns.turns before (left c.loop-turns.reader) (left c.infix.new.self) c.loop-turns.invariant.read c.loop-turns-test.true
-    (c.in_default.ensures.none refl) (c.in_default.ensures.kept refl))
-    c.loop-turns.invariant.rest
-
-pub climb-loop-next-smaller : goal.climb-loop-next-smaller
-climb-loop-next-smaller t c =
-    let next = c.in-Some.ensures.some c.in-Some.next refl in
-    omega (arith, next.1, next.2)
 
 pub conditionals-level-requires : goal.conditionals-level-requires
 conditionals-level-requires t c = omega arith

@@ -19,11 +19,11 @@ decreases-level l = 60 * l.fuel + 13 + 3 * l.precedence
 abbrev pub decreases-climb : goal.decreases-climb
 decreases-climb l = 60 * l.fuel + 12 + 3 * l.precedence
 
-abbrev pub decreases-operations : goal.decreases-operations
-decreases-operations l = 60 * l.fuel + 11 + 3 * l.precedence
-
 abbrev pub decreases-prefixes : goal.decreases-prefixes
-decreases-prefixes l = 60 * l.fuel + 10
+decreases-prefixes l = 60 * l.fuel + 11
+
+abbrev pub decreases-prefixed : goal.decreases-prefixed
+decreases-prefixed l = 60 * l.fuel + 10
 
 abbrev pub decreases-postfix : goal.decreases-postfix
 decreases-postfix l = 60 * l.fuel + 9
@@ -77,20 +77,7 @@ invariant-climb-loop-next l = record {
 }
 
 abbrev pub decreases-climb-loop-next : goal.decreases-climb-loop-next
-decreases-climb-loop-next l = l.precedence - l.reached
-
-abbrev pub invariant-operations-loop-turns : goal.invariant-operations-loop-turns
-invariant-operations-loop-turns l = record {
-  read :
-      rules.operations (rules.level_at (rules.expression l.fuel) (l.precedence - 1)) l.precedence
-      (length (left l.initial.reader)) (top (stack l.initial.machine)) (left l.initial.reader)
-      ≡ rules.operations (rules.level_at (rules.expression l.fuel) (l.precedence - 1)) l.precedence
-      l.turns (top (stack l.machine)) (left l.reader);
-  rest : below (stack l.machine) ≡ below (stack l.initial.machine);
-}
-
-abbrev pub decreases-operations-loop-turns : goal.decreases-operations-loop-turns
-decreases-operations-loop-turns l = l.turns
+decreases-climb-loop-next l = length (left l.reader)
 
 abbrev pub invariant-suffixes-loop-turns : goal.invariant-suffixes-loop-turns
 invariant-suffixes-loop-turns l = record {

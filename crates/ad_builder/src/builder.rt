@@ -307,7 +307,7 @@ impl Builder {
             return Err(OutOfMemory);
         }
         let is_steady = self.draft.define(self.parent, name, value)?;
-        self.is_steady = self.is_steady && is_steady;
+        self.is_steady &= is_steady;
         self.definitions = self.definitions.saturating_add(1);
         Ok(())
     }
@@ -357,8 +357,9 @@ impl Builder {
         }
     }
 
-    /// The ad of the root, where it is the only operand.
+    /// The ad of the root, where it is the only operand. The frames of a steady draft are those of its ad already.
     pub fn finish_ad(self) -> Result<Ad, OutOfMemory>
+        requires { (st : List Inline) × Holds true self st }
         ensures { (st : List Inline) → Holds true self st → IfOk result (λ ad. ad_frames ad ≡ ad_of (top st)) }
     {
         let Builder {
@@ -380,6 +381,7 @@ impl Builder {
 
     /// The only operand as an expression that stands alone.
     pub fn finish_phrase(self) -> Result<Phrase, OutOfMemory>
+        requires { (st : List Inline) × Holds false self st }
         ensures { (st : List Inline) → Holds false self st → IfOk result (λ phrase.
             (ad_frames phrase.ad ≡ phrase_of (top st)) × (tree phrase.expr ≡ phrase_tree (top st))) }
     {
@@ -390,8 +392,13 @@ impl Builder {
             ..
         } = self;
         match sole_value(operands) {
-            Ok(expr) if is_steady => draft.into_phrase(expr),
-            Ok(expr) => draft.finish_phrase(expr),
+            Ok(expr) => {
+                if is_steady {
+                    draft.into_phrase(expr)
+                } else {
+                    draft.finish_phrase(expr)
+                }
+            }
             Err(error) => {
                 drop(draft);
                 Err(error)

@@ -1,11 +1,13 @@
 -- How a builder changes with each instruction.
-use Rattle.std.proofs.Common.{◌≡◌, ℕ, ◌+◌, min, Bool, true, false, List, [], ◌∷◌, ◌++◌, length, map, slice_get, Some, Result, Ok, Err, IfOk, OnOk, refl, sym, subst, ap, ◌∙◌, arith}
+use Rattle.std.proofs.Common.{◌≡◌, ℕ, ◌+◌, min, Bool, true, false, ◌&&◌, List, [], ◌∷◌, ◌++◌, length, map, slice_get, Some, Result, Ok, Err, IfOk, OnOk, refl, sym, subst, ap, ◌∙◌, arith}
 use Rattle.ad_tree.specs.Draft.{draft_frames}
-use Rattle.ad_tree.specs.Frames.{Frame, empty_frame, defined}
+use Rattle.ad_tree.specs.Frames.{Frame, IsAd, attributes_at, empty_frame, defined}
 use Rattle.ad_tree.specs.Inline.{Inline, inner, no_defs, frames, height, number, spelled, spelled_tree, ad_of, phrase_of, phrase_tree}
+use Rattle.ad_tree.specs.Steady.{MovesNone}
 use Rattle.ad_tree.specs.Tree.{Label, Tree, node, frame, none, one, two, three, all, any, choice, pack, tree}
 use Rattle.ad_tree.specs.declared.tree.Expr.{Expr}
 use Rattle.ad_tree.proofs.InlineLemmas.{pack-push}
+use Rattle.ad_tree.proofs.NameLemmas.{both_left, both_right}
 use Rattle.ad_builder.specs.Builds.{slot, measure_of, HasPut, HasTaken, Holds}
 use Rattle.ad_builder.specs.Counts.{counting_limit, tallest_measured, AreCounted}
 use Rattle.ad_builder.specs.JoinedTrees.{joined_tree, TakesElement}
@@ -13,6 +15,7 @@ use Rattle.ad_builder.specs.Laid.{Slot, value, open_ad, Laid}
 use Rattle.ad_builder.specs.Machine.{top, below, with_element, with_definition}
 use Rattle.ad_builder.specs.Measures.{IsMeasure, AreMeasures}
 use Rattle.ad_builder.specs.Shapes.{leaf, over_one, over_two, over_three, joined}
+use Rattle.ad_builder.specs.Steady.{AreSteady}
 use Rattle.ad_builder.specs.declared.builder.Builder.{Builder}
 use Rattle.ad_builder.specs.declared.builder.Operand.{Operand}
 use Rattle.ad_builder.specs.declared.builder.Operand.TheVariants as operands
@@ -23,6 +26,7 @@ use Rattle.ad_builder.proofs.CountLemmas.{leaf-counted, one-counted, two-counted
 use Rattle.ad_builder.proofs.LaidLemmas.{last_tree-last, leaf-laid, one-laid, two-laid, three-laid, joined-laid, element-laid, open-laid, define-laid, define-recounted, close-laid, ad-finished, phrase-finished, phrase_tree-finished}
 use Rattle.ad_builder.proofs.MeasureLemmas.{taken}
 use Rattle.ad_builder.proofs.StackLemmas.{first-changed}
+use Rattle.ad_builder.proofs.SteadyLemmas.{IsWhole, leaf-steady, empty-steady, one-steady, two-steady, joined-steady, element-steady, three-steady, definition-steady, ad-steady, phrase-steady}
 
 -- what an Ok tells, told on
 pub on_ok : {A E : Type 0} (r : Result A E) {P Q : Type 0} → (P → Q) → OnOk r P → OnOk r Q
@@ -85,6 +89,7 @@ module _ (is_ad : Bool) (st : List Inline) where
             (leaf-laid is_ad old.parent (draft_frames old.draft) label (map slot old.operands) st h.laid));
         measured = put-measured (leaf label) st put measured h.measured;
         counted = recounted put.frames put.definitions (leaf-counted old.frames old.definitions st h.counted label);
+        steady = λ is_steady. (leaf-steady label, h.steady (sym put.steady ∙ is_steady));
       }
 
   pub one-carried : (label : Label) {t u : Tree} {m r : Measure} {old between new : Builder} → HasPut (value t) m between old → u ≡ node label (one t)
@@ -99,6 +104,7 @@ module _ (is_ad : Bool) (st : List Inline) where
             (one-laid is_ad between.parent (draft_frames between.draft) label (map slot between.operands) t st (taken-laid is_ad st [] first h.laid)));
         measured = put-measured (over_one label (top st)) (below st) put (measured (top st) part.0) part.1;
         counted = recounted (put.frames ∙ sym first.frames) (put.definitions ∙ sym first.definitions) (one-counted old.frames old.definitions st h.counted label);
+        steady = λ is_steady. one-steady st (h.steady (first.steady ∙ sym put.steady ∙ is_steady)) label;
       }
 
   -- a tree that is made of the last two
@@ -106,14 +112,15 @@ module _ (is_ad : Bool) (st : List Inline) where
       (put : HasPut (value w) r between new) (h : Holds is_ad old st) where
     two-put : Laid is_ad (value w ∷ map slot between.operands) between.parent (x ∷ below (below st)) (draft_frames between.draft)
         → (IsMeasure m (top (below st)) → IsMeasure n (top st) → IsMeasure r x) → AreCounted old.frames old.definitions (x ∷ below (below st))
-        → Holds is_ad new (x ∷ below (below st))
-    two-put laid measured counted =
+        → (AreSteady st → AreSteady (x ∷ below (below st))) → Holds is_ad new (x ∷ below (below st))
+    two-put laid measured counted steady =
         let right = taken-measured st second h.measured in
         let left = taken-measured (below st) first right.1 in
         record {
           laid = put-laid is_ad (x ∷ below (below st)) put laid;
           measured = put-measured x (below (below st)) put (measured left.0 right.0) left.1;
           counted = recounted (put.frames ∙ sym first.frames ∙ sym second.frames) (put.definitions ∙ sym first.definitions ∙ sym second.definitions) counted;
+          steady = λ is_steady. steady (h.steady (second.steady ∙ first.steady ∙ sym put.steady ∙ is_steady));
         }
 
     parts-laid : Laid is_ad (value u ∷ value t ∷ map slot between.operands) between.parent st (draft_frames between.draft)
@@ -128,6 +135,7 @@ module _ (is_ad : Bool) (st : List Inline) where
       (subst (λ w. Laid is_ad (value w ∷ map slot between.operands) between.parent (x ∷ below (below st)) (draft_frames between.draft)) (sym is)
       (two-laid is_ad between.parent (draft_frames between.draft) label (map slot between.operands) t u st (parts-laid x second first put h)))
       (measured (top (below st)) (top st)) (two-counted old.frames old.definitions st h.counted label)
+      (λ steady. two-steady st steady label)
 
   pub infix-carried : (op : Infix) {t u v : Tree} {m n r : Measure} {old then between new : Builder} → HasPut (value u) n then old → HasPut (value t) m between then
       → v ≡ joined_tree op t u → ((x y : Inline) → IsMeasure m x → IsMeasure n y → IsMeasure r (joined op x y)) → HasPut (value v) r between new
@@ -138,6 +146,7 @@ module _ (is_ad : Bool) (st : List Inline) where
       (subst (λ w. Laid is_ad (value w ∷ map slot between.operands) between.parent (x ∷ below (below st)) (draft_frames between.draft)) (sym is)
       (joined-laid is_ad between.parent (draft_frames between.draft) op (map slot between.operands) t u st (parts-laid x second first put h)))
       (measured (top (below st)) (top st)) (joined-counted old.frames old.definitions st h.counted op)
+      (λ steady. joined-steady st steady op)
 
   pub element-carried : {t u v : Tree} {m n r : Measure} {old then between new : Builder} → HasPut (value u) n then old → HasPut (value t) m between then
       → TakesElement t u v → ((x y : Inline) → IsMeasure m x → IsMeasure n y → IsMeasure r (with_element x y)) → HasPut (value v) r between new
@@ -147,6 +156,7 @@ module _ (is_ad : Bool) (st : List Inline) where
       two-put x second first put h
       (element-laid is_ad between.parent (draft_frames between.draft) (map slot between.operands) t u v st is (parts-laid x second first put h))
       (measured (top (below st)) (top st)) (element-counted old.frames old.definitions st h.counted)
+      (element-steady st)
 
   -- the same where the tree below the last is changed in its place
   pub element-changed : {u : Tree} {n : Measure} {old then new : Builder} → HasPut (value u) n then old → HasTaken u n then new
@@ -162,6 +172,7 @@ module _ (is_ad : Bool) (st : List Inline) where
         drafted = refl;
         frames = refl;
         definitions = refl;
+        steady = refl;
       } in
       let put_last : HasPut (value trees.1) (measure_of taken.last) between new = record {
         operands = ap (map slot) (taken.stands ∙ parts.2) ∙ ap (λ s. s ∷ map slot parts.0) trees.3;
@@ -170,6 +181,7 @@ module _ (is_ad : Bool) (st : List Inline) where
         drafted = taken.drafted;
         frames = taken.frames;
         definitions = taken.definitions;
+        steady = taken.steady;
       } in
       element-carried second taken_first trees.4 taken.measured put_last h
 
@@ -190,12 +202,14 @@ module _ (is_ad : Bool) (st : List Inline) where
         measured = put-measured x (below (below (below st))) put (measured (top (below (below st))) (top (below st)) (top st) left.0 middle.0 right.0) left.1;
         counted = recounted (put.frames ∙ sym first.frames ∙ sym second.frames ∙ sym third.frames) (put.definitions ∙ sym first.definitions ∙ sym second.definitions ∙ sym third.definitions)
             (three-counted old.frames old.definitions st h.counted);
+        steady = λ is_steady. three-steady st (h.steady (third.steady ∙ second.steady ∙ first.steady ∙ sym put.steady ∙ is_steady));
       }
 
   pub open-carried : (old : Builder) {new : Builder} (m : Measure) (n : ℕ) → n ≡ length (draft_frames old.draft) → draft_frames new.draft ≡ draft_frames old.draft ++ empty_frame old.parent ∷ []
       → new.operands ≡ operands.Open m n old.parent ∷ old.operands → new.parent ≡ n → IsMeasure m (inner no_defs)
-      → new.frames ≡ min (old.frames + 1) counting_limit → new.definitions ≡ old.definitions → Holds is_ad old st → Holds is_ad new (inner no_defs ∷ st)
-  open-carried old {new} m n at drafted more here measured frames defs h =
+      → new.frames ≡ min (old.frames + 1) counting_limit → new.definitions ≡ old.definitions
+      → new.is_steady ≡ old.is_steady → Holds is_ad old st → Holds is_ad new (inner no_defs ∷ st)
+  open-carried old {new} m n at drafted more here measured frames defs same h =
       let now : List Inline = inner no_defs ∷ st in
       record {
         laid = subst (λ os. Laid is_ad (map slot os) new.parent now (draft_frames new.draft)) (sym more)
@@ -203,6 +217,7 @@ module _ (is_ad : Bool) (st : List Inline) where
             (open-laid is_ad old.parent (draft_frames old.draft) (map slot old.operands) n st at drafted h.laid));
         measured = subst (λ os. AreMeasures (map measure_of os) now) (sym more) (measured, h.measured);
         counted = recounted refl defs (open-counted old.frames old.definitions st h.counted new.frames frames);
+        steady = λ is_steady. (empty-steady, h.steady (sym same ∙ is_steady));
       }
 
   pub define-carried : (old between : Builder) {new : Builder} (l m r : Measure) (n outer : ℕ) (rest : List Operand) (name : List ℕ) {t : Tree} → HasPut (value t) m between old
@@ -210,8 +225,10 @@ module _ (is_ad : Bool) (st : List Inline) where
       → new.operands ≡ operands.Open r n outer ∷ rest → new.parent ≡ between.parent
       → ((x y : Inline) → IsMeasure l x → IsMeasure m y → IsMeasure r (with_definition x name y))
       → new.frames ≡ between.frames → new.definitions ≡ min (between.definitions + 1) counting_limit
+      → (moves_none : Bool) → new.is_steady ≡ (between.is_steady && moves_none)
+      → (moves_none ≡ true → MovesNone name t (attributes_at (draft_frames between.draft) between.parent))
       → Holds is_ad old st → Holds is_ad new (with_definition (top (below st)) name (top st) ∷ below (below st))
-  define-carried old between {new} l m r n outer rest name {t} first pop is more here measured frames defs h =
+  define-carried old between {new} l m r n outer rest name {t} first pop is more here measured frames defs moves_none both moves h =
       let now : List Inline = with_definition (top (below st)) name (top st) ∷ below (below st) in
       let before : Laid is_ad (value t ∷ open_ad n outer ∷ map slot rest) between.parent st (draft_frames between.draft) =
       subst (λ os. Laid is_ad (value t ∷ map slot os) between.parent st (draft_frames between.draft)) pop (taken-laid is_ad st [] first h.laid) in
@@ -224,12 +241,16 @@ module _ (is_ad : Bool) (st : List Inline) where
         measured = subst (λ os. AreMeasures (map measure_of os) now) (sym more) (measured (top (below st)) (top st) left.0 right.0, left.1);
         counted = define-recounted is_ad between.parent (draft_frames between.draft) (map slot rest) n outer t name st before
             old.frames old.definitions new.frames new.definitions (frames ∙ sym first.frames) (defs ∙ ap (λ k. min (k + 1) counting_limit) (sym first.definitions)) h.counted;
+        steady = λ is_steady.
+            let was : (between.is_steady && moves_none) ≡ true = sym both ∙ is_steady in
+            definition-steady is_ad between.parent (draft_frames between.draft) (map slot rest) n outer t name (moves (both_right _ _ was)) st before
+            (h.steady (first.steady ∙ both_left _ _ was));
       }
 
   pub close-carried : (old : Builder) (n outer : ℕ) (os : List Operand) {m : Measure} {t : Tree} {between new : Builder} → old.operands ≡ operands.Open m n outer ∷ os → HasPut (value t) m between new
       → between.operands ≡ os → between.parent ≡ outer → draft_frames between.draft ≡ draft_frames old.draft → between.frames ≡ old.frames → between.definitions ≡ old.definitions → t ≡ frame n
-      → Holds is_ad old st → Holds is_ad new st
-  close-carried old n outer os {m} {t} {between} {new} pop put same_operands at same frames defs is h =
+      → between.is_steady ≡ old.is_steady → Holds is_ad old st → Holds is_ad new st
+  close-carried old n outer os {m} {t} {between} {new} pop put same_operands at same frames defs is steady h =
       let all : operands.Open m n outer ∷ between.operands ≡ old.operands = ap (λ l. operands.Open m n outer ∷ l) same_operands ∙ sym pop in
       record {
         laid = put-laid is_ad st put
@@ -240,6 +261,7 @@ module _ (is_ad : Bool) (st : List Inline) where
             (subst (λ l. Laid is_ad (map slot l) old.parent st (draft_frames old.draft)) (sym all) h.laid)))));
         measured = subst (λ ms. AreMeasures ms st) (sym put.measures) (subst (λ l. AreMeasures (map measure_of l) st) (sym all) h.measured);
         counted = recounted (put.frames ∙ frames) (put.definitions ∙ defs) h.counted;
+        steady = λ is_steady. h.steady (sym (put.steady ∙ steady) ∙ is_steady);
       }
 
 -- a leaf that was added at once
@@ -253,6 +275,7 @@ leaf-added is_ad st label m e {old} is measured taken h =
       drafted = refl;
       frames = refl;
       definitions = refl;
+      steady = refl;
     } in
     element-changed is_ad (leaf label ∷ st) put taken (leaf-carried is_ad st label is measured put h)
 
@@ -277,6 +300,12 @@ pub ad-held : (b : Builder) (m : Measure) (n outer : ℕ) (st : List Inline) {re
 ad-held b m n outer st only h is =
     ad-finished n outer b.parent (draft_frames b.draft) st (subst (λ os. Laid true (map slot os) b.parent st (draft_frames b.draft)) only h.laid) is
 
+-- a builder that is steady has the frames of its ad already
+pub ad-made : (b : Builder) (m : Measure) (n outer : ℕ) (st : List Inline) → b.operands ≡ operands.Open m n outer ∷ [] → Holds true b st → b.is_steady ≡ true
+    → (draft_frames b.draft ≡ ad_of (top st)) × IsAd (draft_frames b.draft)
+ad-made b m n outer st only h is_steady =
+    ad-steady n outer b.parent (draft_frames b.draft) st (subst (λ os. Laid true (map slot os) b.parent st (draft_frames b.draft)) only h.laid) (h.steady is_steady)
+
 module _ {t : Tree} (b : Builder) (st : List Inline) (only : map slot b.operands ≡ value t ∷ []) (h : Holds false b st) where
   alone : Laid false (value t ∷ []) b.parent st (draft_frames b.draft)
   alone = subst (λ ss. Laid false ss b.parent st (draft_frames b.draft)) only h.laid
@@ -286,6 +315,9 @@ module _ {t : Tree} (b : Builder) (st : List Inline) (only : map slot b.operands
 
   pub phrase_tree-held : {result : Tree} → result ≡ number 1 (spelled_tree (draft_frames b.draft) t) → result ≡ phrase_tree (top st)
   phrase_tree-held is = phrase_tree-finished t b.parent (draft_frames b.draft) st alone is
+
+  pub phrase-made : b.is_steady ≡ true → IsWhole (top st) (draft_frames b.draft) t
+  phrase-made is_steady = phrase-steady t b.parent (draft_frames b.draft) st alone (h.steady is_steady)
 
 -- ---- the last tree
 

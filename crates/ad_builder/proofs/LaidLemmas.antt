@@ -18,7 +18,7 @@ use Rattle.ad_builder.proofs.CountLemmas.{define-counted}
 
 -- ---- one tree and one definition more
 
-followed_by-last : (xs : Inlines) (y : Inline) → followed_by xs y ≡ next_last xs y
+pub followed_by-last : (xs : Inlines) (y : Inline) → followed_by xs y ≡ next_last xs y
 followed_by-last end y = refl
 followed_by-last (next x xs) y = ap (next x) (followed_by-last xs y)
 
@@ -26,7 +26,7 @@ pub last_tree-last : (ts : Trees) (u : Tree) → last_tree ts u ≡ more_last ts
 last_tree-last none u = refl
 last_tree-last (more t ts) u = ap (more t) (last_tree-last ts u)
 
-defined_last-last : (ds : Defs) (text : List ℕ) (x : Inline) → defined_last ds text x ≡ def_last ds text x
+pub defined_last-last : (ds : Defs) (text : List ℕ) (x : Inline) → defined_last ds text x ≡ def_last ds text x
 defined_last-last no_defs text x = refl
 defined_last-last (def other y ds) text x = ap (def other y) (defined_last-last ds text x)
 
@@ -164,7 +164,7 @@ ad-finished n outer p fs (inner ds ∷ []) h r =
 
 -- an expression that is the only operand
 module _ (t : Tree) (p : ℕ) (fs : List Frame) where
-  alone : (x : Inline) → Laid false (value t ∷ []) p (x ∷ []) fs → IsPlaced 0 x t (empty_frame 0 ∷ []) fs
+  pub alone : (x : Inline) → Laid false (value t ∷ []) p (x ∷ []) fs → IsPlaced 0 x t (empty_frame 0 ∷ []) fs
   alone x h = subst (λ n. IsPlaced n x t (empty_frame 0 ∷ []) fs) h.1.0 (subst (λ before. IsPlaced p x t before fs) h.1.1 h.2)
 
   numbered : (x : Inline) → Laid false (value t ∷ []) p (x ∷ []) fs → t ≡ number 1 x

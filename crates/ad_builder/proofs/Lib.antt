@@ -6,3 +6,4 @@ mod LaidLemmas
 mod MachineLemmas
 mod MeasureLemmas
 mod StackLemmas
+mod SteadyLemmas

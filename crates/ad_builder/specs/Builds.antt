@@ -1,5 +1,5 @@
 -- What contracts see of the builder of an ad.
-use Rattle.std.specs.Prelude.{◌≡◌, Bool, List, ◌∷◌, map, slice_get, slice_set, Some, Result, OnOk}
+use Rattle.std.specs.Prelude.{◌≡◌, Bool, true, List, ◌∷◌, map, slice_get, slice_set, Some, Result, OnOk}
 use Rattle.pool_text.specs.declared.memory.OutOfMemory.{OutOfMemory}
 use Rattle.ad_tree.specs.Draft.{draft_frames}
 use Rattle.ad_tree.specs.Inline.{Inline}
@@ -15,6 +15,7 @@ use Rattle.ad_builder.specs.declared.builder.Operand.{Operand}
 use Rattle.ad_builder.specs.declared.builder.Operand.TheVariants as operands
 use Rattle.ad_builder.specs.declared.measure.Measure.{Measure}
 use Rattle.ad_builder.specs.Laid.{Slot, value, open_ad, Laid}
+use Rattle.ad_builder.specs.Steady.{AreSteady}
 
 abbrev pub slot : Operand → Slot
 slot (operands.Value measure expr) = value (tree expr)
@@ -32,6 +33,7 @@ pub record HasPut (s : Slot) (m : Measure) (before after : Builder) : Type 0 whe
   pub drafted : draft_frames after.draft ≡ draft_frames before.draft
   pub frames : after.frames ≡ before.frames
   pub definitions : after.definitions ≡ before.definitions
+  pub steady : after.is_steady ≡ before.is_steady
 
 -- the tree that is the last operand has one tree more, in its place, and nothing else is changed
 pub record HasTaken (u : Tree) (m : Measure) (before after : Builder) : Type 0 where
@@ -43,14 +45,16 @@ pub record HasTaken (u : Tree) (m : Measure) (before after : Builder) : Type 0 w
   pub drafted : draft_frames after.draft ≡ draft_frames before.draft
   pub frames : after.frames ≡ before.frames
   pub definitions : after.definitions ≡ before.definitions
+  pub steady : after.is_steady ≡ before.is_steady
   pub trees : (t v : Tree) × (slot first ≡ value t) × (slot last ≡ value v) × TakesElement t u v
   pub measured : (x y : Inline) → IsMeasure (measure_of first) x → IsMeasure m y → IsMeasure (measure_of last) (with_element x y)
 
--- the builder holds what the machine has on its stack, with its measures and its numbers
+-- the builder holds what the machine has on its stack, with its measures and its numbers, and with whether it is steady
 pub record Holds (is_ad : Bool) (builder : Builder) (st : List Inline) : Type 0 where
   pub laid : Laid is_ad (map slot builder.operands) builder.parent st (draft_frames builder.draft)
   pub measured : AreMeasures (map measure_of builder.operands) st
   pub counted : AreCounted builder.frames builder.definitions st
+  pub steady : builder.is_steady ≡ true → AreSteady st
 
 -- an instruction was carried out, whatever the stack
 abbrev pub Carries : Instruction → Builder → Builder → Result (Unit {0}) OutOfMemory → Type 0

@@ -8,3 +8,4 @@ pub mod Machine
 pub mod Measures
 pub mod Shapes
 pub mod Sizes
+pub mod Steady

@@ -84,6 +84,7 @@ pub struct Builder {
     parent: u32,
     frames: u32,
     definitions: u32,
+    is_steady: bool,
     ghost inside: { parent < length (draft_frames draft) },
 }
 
@@ -103,6 +104,7 @@ impl Builder {
             parent: 0,
             frames: 0,
             definitions: 0,
+            is_steady: true,
         }
     }
 
@@ -121,6 +123,7 @@ impl Builder {
             parent: 0,
             frames: 1,
             definitions: 0,
+            is_steady: true,
         })
     }
 
@@ -303,7 +306,8 @@ impl Builder {
             drop(value);
             return Err(OutOfMemory);
         }
-        self.draft.define(self.parent, name, value)?;
+        let is_steady = self.draft.define(self.parent, name, value)?;
+        self.is_steady &= is_steady;
         self.definitions = self.definitions.saturating_add(1);
         Ok(())
     }
@@ -353,35 +357,48 @@ impl Builder {
         }
     }
 
-    /// The ad of the root, where it is the only operand.
+    /// The ad of the root, where it is the only operand. The frames of a steady draft are those of its ad already.
     pub fn finish_ad(self) -> Result<Ad, OutOfMemory>
+        requires { (st : List Inline) × Holds true self st }
         ensures { (st : List Inline) → Holds true self st → IfOk result (λ ad. ad_frames ad ≡ ad_of (top st)) }
     {
         let Builder {
             draft,
             operands,
+            is_steady,
             ..
         } = self;
-        if is_open_alone(operands) {
-            draft.finish()
-        } else {
+        if !is_open_alone(operands) {
             drop(draft);
-            Err(OutOfMemory)
+            return Err(OutOfMemory);
+        }
+        if is_steady {
+            draft.into_ad()
+        } else {
+            draft.finish()
         }
     }
 
     /// The only operand as an expression that stands alone.
     pub fn finish_phrase(self) -> Result<Phrase, OutOfMemory>
+        requires { (st : List Inline) × Holds false self st }
         ensures { (st : List Inline) → Holds false self st → IfOk result (λ phrase.
             (ad_frames phrase.ad ≡ phrase_of (top st)) × (tree phrase.expr ≡ phrase_tree (top st))) }
     {
         let Builder {
             draft,
             operands,
+            is_steady,
             ..
         } = self;
         match sole_value(operands) {
-            Ok(expr) => draft.finish_phrase(expr),
+            Ok(expr) => {
+                if is_steady {
+                    draft.into_phrase(expr)
+                } else {
+                    draft.finish_phrase(expr)
+                }
+            }
             Err(error) => {
                 drop(draft);
                 Err(error)

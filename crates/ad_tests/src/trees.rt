@@ -56,7 +56,8 @@ impl Counted {
         given: Given,
     ) -> Result<(), OutOfMemory> {
         assert!(rt; (frame as usize) < self.frames);
-        self.draft.define(frame, name, expression(given))
+        self.draft.define(frame, name, expression(given))?;
+        Ok(())
     }
 }
 

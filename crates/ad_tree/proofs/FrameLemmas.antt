@@ -1,7 +1,8 @@
 -- A frame's set of attributes: what the set does with equal attributes is done with equal names.
-use Rattle.std.proofs.Common.{refl, arith, ◌≡◌, ◌≤◌, ℕ, zero, suc, ◌+◌, List, [], ◌∷◌, ◌++◌, length, Bool, true, false, not, cond, ◌||◌, ap, ◌∙◌, None, Some, position, nat_lt, Result, Ok, Err, OnOk, OnErr, IsTrue, slice_set, get_or, sym, ◌<◌}
+use Rattle.std.proofs.Common.{refl, arith, ◌≡◌, ◌≤◌, ℕ, zero, suc, ◌+◌, List, [], ◌∷◌, ◌++◌, length, Bool, true, false, not, cond, ◌||◌, ap, ◌∙◌, None, Some, position, nat_lt, Result, Ok, Err, OnOk, OnErr, IsTrue, slice_set, get_or, sym, ◌<◌, true≢false}
 use Rattle.std.specs.Cmp.Lexicographic.{on_texts_equal}
-use Rattle.std.specs.List.{prefix_len, list_any, IsDistinct, AllByRecursion, position_or_len}
+use Rattle.std.specs.List.{prefix_len, find, list_any, IsDistinct, AllByRecursion, position_or_len}
+use Rattle.std.specs.Option.{is_some}
 use Rattle.std.specs.Set.{swap_key}
 use Rattle.std.proofs.lemmas.Grind.{common_steps}
 use Rattle.std.proofs.lemmas.List.{length-map}
@@ -10,7 +11,8 @@ use Rattle.indexmap.specs.IndexSet.{insert_key, replace_key}
 use Rattle.pool_text.specs.Folding.{folded}
 use Rattle.ad_tree.specs.declared.attribute.Attribute.{Attribute}
 use Rattle.ad_tree.specs.declared.frame.AdFrame.{AdFrame}
-use Rattle.ad_tree.specs.Tree.{Tree, tree}
+use Rattle.ad_tree.specs.Steady.{MovesNone}
+use Rattle.ad_tree.specs.Tree.{Tree, tree, cited}
 use Rattle.ad_tree.specs.Names.{same_name, has_name, are_apart}
 use Rattle.ad_tree.specs.Frames.{put_attribute, names_of, names_in}
 use Rattle.ad_tree.specs.Attributes.{attribute_of, attributes_of}
@@ -62,6 +64,28 @@ put-last a (b ∷ bs) d away =
     ap (λ rest. attribute_of b ∷ rest) (put-last a bs d (λ k l. away (suc k) (omega arith)))
     ∙ ap (λ here. cond here (attribute_of a ∷ attributes_of bs) (attribute_of b ∷ put_attribute a.name (tree a.expr) (attributes_of bs))) (sym (away 0 (omega arith)))
 
+-- an attribute in the place of another moves no ad literal where neither has one, and a last one moves none
+pub moves_none-at : (a : Attribute) (bs : List Attribute) (i : ℕ) (d : Attribute) → same_attribute a (get_or bs i d) ≡ true → ((k : ℕ) → k < i → same_attribute a (get_or bs k d) ≡ false)
+    → (cited (tree (get_or bs i d).expr) ≡ []) × (cited (tree a.expr) ≡ []) → MovesNone a.name (tree a.expr) (attributes_of bs)
+moves_none-at a [] i d is before plain = tt
+moves_none-at a (b ∷ bs) zero d is before plain = (λ same. plain, λ other. absurd (true≢false (sym is ∙ other)))
+moves_none-at a (b ∷ bs) (suc i) d is before plain =
+    (λ same. absurd (true≢false (sym same ∙ before 0 (omega arith))), λ other. moves_none-at a bs i d is (λ k l. before (suc k) (omega arith)) plain)
+
+pub moves_none-last : (a : Attribute) (bs : List Attribute) (d : Attribute) → ((k : ℕ) → k < length bs → same_attribute a (get_or bs k d) ≡ false)
+    → MovesNone a.name (tree a.expr) (attributes_of bs)
+moves_none-last a [] d away = tt
+moves_none-last a (b ∷ bs) d away =
+    (λ same. absurd (true≢false (sym same ∙ away 0 (omega arith))), λ other. moves_none-last a bs d (λ k l. away (suc k) (omega arith)))
+
+-- nor does one that a set doesn't find
+pub moves_none-unfound : (a : Attribute) (bs : List Attribute) → is_some (find (same_attribute a) bs) ≡ false → MovesNone a.name (tree a.expr) (attributes_of bs)
+moves_none-unfound a [] h = tt
+moves_none-unfound a (b ∷ bs) h = (
+  λ same. absurd (true≢false (sym (ap (λ here. is_some (cond here (Some b) (find (same_attribute a) bs))) same) ∙ h)),
+  λ other. moves_none-unfound a bs (sym (ap (λ here. is_some (cond here (Some b) (find (same_attribute a) bs))) other) ∙ h),
+)
+
 -- none is equal where none has a position
 pub away_from : (a : Attribute) (bs : List Attribute) (d : Attribute) → position (same_attribute a) bs ≡ None → (k : ℕ) → k < length bs → same_attribute a (get_or bs k d) ≡ false
 away_from a bs d none k less =
@@ -78,7 +102,7 @@ names-put_attribute name t (a ∷ rest) = by (same_name name a.0) (names-put_att
     by true e = refl
     by false e = ap (λ names. a.0 ∷ names) e
 
-pub apart-put : {E : Type 0} (r : Result (Unit {0}) E) (name : List ℕ) (t : Tree) (old new : List Attribute)
+pub apart-put : {A E : Type 0} (r : Result A E) (name : List ℕ) (t : Tree) (old new : List Attribute)
     → OnOk r (attributes_of new ≡ put_attribute name t (attributes_of old)) → OnErr r (new ≡ old)
     → are_apart (names_of (attributes_of old)) ≡ true → are_apart (names_of (attributes_of new)) ≡ true
 apart-put (Ok done) name t old new ok err h = ap (λ l. are_apart (names_of l)) ok ∙ ap are_apart (names-put_attribute name t (attributes_of old)) ∙ apart-put_name name (names_of (attributes_of old)) h
@@ -93,7 +117,7 @@ length-put name t (a ∷ rest) = by (same_name name a.0) (length-put name t rest
     by true h = omega arith
     by false h = omega (arith, h)
 
-pub few-put : {E : Type 0} (r : Result (Unit {0}) E) (name : List ℕ) (t : Tree) (old new : List Attribute)
+pub few-put : {A E : Type 0} (r : Result A E) (name : List ℕ) (t : Tree) (old new : List Attribute)
     → OnOk r (attributes_of new ≡ put_attribute name t (attributes_of old)) → OnErr r (new ≡ old) → length new ≤ suc (length old)
 few-put (Ok done) name t old new ok err = omega (arith, length-map new attribute_of, length-map old attribute_of, ap (λ l. length l) ok, length-put name t (attributes_of old))
 few-put (Err e) name t old new ok err = omega (arith, ap (λ l. length l) err)

@@ -1,11 +1,11 @@
 pub mod AdLemmas
-mod AttributeLemmas
+pub mod AttributeLemmas
 mod DraftLemmas
-mod FinishLemmas
+pub mod FinishLemmas
 mod FrameLemmas
 pub mod InlineLemmas
 pub mod Measures
-mod NameLemmas
+pub mod NameLemmas
 mod OrderLemmas
 mod PlaceLemmas
 pub mod PlacedLemmas

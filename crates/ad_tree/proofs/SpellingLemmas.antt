@@ -30,7 +30,7 @@ module _ (h : Frame → Frame) (fs : List Frame) where
       one_on a c = omega arith
 
 -- they stand behind what is before them
-slice_get-behind : (before after : List Frame) (g : Frame) → slice_get (before ++ g ∷ after) (length before) ≡ Some g
+pub slice_get-behind : (before after : List Frame) (g : Frame) → slice_get (before ++ g ∷ after) (length before) ≡ Some g
 slice_get-behind [] after g = refl
 slice_get-behind (b ∷ bs) after g = slice_get-behind bs after g
 

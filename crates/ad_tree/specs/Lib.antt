@@ -13,5 +13,6 @@ pub mod Places
 pub mod Requests
 pub mod Small
 pub mod Special
+pub mod Steady
 pub mod Table
 pub mod Tree

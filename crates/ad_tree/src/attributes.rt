@@ -1,10 +1,11 @@
 // The attributes of a frame.
-ghost use Rattle.std.specs.Prelude.{◌≡◌, ◌+◌, ◌≤◌, [], length, position, OnOk, OnErr, IfSome, IfNone, IsTrue};
+ghost use Rattle.std.specs.Prelude.{◌≡◌, ◌+◌, ◌≤◌, [], length, position, OnOk, OnErr, IfOk, IfSome, IfNone, IsTrue};
 ghost use Rattle.ad_tree.specs.Tree.{tree};
 ghost use Rattle.ad_tree.specs.Names.{same_name, are_apart};
 ghost use Rattle.ad_tree.specs.Frames.{names_of, put_attribute};
 ghost use Rattle.ad_tree.specs.Attributes.{attributes_of};
 ghost use Rattle.ad_tree.specs.Kept.{kept_in};
+ghost use Rattle.ad_tree.specs.Steady.{MovesNone};
 ghost use Rattle.std.specs.HashSet.{spare};
 
 use crate::attribute::Attribute;
@@ -109,11 +110,12 @@ impl Attributes {
         }
     }
 
-    /// Defines a name: it keeps its first place, and takes this spelling and this expression.
+    /// Defines a name: it keeps its first place, and takes this spelling and this expression. Answers as `put_in_list`.
     #[inline(always)]
-    pub fn define(&mut self, attribute: Attribute) -> Result<(), OutOfMemory>
+    pub fn define(&mut self, attribute: Attribute) -> Result<bool, OutOfMemory>
         ensures ok { OnOk result (attributes_of self.new ≡ put_attribute attribute.name (tree attribute.expr) (attributes_of self.old)) }
         ensures err { OnErr result (self.new ≡ self.old) }
+        ensures steady { IfOk result (λ is_steady. IsTrue is_steady → MovesNone attribute.name (tree attribute.expr) (attributes_of self.old)) }
         ensures apart { IsTrue (are_apart (names_of (attributes_of self.new))) }
     {
         if let Err(error) = self.make_fit(1) {
@@ -125,9 +127,10 @@ impl Attributes {
 
     // The same, in what is there. An attribute is large, and an inlined call doesn't move it.
     #[inline(always)]
-    fn put(&mut self, attribute: Attribute) -> Result<(), OutOfMemory>
+    fn put(&mut self, attribute: Attribute) -> Result<bool, OutOfMemory>
         ensures ok { OnOk result (attributes_of self.new ≡ put_attribute attribute.name (tree attribute.expr) (attributes_of self.old)) }
         ensures err { OnErr result (self.new ≡ self.old) }
+        ensures steady { IfOk result (λ is_steady. IsTrue is_steady → MovesNone attribute.name (tree attribute.expr) (attributes_of self.old)) }
         ensures apart { IsTrue (are_apart (names_of (attributes_of self.new))) }
     {
         match &mut self.kept {
@@ -224,13 +227,15 @@ fn take_list(alloc: Global, kept: &mut Kept) -> Option<Vec<Attribute>>
 }
 
 #[inline(never)]
-fn put_in_set(set: &mut IndexSet<Attribute>, attribute: Attribute) -> Result<(), OutOfMemory>
+fn put_in_set(set: &mut IndexSet<Attribute>, attribute: Attribute) -> Result<bool, OutOfMemory>
     ensures ok { OnOk result (attributes_of set.new.keys ≡ put_attribute attribute.name (tree attribute.expr) (attributes_of set.old.keys)) }
     ensures err { OnErr result (set.new.keys ≡ set.old.keys) }
+    ensures steady { IfOk result (λ is_steady. IsTrue is_steady → MovesNone attribute.name (tree attribute.expr) (attributes_of set.old.keys)) }
 {
     let replaced = set.replace(attribute)?;
+    let is_new = replaced.is_none();
     drop(replaced);
-    Ok(())
+    Ok(is_new)
 }
 
 // Puts the attributes of a list into a set that has room for them.

@@ -1,10 +1,12 @@
 // Drafts: ads while they are built. An expression has many kinds, so one that has served is dropped by a call, which is one
 // case of a proof in the place of one for each kind.
-ghost use Rattle.std.specs.Prelude.{◌≡◌, ◌+◌, ◌<◌, ◌^◌, ◌++◌, ◌∷◌, [], length, slice_get, option_map, IfOk, OnOk, OnErr};
+ghost use Rattle.std.specs.Prelude.{◌≡◌, ◌+◌, ◌<◌, ◌^◌, ◌++◌, ◌∷◌, [], length, slice_get, option_map, IfOk, IsTrue, OnOk, OnErr};
 ghost use Rattle.ad_tree.specs.Ad.{ad_frames};
 ghost use Rattle.ad_tree.specs.Tree.{tree};
-ghost use Rattle.ad_tree.specs.Frames.{IsAd, defined, empty_frame};
+ghost use Rattle.ad_tree.specs.Frames.{IsAd, attributes_at, defined, empty_frame};
 ghost use Rattle.ad_tree.specs.Inline.{frames, number, spelled, spelled_tree};
+ghost use Rattle.ad_tree.specs.Phrases.{IsPhrase};
+ghost use Rattle.ad_tree.specs.Steady.{MovesNone};
 ghost use Rattle.ad_tree.specs.Table.{frame_of, frames_of};
 
 use crate::frame::AdFrame;
@@ -76,13 +78,15 @@ impl Draft {
     }
 
     /// Defines a name in a frame. A name that the frame has already, in any spelling, keeps its place, and takes this
-    /// spelling and this expression. Want of memory leaves the draft as it was.
+    /// spelling and this expression. Want of memory leaves the draft as it was. Answers whether no ad literal is moved or
+    /// lost by that, as far as is told at a glance.
     #[inline(always)]
-    pub fn define(&mut self, frame: u32, name: Text, expr: Expr) -> Result<(), OutOfMemory>
+    pub fn define(&mut self, frame: u32, name: Text, expr: Expr) -> Result<bool, OutOfMemory>
         requires { frame < length (draft_frames self.old) }
         ensures ok { OnOk result (draft_frames self.new ≡ defined (draft_frames self.old) frame name (tree expr)) }
         ensures err { OnErr result (draft_frames self.new ≡ draft_frames self.old) }
         ensures len { length (draft_frames self.new) ≡ length (draft_frames self.old) }
+        ensures steady { IfOk result (λ is_steady. IsTrue is_steady → MovesNone name (tree expr) (attributes_at (draft_frames self.old) frame)) }
     {
         if frame == 0 {
             self.root.define(name, expr)
@@ -162,12 +166,28 @@ impl Draft {
         Ad::from_frames(self.alloc, root, self.inner)
     }
 
-    // The ad of these frames, which are those of an ad already.
-    fn into_ad(self) -> Result<Ad, OutOfMemory>
+    /// The ad of these frames, which are those of an ad already. They are moved.
+    pub fn into_ad(self) -> Result<Ad, OutOfMemory>
         requires { IsAd (draft_frames self) }
         ensures { IfOk result (λ ad. ad_frames ad ≡ draft_frames self) }
     {
         Ad::from_frames(self.alloc, self.root, self.inner)
+    }
+
+    /// The expression with the ad of these frames, which are those of its ad literals already. They are moved.
+    pub fn into_phrase(self, expr: Expr) -> Result<Phrase, OutOfMemory>
+        requires is_ad { IsAd (draft_frames self) }
+        requires is_phrase { IsPhrase (draft_frames self) (tree expr) }
+        ensures frames { IfOk result (λ phrase. ad_frames phrase.ad ≡ draft_frames self) }
+        ensures expr { IfOk result (λ phrase. tree phrase.expr ≡ tree expr) }
+    {
+        match self.into_ad() {
+            Ok(ad) => Ok(Phrase { ad, expr }),
+            Err(error) => {
+                drop(expr);
+                Err(error)
+            }
+        }
     }
 
     pub(crate) fn count(&self) -> usize

@@ -1,9 +1,10 @@
 // One frame of an ad or of a draft: its attributes in order, each name once.
-ghost use Rattle.std.specs.Prelude.{◌≡◌, ◌<◌, ◌^◌, [], length, position, slice_get, Some, OnOk, OnErr, IsTrue};
+ghost use Rattle.std.specs.Prelude.{◌≡◌, ◌<◌, ◌^◌, [], length, position, slice_get, Some, IfOk, OnOk, OnErr, IsTrue};
 ghost use Rattle.ad_tree.specs.Tree.{tree};
 ghost use Rattle.ad_tree.specs.Names.{same_name, are_apart};
 ghost use Rattle.ad_tree.specs.Frames.{defined_in, names_of};
 ghost use Rattle.ad_tree.specs.Attributes.{attributes_of};
+ghost use Rattle.ad_tree.specs.Steady.{MovesNone};
 
 use crate::Expr;
 use crate::attribute::Attribute;
@@ -45,19 +46,20 @@ impl AdFrame {
         self.attributes.shrink_to_fit();
     }
 
-    /// Defines a name: it keeps its first place, and takes this spelling and this expression.
+    /// Defines a name: it keeps its first place, and takes this spelling and this expression. Answers whether no ad literal
+    /// is moved or lost by that, as far as is told at a glance.
     #[inline(always)]
-    pub fn define(&mut self, name: Text, expr: Expr) -> Result<(), OutOfMemory>
+    pub fn define(&mut self, name: Text, expr: Expr) -> Result<bool, OutOfMemory>
         ensures ok { OnOk result (frame_of self.new ≡ defined_in (frame_of self.old) name (tree expr)) }
         ensures err { OnErr result (frame_of self.new ≡ frame_of self.old) }
+        ensures steady { IfOk result (λ is_steady. IsTrue is_steady → MovesNone name (tree expr) (frame_of self.old).attributes) }
     {
         let attribute = Attribute { name, expr };
         if self.attributes.as_slice().len() >= u32::MAX as usize {
             drop(attribute);
             return Err(OutOfMemory);
         }
-        self.attributes.define(attribute)?;
-        Ok(())
+        self.attributes.define(attribute)
     }
 
     pub fn count(&self) -> u32

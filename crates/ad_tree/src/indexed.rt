@@ -1,10 +1,11 @@
 // Attributes in a list with a table beside it, by which a name is found.
-ghost use Rattle.std.specs.Prelude.{◌≡◌, ◌<◌, [], length, position, slice_set, None, OnOk, OnErr, IfNone, IsTrue};
-ghost use Rattle.ad_tree.specs.Tree.{tree};
+ghost use Rattle.std.specs.Prelude.{◌≡◌, ◌<◌, [], length, position, get_or, slice_set, None, IfOk, OnOk, OnErr, IfNone, IsTrue};
+ghost use Rattle.ad_tree.specs.Tree.{tree, cited};
 ghost use Rattle.ad_tree.specs.Names.{same_name, are_apart};
 ghost use Rattle.ad_tree.specs.Frames.{names_of, put_attribute};
 ghost use Rattle.ad_tree.specs.Attributes.{attributes_of};
 ghost use Rattle.ad_tree.specs.Places.{Covers, Keeps};
+ghost use Rattle.ad_tree.specs.Steady.{MovesNone};
 
 use crate::attribute::{Attribute, is_named};
 use crate::list::{place_of, put_at};
@@ -79,12 +80,13 @@ impl IndexedList {
         find(&self.list, self.places.place(name), name)
     }
 
-    /// Defines a name: it keeps its first place, and takes this spelling and this expression.
+    /// Defines a name: it keeps its first place, and takes this spelling and this expression. Answers as `put_in_list`.
     #[inline(always)]
-    pub fn put(&mut self, attribute: Attribute) -> Result<(), OutOfMemory>
+    pub fn put(&mut self, attribute: Attribute) -> Result<bool, OutOfMemory>
         requires { IsTrue (are_apart (names_of (attributes_of self.old.list.items))) }
         ensures ok { OnOk result (attributes_of self.new.list.items ≡ put_attribute attribute.name (tree attribute.expr) (attributes_of self.old.list.items)) }
         ensures err { OnErr result (self.new.list.items ≡ self.old.list.items) }
+        ensures steady { IfOk result (λ is_steady. IsTrue is_steady → MovesNone attribute.name (tree attribute.expr) (attributes_of self.old.list.items)) }
     {
         put_by_table(&mut self.list, &mut self.places, attribute)
     }
@@ -96,31 +98,40 @@ fn put_by_table(
     list: &mut Vec<Attribute>,
     places: &mut Places,
     attribute: Attribute,
-) -> Result<(), OutOfMemory>
+) -> Result<bool, OutOfMemory>
     requires apart { IsTrue (are_apart (names_of (attributes_of list.old.items))) }
     requires covers { Covers places.old list.old.items }
     ensures ok { OnOk result (attributes_of list.new.items ≡ put_attribute attribute.name (tree attribute.expr) (attributes_of list.old.items)) }
     ensures err { OnErr result (list.new.items ≡ list.old.items) }
     ensures covers { Covers places.new list.new.items }
+    ensures steady { IfOk result (λ is_steady. IsTrue is_steady → MovesNone attribute.name (tree attribute.expr) (attributes_of list.old.items)) }
 {
     let likely = places.enter(attribute.name.bytes(), list.len());
     match find(list, likely, attribute.name.bytes()) {
-        Some(place) => put_again(list, places, place, attribute),
-        None => list.push(attribute)?,
+        Some(place) => Ok(put_again(list, places, place, attribute)),
+        None => {
+            list.push(attribute)?;
+            Ok(true)
+        }
     }
-    Ok(())
 }
 
 // In the place of the attribute that is there, which the table then has again.
 #[cold]
 #[inline(never)]
-fn put_again(list: &mut Vec<Attribute>, places: &mut Places, place: usize, attribute: Attribute)
+fn put_again(
+    list: &mut Vec<Attribute>,
+    places: &mut Places,
+    place: usize,
+    attribute: Attribute,
+) -> bool
     requires { place < length list.old.items }
     ensures list { list.new.items ≡ slice_set list.old.items place attribute }
     ensures keeps { Keeps places.old places.new }
+    ensures steady { IsTrue result → (cited (tree (get_or list.old.items place attribute).expr) ≡ []) × (cited (tree attribute.expr) ≡ []) }
 {
     places.enter(attribute.name.bytes(), place);
-    put_at(list, place, attribute);
+    put_at(list, place, attribute)
 }
 
 // The place of a name, by what the table has for it.

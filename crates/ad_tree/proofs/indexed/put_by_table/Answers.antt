@@ -1,11 +1,11 @@
 use Rattle.std.proofs.Common.{◌≡◌, List, ℕ, None, IfNone, IsSome, ◌∙◌, ap, sym, position, subst}
 use Rattle.std.proofs.lemmas.List.Quantifiers.{position-Some}
-use Rattle.std.proofs.lemmas.List.Elements.{All-set}
+use Rattle.std.proofs.lemmas.List.Elements.{All-push, All-set}
 use Rattle.ad_tree.specs.declared.attribute.Attribute.{Attribute}
 use Rattle.ad_tree.specs.Names.{same_name}
 use Rattle.ad_tree.specs.Attributes.{attributes_of}
 use Rattle.ad_tree.specs.Places.{Covers, place_in}
-use Rattle.ad_tree.proofs.FrameLemmas.{away_from, put-at, put-last, same_attribute}
+use Rattle.ad_tree.proofs.FrameLemmas.{away_from, moves_none-at, moves_none-last, put-at, put-last, same_attribute}
 use Rattle.ad_tree.proofs.PlaceLemmas.{covers-kept, unknown-if}
 use Rattle.ad_tree.proofs.indexed.put_by_table.Goals as goal
 
@@ -38,3 +38,23 @@ returns-in_ok-push-in-None-clause-ok c =
     ap attributes_of c.in_ok-push-in-None.ensures.items
     ∙ put-last c.args.attribute bs c.args.attribute (away_from c.args.attribute bs c.args.attribute
     (ap (λ n. position (λ b. same_name n b.name) bs) (sym c.bytes-2.ensures) ∙ ap (position (λ b. same_name c.bytes-2.result.now b.name)) (sym c.deref.ensures.value) ∙ sym c.in-None.ensures))
+
+pub returns-in-Some-clause-steady : goal.returns-in-Some-clause-steady
+returns-in-Some-clause-steady c = λ are_leaves.
+    let bs = c.args.list.now.items in
+    let found = position-Some (same_attribute c.args.attribute) bs c.in-Some.place c.args.attribute
+    (ap (λ n. position (λ b. same_name n b.name) bs) (sym c.bytes-2.ensures) ∙ ap (position (λ b. same_name c.bytes-2.result.now b.name)) (sym c.deref.ensures.value) ∙ sym c.in-Some.ensures) in
+    moves_none-at c.args.attribute bs c.in-Some.place c.args.attribute found.1 found.2 (c.put_again.ensures.steady are_leaves)
+
+pub returns-in_ok-push-in-None-clause-steady : goal.returns-in_ok-push-in-None-clause-steady
+returns-in_ok-push-in-None-clause-steady c = λ is.
+    let bs = c.args.list.now.items in
+    moves_none-last c.args.attribute bs c.args.attribute (away_from c.args.attribute bs c.args.attribute
+    (ap (λ n. position (λ b. same_name n b.name) bs) (sym c.bytes-2.ensures) ∙ ap (position (λ b. same_name c.bytes-2.result.now b.name)) (sym c.deref.ensures.value) ∙ sym c.in-None.ensures))
+
+pub returns-in_ok-push-in-None-clause-covers : goal.returns-in_ok-push-in-None-clause-covers
+returns-in_ok-push-in-None-clause-covers c =
+    let entered = subst (λ (n : List ℕ). IsSome (place_in c.enter-likely.new.self n)) c.bytes.ensures c.enter-likely.ensures.entered in
+    let covers = covers-kept c.args.places.now c.enter-likely.new.self c.args.list.now.items c.enter-likely.ensures.others c.requires.covers in
+    subst (Covers c.enter-likely.new.self) (sym c.in_ok-push-in-None.ensures.items)
+    (All-push (λ a. IsSome (place_in c.enter-likely.new.self a.name)) c.args.list.now.items c.args.attribute covers entered)

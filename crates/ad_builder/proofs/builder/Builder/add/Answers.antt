@@ -13,6 +13,7 @@ returns-in-Some c =
       drafted = refl;
       frames = refl;
       definitions = refl;
+      steady = refl;
       trees = trees;
       measured = measured;
     })

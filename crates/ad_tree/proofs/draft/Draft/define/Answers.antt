@@ -1,10 +1,12 @@
-use Rattle.std.proofs.Common.{arith, ◌<◌, ◌-◌, ◌∙◌, ◌∷◌, ap, length, sym}
+use Rattle.std.proofs.Common.{arith, ◌<◌, ◌-◌, ◌∙◌, ◌∷◌, ap, length, subst, sym}
 use Rattle.std.proofs.lemmas.List.{length-map}
 use Rattle.ad_tree.specs.Tree.{tree}
-use Rattle.ad_tree.specs.Frames.{defined}
+use Rattle.ad_tree.specs.Frames.{attributes_in, defined}
+use Rattle.ad_tree.specs.Steady.{MovesNone}
 use Rattle.ad_tree.specs.Table.{frame_of, frames_of}
 use Rattle.ad_tree.specs.Draft.{draft_frames}
-use Rattle.ad_tree.proofs.DraftLemmas.{inner-defined, inner-same, on_ok, on_err}
+use Rattle.ad_tree.proofs.DraftLemmas.{inner-defined, inner-read, inner-same, on_ok, on_err}
+use Rattle.ad_tree.proofs.FinishLemmas.{if_ok}
 use Rattle.ad_tree.proofs.draft.Draft.define.Goals as goal
 
 pub returns-else-frame-eq0-clause-ok : goal.returns-else-frame-eq0-clause-ok
@@ -35,6 +37,15 @@ returns-then-frame-eq0-clause-ok c =
 pub returns-then-frame-eq0-clause-err : goal.returns-then-frame-eq0-clause-err
 returns-then-frame-eq0-clause-err c =
     on_err c.define.result (λ h. ap (λ root. root ∷ frames_of c.args.self.now.inner.items) h) c.define.ensures.err
+
+pub returns-else-frame-eq0-clause-steady : goal.returns-else-frame-eq0-clause-steady
+returns-else-frame-eq0-clause-steady c =
+    let fs = c.args.self.now.inner.items in
+    let within : c.args.frame - 1 < length fs = omega (arith, length-map fs frame_of, c.requires, c.if-frame-eq0.false) in
+    let read = inner-read (frame_of c.args.self.now.root) fs c.args.frame c.index_mut.result.now c.if-frame-eq0.false within c.index_mut.ensures.value in
+    if_ok c.define-else-frame-eq0.result
+    (λ is_steady h is. subst (λ o. MovesNone c.args.name (tree c.args.expr) (attributes_in o)) read (h is))
+    c.define-else-frame-eq0.ensures.steady
 
 pub index_mut-requires : goal.index_mut-requires
 index_mut-requires c =

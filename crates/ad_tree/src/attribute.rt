@@ -58,6 +58,7 @@ impl Hash for Attribute {
 }
 
 /// Whether the attribute has this name.
+#[inline(always)]
 pub fn is_named(attribute: &Attribute, name: &[u8]) -> bool
     ensures { result ≡ same_name name.now attribute.now.name }
 {

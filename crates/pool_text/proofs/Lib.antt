@@ -1,3 +1,5 @@
+pub mod FoldingLemmas
+pub mod GroupLemmas
 pub mod LineLemmas
 pub mod NumberLemmas
 pub mod ReturnLemmas

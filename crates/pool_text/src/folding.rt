@@ -1,8 +1,9 @@
 // Names and strings are compared after `A` to `Z` are made small.
-ghost use Rattle.std.specs.Prelude.{◌≡◌, ◌↔◌, IfOk, IsTrue};
+ghost use Rattle.std.specs.Prelude.{◌≡◌, ◌↔◌, IfOk, IsTrue, length};
 ghost use Rattle.std.specs.Char.{to_ascii_lowercase};
 ghost use Rattle.pool_text.specs.Folding.{folded, text_order};
 
+use crate::spelling::are_spelled_alike;
 use crate::{OutOfMemory, Text};
 use std::alloc::Global;
 use std::cmp::Ordering;
@@ -15,7 +16,8 @@ pub fn fold(alloc: Global, bytes: &[u8]) -> Result<Text, OutOfMemory>
     Text::from_bytes(alloc, &small)
 }
 
-/// Whether the bytes are equal after folding. Most texts that differ do in their lengths, or in their first letters.
+/// Whether the bytes are equal after folding. Most texts that are equal are spelled alike; most that differ do in their lengths, or
+/// in their first or last letters.
 #[inline(always)]
 pub fn same_folded(a: &[u8], b: &[u8]) -> bool
     ensures { IsTrue result ↔ (folded a.now ≡ folded b.now) }
@@ -23,10 +25,28 @@ pub fn same_folded(a: &[u8], b: &[u8]) -> bool
     if a.len() != b.len() {
         return false;
     }
-    have_same_letters(a, b)
+    are_spelled_alike(a, b) || may_be_same(a, b) && have_same_letters(a, b)
+}
+
+// Whether the first and the last letter don't tell texts of one length apart. Capital and small letters differ in the bit of 32.
+#[inline(always)]
+fn may_be_same(a: &[u8], b: &[u8]) -> bool
+    requires { length a.now ≡ length b.now }
+    ensures { folded a.now ≡ folded b.now → IsTrue result }
+{
+    let len = a.len();
+    len == 0 || may_be_same_letter(a[0], b[0]) && may_be_same_letter(a[len - 1], b[len - 1])
 }
 
 #[inline(always)]
+fn may_be_same_letter(x: u8, y: u8) -> bool
+    ensures { to_ascii_lowercase x ≡ to_ascii_lowercase y → IsTrue result }
+{
+    x | 32 == y | 32
+}
+
+#[cold]
+#[inline(never)]
 fn have_same_letters(a: &[u8], b: &[u8]) -> bool
     ensures { IsTrue result ↔ (folded a.now ≡ folded b.now) }
 {

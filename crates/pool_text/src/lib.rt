@@ -8,6 +8,7 @@ mod lists;
 mod memory;
 mod number;
 mod short_text;
+mod spelling;
 mod text;
 mod words;
 

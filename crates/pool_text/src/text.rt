@@ -5,6 +5,7 @@ ghost use Rattle.std.specs.Cmp.Lexicographic.{nat_list_eq_equiv, pointwise};
 
 use crate::OutOfMemory;
 use crate::short_text::{LONGEST_SHORT_TEXT, ShortText};
+use crate::spelling::are_spelled_alike;
 use std::alloc::Global;
 use std::fmt;
 use std::marker::Model;
@@ -156,28 +157,12 @@ impl Text {
     }
 }
 
-// Whether the bytes are the same. Names are short, and most that differ do in their lengths or first letters, so that one byte
-// at a time takes fewer instructions than std's many.
+// Whether the bytes are the same. Most that differ do in their lengths.
 #[inline(always)]
 fn are_same(a: &[u8], b: &[u8]) -> bool
     ensures { result ≡ pointwise nat_eq a.now b.now }
 {
-    if a.len() != b.len() {
-        return false;
-    }
-    let mut left = a;
-    let mut right = b;
-    while let [x, left_rest @ ..] = left {
-        let [y, right_rest @ ..] = right else {
-            return false;
-        };
-        if x != y {
-            return false;
-        }
-        left = left_rest;
-        right = right_rest;
-    }
-    right.is_empty()
+    a.len() == b.len() && are_spelled_alike(a, b)
 }
 
 // The bytes of both in a place of their own, with room for so many at least.

@@ -67,11 +67,16 @@ pub(crate) fn close_gap(notes: &mut Vec<Option<usize>>, gone: usize)
         ≡ option_map (λ k. if nat_lt gone k then k - 1 else k) (note_at notes.old.items slot) }
     ensures len { vec_len notes.new ≡ vec_len notes.old }
 {
-    for i in 0..notes.len() {
-        if let Some(number) = notes[i] {
-            if gone < number {
-                notes[i] = Some(number - 1);
-            }
-        }
+    for note in notes.iter_mut() {
+        *note = behind_gap(*note, gone);
     }
+}
+
+// A number once one is gone. Whether it stands above that is hard to foretell, so there is no branch for it.
+#[inline(always)]
+fn behind_gap(note: Option<usize>, gone: usize) -> Option<usize>
+    ensures { result ≡ option_map (λ k. if nat_lt gone k then k - 1 else k) note }
+{
+    let number = note?;
+    Some(number - usize::from(gone < number))
 }

@@ -1,3 +1,4 @@
+pub mod LaneLemmas
 pub mod LineLemmas
 pub mod NumberLemmas
 pub mod ReturnLemmas

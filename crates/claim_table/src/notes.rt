@@ -67,8 +67,8 @@ pub(crate) fn close_gap(notes: &mut Vec<Option<usize>>, gone: usize)
         ≡ option_map (λ k. if nat_lt gone k then k - 1 else k) (note_at notes.old.items slot) }
     ensures len { vec_len notes.new ≡ vec_len notes.old }
 {
-    for note in notes.iter_mut() {
-        *note = behind_gap(*note, gone);
+    for i in 0..notes.len() {
+        notes[i] = behind_gap(notes[i], gone);
     }
 }
 

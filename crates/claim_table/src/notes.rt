@@ -68,10 +68,15 @@ pub(crate) fn close_gap(notes: &mut Vec<Option<usize>>, gone: usize)
     ensures len { vec_len notes.new ≡ vec_len notes.old }
 {
     for i in 0..notes.len() {
-        if let Some(number) = notes[i] {
-            if gone < number {
-                notes[i] = Some(number - 1);
-            }
-        }
+        notes[i] = behind_gap(notes[i], gone);
     }
+}
+
+// A number once one is gone. Whether it stands above that is hard to foretell, so there is no branch for it.
+#[inline(always)]
+fn behind_gap(note: Option<usize>, gone: usize) -> Option<usize>
+    ensures { result ≡ option_map (λ k. if nat_lt gone k then k - 1 else k) note }
+{
+    let number = note?;
+    Some(number - usize::from(gone < number))
 }

@@ -1,5 +1,6 @@
 pub mod FoldingLemmas
 pub mod GroupLemmas
+pub mod LaneLemmas
 pub mod LineLemmas
 pub mod NumberLemmas
 pub mod ReturnLemmas

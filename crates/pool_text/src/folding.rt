@@ -1,5 +1,5 @@
 // Names and strings are compared after `A` to `Z` are made small.
-ghost use Rattle.std.specs.Prelude.{◌≡◌, ◌↔◌, IfOk, IsTrue, length};
+ghost use Rattle.std.specs.Prelude.{◌≡◌, ◌↔◌, ◌≤◌, drop, length, take, IfOk, IsTrue};
 ghost use Rattle.std.specs.Char.{to_ascii_lowercase};
 ghost use Rattle.pool_text.specs.Folding.{folded, text_order};
 
@@ -7,6 +7,10 @@ use crate::spelling::are_spelled_alike;
 use crate::{OutOfMemory, Text};
 use std::alloc::Global;
 use std::cmp::Ordering;
+use std::simd::prelude::*;
+
+/// How many bytes are folded together.
+const LANES: usize = 16;
 
 /// The bytes with the letters `A` to `Z` made small.
 pub fn fold(alloc: Global, bytes: &[u8]) -> Result<Text, OutOfMemory>
@@ -75,6 +79,48 @@ fn is_same_letter(x: u8, y: u8) -> bool
 
 /// How the bytes compare after folding, byte by byte, the shorter first where it begins the longer.
 pub fn order_folded(a: &[u8], b: &[u8]) -> Ordering
+    ensures { result ≡ text_order a.now b.now }
+{
+    let mut left = a;
+    let mut right = b;
+    while left.len() >= LANES && right.len() >= LANES && begin_alike(left, right) {
+        left = behind_lanes(left);
+        right = behind_lanes(right);
+    }
+    letter_order(left, right)
+}
+
+// Whether the first bytes of both, as many as are folded together, are equal after folding.
+#[inline(always)]
+fn begin_alike(a: &[u8], b: &[u8]) -> bool
+    requires left { 16 ≤ length a.now }
+    requires right { 16 ≤ length b.now }
+    ensures { IsTrue result → folded (take 16 a.now) ≡ folded (take 16 b.now) }
+{
+    small_letters(u8x16::from_slice(a)) == small_letters(u8x16::from_slice(b))
+}
+
+// What is behind them.
+#[inline(always)]
+fn behind_lanes(bytes: &[u8]) -> &[u8]
+    requires { 16 ≤ length bytes.now }
+    ensures { result.now ≡ drop 16 bytes.now }
+{
+    &bytes[LANES..]
+}
+
+// Sixteen bytes with the letters `A` to `Z` made small.
+#[inline(always)]
+fn small_letters(bytes: u8x16) -> u8x16
+    ensures { result ≡ folded bytes }
+{
+    let from_a = bytes - u8x16::splat(b'A');
+    let is_capital = from_a.simd_lt(u8x16::splat(26));
+    is_capital.select(bytes + u8x16::splat(32), bytes)
+}
+
+// The same, letter by letter.
+fn letter_order(a: &[u8], b: &[u8]) -> Ordering
     ensures { result ≡ text_order a.now b.now }
 {
     let mut left = a;

@@ -1,10 +1,13 @@
-// A sink in memory that is full, and the adapters over a reader and a writer in memory and over a device that fails once.
+// A sink in memory that is full, the adapters over a reader and a writer in memory and over a device that fails once, and a
+// reader and a writer that are tied.
 ghost use Rattle.std.specs.Prelude.{◌≤◌, IfOk};
 
 use pool_io::*;
 use pool_text::{OutOfMemory, Slots};
 use std::alloc::Global;
+use std::cell::Cell;
 use std::io;
+use std::io::{Read, Write};
 use std::process::Abort;
 use std::test::Fail;
 
@@ -82,13 +85,13 @@ impl Hesitant {
     }
 }
 
-impl io::Read for Hesitant {
+impl Read for Hesitant {
     fn read(&mut self, buf: &mut [u8]) -> io::Result<usize> {
         self.answer(buf.len())
     }
 }
 
-impl io::Write for Hesitant {
+impl Write for Hesitant {
     fn write(&mut self, buf: &[u8]) -> io::Result<usize> {
         self.answer(buf.len())
     }
@@ -106,4 +109,62 @@ fn adapters_ask_their_device_once_a_call(rt: HostRuntime) {
     let mut sink = StdSink::new(Hesitant { has_failed: false });
     assert_write(&rt, &mut sink, b"ab", Err(Failed));
     assert_write(&rt, &mut sink, b"ab", Ok(1));
+}
+
+/// A device that counts the bytes that it takes, or takes none.
+#[derive(Drop)]
+struct Counting<'a> {
+    taken: &'a Cell<usize>,
+    fails: bool,
+}
+
+impl<'a> Write for Counting<'a> {
+    fn write(&mut self, buf: &[u8]) -> io::Result<usize> {
+        if self.fails {
+            return Err(io::Error::from(io::ErrorKind::BrokenPipe));
+        }
+        self.taken.set(self.taken.get().wrapping_add(buf.len()));
+        Ok(buf.len())
+    }
+
+    fn flush(&mut self) -> io::Result<()> {
+        Ok(())
+    }
+}
+
+#[test]
+fn what_is_written_is_handed_on_before_more_is_read(rt: HostRuntime) -> Result<(), Fail> {
+    let taken = Cell::new(0);
+    let device = Counting {
+        taken: &taken,
+        fails: false,
+    };
+    let output = TiedOutput::new(rt.alloc(), device)?;
+    let mut sink = StdSink::new(output.writer());
+    let mut source = StdSource::new(output.reader(b"jobs".as_slice()));
+    assert_all(&rt, &mut sink, b"offers 1\n", Ok(()));
+    assert_eq!(rt; taken.get(), 0);
+    assert_read(&rt, &mut source, Ok(3));
+    assert_eq!(rt; taken.get(), 9);
+    assert_all(&rt, &mut sink, b"hits 0\n", Ok(()));
+    assert_eq!(rt; output.finish(), Ok(()));
+    assert_eq!(rt; taken.get(), 16);
+    Ok(())
+}
+
+#[test]
+fn a_tied_writer_that_fails_takes_nothing_more(rt: HostRuntime) -> Result<(), Fail> {
+    let taken = Cell::new(0);
+    let device = Counting {
+        taken: &taken,
+        fails: true,
+    };
+    let output = TiedOutput::new(rt.alloc(), device)?;
+    let mut sink = StdSink::new(output.writer());
+    let mut source = StdSource::new(output.reader(b"jobs".as_slice()));
+    assert_all(&rt, &mut sink, b"offers 1\n", Ok(()));
+    assert_read(&rt, &mut source, Ok(3));
+    assert_write(&rt, &mut sink, b"hits 0\n", Err(Failed));
+    assert_eq!(rt; output.finish(), Err(Failed));
+    Ok(())
 }

@@ -306,7 +306,7 @@ impl Builder {
             drop(value);
             return Err(OutOfMemory);
         }
-        let is_steady = self.draft.define(self.parent, name, value)?;
+        let is_steady = self.draft.define_noting(self.parent, name, value)?;
         self.is_steady &= is_steady;
         self.definitions = self.definitions.saturating_add(1);
         Ok(())

@@ -56,8 +56,7 @@ impl Counted {
         given: Given,
     ) -> Result<(), OutOfMemory> {
         assert!(rt; (frame as usize) < self.frames);
-        self.draft.define(frame, name, expression(given))?;
-        Ok(())
+        self.draft.define(frame, name, expression(given))
     }
 }
 

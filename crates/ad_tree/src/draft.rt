@@ -78,10 +78,21 @@ impl Draft {
     }
 
     /// Defines a name in a frame. A name that the frame has already, in any spelling, keeps its place, and takes this
-    /// spelling and this expression. Want of memory leaves the draft as it was. Answers whether no ad literal is moved or
-    /// lost by that, as far as is told at a glance.
+    /// spelling and this expression. Want of memory leaves the draft as it was.
+    pub fn define(&mut self, frame: u32, name: Text, expr: Expr) -> Result<(), OutOfMemory>
+        requires { frame < length (draft_frames self.old) }
+        ensures ok { OnOk result (draft_frames self.new ≡ defined (draft_frames self.old) frame name (tree expr)) }
+        ensures err { OnErr result (draft_frames self.new ≡ draft_frames self.old) }
+        ensures len { length (draft_frames self.new) ≡ length (draft_frames self.old) }
+    {
+        self.define_noting(frame, name, expr)?;
+        Ok(())
+    }
+
+    /// Defines a name as `define` does, and answers whether no ad literal is moved or lost by that, as far as is told at a
+    /// glance.
     #[inline(always)]
-    pub fn define(&mut self, frame: u32, name: Text, expr: Expr) -> Result<bool, OutOfMemory>
+    pub fn define_noting(&mut self, frame: u32, name: Text, expr: Expr) -> Result<bool, OutOfMemory>
         requires { frame < length (draft_frames self.old) }
         ensures ok { OnOk result (draft_frames self.new ≡ defined (draft_frames self.old) frame name (tree expr)) }
         ensures err { OnErr result (draft_frames self.new ≡ draft_frames self.old) }

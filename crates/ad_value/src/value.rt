@@ -37,6 +37,7 @@ impl Values {
     }
 
     /// Adds a value at the end.
+    #[inline(always)]
     pub fn push(&mut self, item: Value) -> Result<(), OutOfMemory>
         ensures ok { OnOk result (plains self.new ≡ plains self.old ++ plain item ∷ []) }
         ensures err { OnErr result (plains self.new ≡ plains self.old) }

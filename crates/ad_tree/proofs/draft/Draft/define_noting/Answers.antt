@@ -7,7 +7,7 @@ use Rattle.ad_tree.specs.Table.{frame_of, frames_of}
 use Rattle.ad_tree.specs.Draft.{draft_frames}
 use Rattle.ad_tree.proofs.DraftLemmas.{inner-defined, inner-read, inner-same, on_ok, on_err}
 use Rattle.ad_tree.proofs.FinishLemmas.{if_ok}
-use Rattle.ad_tree.proofs.draft.Draft.define.Goals as goal
+use Rattle.ad_tree.proofs.draft.Draft.define_noting.Goals as goal
 
 pub returns-else-frame-eq0-clause-ok : goal.returns-else-frame-eq0-clause-ok
 returns-else-frame-eq0-clause-ok c =

@@ -75,7 +75,8 @@ impl Operand {
 }
 
 /// An ad while its instructions are carried out: `parent` is the frame in which the next tree stands. Frames and
-/// definitions are counted as they are spelled, those that are replaced included.
+/// definitions are counted as they are spelled, those that are replaced included. While it is steady, no repeated name has
+/// moved an ad literal, and the frames of the draft stand as those of its ad.
 #[derive(Drop)]
 pub struct Builder {
     alloc: Global,

@@ -1,7 +1,7 @@
 // The rules of the grammar, each a function that reads what stands at the front of the words that are left, and tells a
 // machine what builds its tree (ClassAd Language Reference Manual 2.4, grammar). `fuel` bounds how many expressions stand
 // within one another; the number of words and one more is enough. Chains are read by loops, so that only brackets take
-// stack. The rules that most operands pass through are inlined into one function.
+// stack.
 ghost use Rattle.std.specs.Prelude.{◌≡◌, ◌-◌, ◌≤◌, ◌∷◌, suc, length, IfOk, OnOk};
 ghost use Rattle.ad_grammar.specs.Levels.{climb};
 ghost use Rattle.ad_builder.specs.Machine.{stack, top, below};

@@ -5,6 +5,7 @@ pub mod DecidedLemmas
 pub mod DockingLemmas
 mod DifferLemmas
 mod FindLemmas
+mod KnownLemmas
 mod LoopLemmas
 mod MemberLemmas
 mod MemberScanLemmas

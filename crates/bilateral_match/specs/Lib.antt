@@ -3,6 +3,7 @@ pub mod Answers
 pub mod Candidates
 pub mod Counts
 pub mod Docks
+pub mod Known
 pub mod Members
 pub mod Pool
 pub mod Rows

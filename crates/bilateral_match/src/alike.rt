@@ -45,9 +45,9 @@ fn same_attributes(a: &Ad, b: &Ad, frame: u32) -> bool
     true
 }
 
-// Whether two expressions have the same tree.
+/// Whether two expressions have the same tree.
 #[cycle(alike)]
-fn same_expr(a: &Expr, b: &Expr) -> bool
+pub(crate) fn same_expr(a: &Expr, b: &Expr) -> bool
     ensures { IsTrue result ↔ (tree a.now ≡ tree b.now) }
 {
     match (a, b) {

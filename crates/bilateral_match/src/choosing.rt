@@ -7,6 +7,7 @@ ghost use Rattle.ad_store.specs.Store.{stock_of};
 ghost use Rattle.conjunct_plan.specs.Tests.{tests_of};
 ghost use Rattle.literal_index.specs.Shown.{IsIndex};
 ghost use Rattle.bilateral_match.specs.Counts.{entered_for, least_left, open_count};
+ghost use Rattle.bilateral_match.specs.Known.{AreKnown, AreRanks, is_known_below, rank_expr};
 ghost use Rattle.bilateral_match.specs.Members.{IsBest, best_slot};
 ghost use Rattle.bilateral_match.specs.Members as members;
 ghost use Rattle.bilateral_match.specs.Pool.{AreStored, pool_of};
@@ -15,8 +16,9 @@ ghost use Rattle.bilateral_match.specs.Scan as scan;
 ghost use Rattle.bilateral_match.specs.Small.{AreSmallAds, AreSmallHolders};
 
 use crate::candidates::candidates;
+use crate::known::{Known, Ranking};
 use crate::member::Member;
-use crate::members::member_at;
+use crate::members::{member_at, reaches};
 use ad_store::{Holdings, Store};
 use ad_tree::Request;
 use literal_index::Index;
@@ -63,10 +65,61 @@ pub fn best<H: Holdings, F: Ledger, E: Ledger, T: Ledger>(
     ensures looks { touch.new ≤ touch.old
         + 9 * least_left (stock_of store.now).ads (tests_of (ad_frames request.now.ad) 0 []) }
 {
+    let mut known = Known::new(alloc);
+    best_knowing(
+        alloc, store, index, held, request, moment, &mut known, tops, entry, touch,
+    )
+}
+
+/// The same slot as `best`, found with what is known of ranks: a resource whose rank by the job is known, and lower than that of
+/// another that it may be given, is passed over with no look and no evaluation. Ranks that are evaluated are noted where the
+/// resource's literals settle them, so that each is evaluated once for all jobs with the same rank expression.
+///
+/// It counts no more than `best` may.
+pub fn best_knowing<H: Holdings, F: Ledger, E: Ledger, T: Ledger>(
+    alloc: Global,
+    store: &Store,
+    index: &Index,
+    held: &H,
+    request: &Request,
+    moment: u64,
+    known: &mut Known,
+    tops: &mut Steps<F>,
+    entry: &mut Steps<E>,
+    touch: &mut Steps<T>,
+) -> Result<Option<usize>, OutOfMemory>
+    requires index { IsIndex index.now (rows_of (stock_of store.now)) }
+    requires stored { AreStored (stock_of store.now) (H.holding held.now) }
+    requires single { request.now.ports ≡ [] }
+    requires known { AreKnown moment (stock_of store.now).ads known.old }
+    ensures known { AreKnown moment (stock_of store.now).ads known.new }
+    ensures best { IfOk result (λ slot. slot
+        ≡ best_slot (stock_of store.now) (pool_of moment (stock_of store.now) (H.is_offered held.now) (H.holding held.now)) (ad_frames request.now.ad)) }
+    ensures held { IfOk result (λ slot. IfSome slot (Contains (stock_of store.now).slots)) }
+    ensures free { IfOk result (λ slot. IfSome slot (λ s. H.is_offered held.now s ≡ false)) }
+    ensures evaluations { tops.new ≤ tops.old
+        + 5 * open_count (pool_of moment (stock_of store.now) (H.is_offered held.now) (H.holding held.now)) (ad_frames request.now.ad) }
+    ensures entries { entry.new ≤ entry.old
+        + entered_for (pool_of moment (stock_of store.now) (H.is_offered held.now) (H.holding held.now)) (ad_frames request.now.ad) }
+    ensures ratio { IsSmall (ad_frames request.now.ad) → AreSmallAds (stock_of store.now).ads → AreSmallHolders (H.holding held.now) → entry.new + 9216 * tops.old ≤ entry.old + 9216 * tops.new }
+    ensures looks { touch.new ≤ touch.old
+        + 9 * least_left (stock_of store.now).ads (tests_of (ad_frames request.now.ad) 0 []) }
+{
     let places = candidates(alloc, store, index, request)?;
+    let mut ranking = known.take(alloc, store.len(), request)?;
     let first = first_at(
-        alloc, store, held, request, moment, &places, tops, entry, touch,
+        alloc,
+        store,
+        held,
+        request,
+        moment,
+        &places,
+        &mut ranking,
+        tops,
+        entry,
+        touch,
     )?;
+    known.keep(request, ranking)?;
     Ok(slot_of(store, first))
 }
 
@@ -88,6 +141,7 @@ fn first_at<H: Holdings, F: Ledger, E: Ledger, T: Ledger>(
     request: &Request,
     moment: u64,
     places: &Slots,
+    ranking: &mut Ranking,
     tops: &mut Steps<F>,
     entry: &mut Steps<E>,
     touch: &mut Steps<T>,
@@ -95,6 +149,8 @@ fn first_at<H: Holdings, F: Ledger, E: Ledger, T: Ledger>(
     requires stored { AreStored (stock_of store.now) (H.holding held.now) }
     requires single { request.now.ports ≡ [] }
     requires places { All (λ place. place < length (stock_of store.now).slots) places.now }
+    requires ranks { AreRanks moment (stock_of store.now).ads (rank_expr (ad_frames request.now.ad)) ranking.old.ranks.items }
+    ensures ranks { AreRanks moment (stock_of store.now).ads (rank_expr (ad_frames request.now.ad)) ranking.new.ranks.items }
     ensures first { IfOk result (λ first. IsBest (filter_map (scan.member_at (pool_of moment (stock_of store.now) (H.is_offered held.now) (H.holding held.now)) (ad_frames request.now.ad)) places.now) first) }
     ensures evaluations { tops.new ≤ tops.old + sum_by (scan.evaluations_for (pool_of moment (stock_of store.now) (H.is_offered held.now) (H.holding held.now)) (ad_frames request.now.ad)) places.now }
     ensures entries { entry.new ≤ entry.old + sum_by (scan.attributes_for (pool_of moment (stock_of store.now) (H.is_offered held.now) (H.holding held.now)) (ad_frames request.now.ad)) places.now }
@@ -104,12 +160,55 @@ fn first_at<H: Holdings, F: Ledger, E: Ledger, T: Ledger>(
     let mut first = None;
     for place in places.as_slice() {
         let bar = rank_of(&first);
-        let next = member_at(
-            alloc, store, held, request, moment, *place, bar, tops, entry, touch,
+        let next = next_at(
+            alloc, store, held, request, moment, *place, bar, ranking, tops, entry, touch,
         )?;
         first = earlier(first, next);
     }
     Ok(first)
+}
+
+// The resource at a place, as `member_at` has it: nothing is looked at where its rank is known not to reach the bar.
+fn next_at<H: Holdings, F: Ledger, E: Ledger, T: Ledger>(
+    alloc: Global,
+    store: &Store,
+    held: &H,
+    request: &Request,
+    moment: u64,
+    place: usize,
+    bar: Option<i64>,
+    ranking: &mut Ranking,
+    tops: &mut Steps<F>,
+    entry: &mut Steps<E>,
+    touch: &mut Steps<T>,
+) -> Result<Option<Member>, OutOfMemory>
+    requires stored { AreStored (stock_of store.now) (H.holding held.now) }
+    requires single { request.now.ports ≡ [] }
+    requires place { place < length (stock_of store.now).slots }
+    requires ranks { AreRanks moment (stock_of store.now).ads (rank_expr (ad_frames request.now.ad)) ranking.old.ranks.items }
+    ensures ranks { AreRanks moment (stock_of store.now).ads (rank_expr (ad_frames request.now.ad)) ranking.new.ranks.items }
+    ensures member { IfOk result (λ member. member ≡ scan.member_above bar (scan.member_at (pool_of moment (stock_of store.now) (H.is_offered held.now) (H.holding held.now)) (ad_frames request.now.ad) place)) }
+    ensures evaluations { tops.new ≤ tops.old + scan.evaluations_for (pool_of moment (stock_of store.now) (H.is_offered held.now) (H.holding held.now)) (ad_frames request.now.ad) place }
+    ensures entries { entry.new ≤ entry.old + scan.attributes_for (pool_of moment (stock_of store.now) (H.is_offered held.now) (H.holding held.now)) (ad_frames request.now.ad) place }
+    ensures ratio { IsSmall (ad_frames request.now.ad) → AreSmallAds (stock_of store.now).ads → AreSmallHolders (H.holding held.now) → entry.new + 9216 * tops.old ≤ entry.old + 9216 * tops.new }
+    ensures looks { touch.new ≤ touch.old + 9 }
+{
+    if is_known_below(bar, ranking.at(place)) {
+        return Ok(None);
+    }
+    member_at(
+        alloc, store, held, request, moment, place, bar, ranking, tops, entry, touch,
+    )
+}
+
+// Whether a rank is known not to reach the bar.
+fn is_known_below(bar: Option<i64>, rank: Option<i64>) -> bool
+    ensures { result ≡ is_known_below bar rank }
+{
+    match rank {
+        Some(rank) => !reaches(bar, rank),
+        None => false,
+    }
 }
 
 // The rank of a member by the job, which any that comes before it reaches.

@@ -9,14 +9,16 @@ ghost use Rattle.ad_store.specs.Store.{stock_of};
 ghost use Rattle.ad_eval.specs.Dock.{rank_by};
 ghost use Rattle.ad_eval.specs.Small.{AreSmall};
 ghost use Rattle.eval_scope.specs.Shown.{world_of};
-ghost use Rattle.eval_scope.specs.World.{attribute_count, resource_side};
-ghost use Rattle.bilateral_match.specs.Docks.{is_undecided, last_open, pair_world};
+ghost use Rattle.eval_scope.specs.World.{attribute_count, request_side, resource_side};
+ghost use Rattle.bilateral_match.specs.Docks.{is_undecided, last_open, pair_world, rank_of_dock};
+ghost use Rattle.bilateral_match.specs.Known.{AreRanks, rank_expr};
 ghost use Rattle.bilateral_match.specs.Members as members;
 ghost use Rattle.bilateral_match.specs.Pool as pool;
 ghost use Rattle.bilateral_match.specs.Scan as scan;
 ghost use Rattle.bilateral_match.specs.Small.{AreSmallAds, AreSmallHolders};
 
 use crate::docking::slots_world;
+use crate::known::Ranking;
 use crate::member::{Member, Ranks};
 use crate::sides::{OpenSides, open_sides};
 use ad_eval::rank;
@@ -29,7 +31,7 @@ use std::alloc::Global;
 use std::sync::ledger::Ledger;
 
 /// The resource at a place, if it is a member for the job and the job ranks it no lower than the bar, where there is one. A
-/// resource below the bar isn't asked how it ranks the job, nor is its holder.
+/// resource below the bar isn't asked how it ranks the job, nor is its holder. The job's rank is noted in the ranking.
 pub fn member_at<H: Holdings, F: Ledger, E: Ledger, T: Ledger>(
     alloc: Global,
     store: &Store,
@@ -38,6 +40,7 @@ pub fn member_at<H: Holdings, F: Ledger, E: Ledger, T: Ledger>(
     moment: u64,
     place: usize,
     bar: Option<i64>,
+    ranking: &mut Ranking,
     tops: &mut Steps<F>,
     entry: &mut Steps<E>,
     touch: &mut Steps<T>,
@@ -45,6 +48,8 @@ pub fn member_at<H: Holdings, F: Ledger, E: Ledger, T: Ledger>(
     requires stored { pool.AreStored (stock_of store.now) (H.holding held.now) }
     requires single { request.now.ports ≡ [] }
     requires place { place < length (stock_of store.now).slots }
+    requires ranks { AreRanks moment (stock_of store.now).ads (rank_expr (ad_frames request.now.ad)) ranking.old.ranks.items }
+    ensures ranks { AreRanks moment (stock_of store.now).ads (rank_expr (ad_frames request.now.ad)) ranking.new.ranks.items }
     ensures member { IfOk result (λ member. member ≡ scan.member_above bar (scan.member_at (pool.pool_of moment (stock_of store.now) (H.is_offered held.now) (H.holding held.now)) (ad_frames request.now.ad) place)) }
     ensures evaluations { tops.new ≤ tops.old + scan.evaluations_for (pool.pool_of moment (stock_of store.now) (H.is_offered held.now) (H.holding held.now)) (ad_frames request.now.ad) place }
     ensures entries { entry.new ≤ entry.old + scan.attributes_for (pool.pool_of moment (stock_of store.now) (H.is_offered held.now) (H.holding held.now)) (ad_frames request.now.ad) place }
@@ -59,8 +64,10 @@ pub fn member_at<H: Holdings, F: Ledger, E: Ledger, T: Ledger>(
         return Ok(None);
     }
     let ad = store.look(slot, touch);
-    let met = ranks(alloc, request, ad, moment, bar, tops, entry)?;
-    let Some(ranks) = met else {
+    let known = ranking.at(place);
+    let weighed = ranks(alloc, request, ad, moment, bar, known, tops, entry)?;
+    ranking.note(&request.ad, ad, place, weighed.rank);
+    let Some(ranks) = weighed.ranks else {
         return Ok(None);
     };
     let holder = held.holder(slot);
@@ -121,29 +128,43 @@ fn is_within(now: u64, born: u64, lifetime: u64) -> bool
     now < born || now - born < lifetime
 }
 
-// What the sides rank each other, where their dock is true and the request's rank reaches the bar. Nothing is evaluated where
-// a test decides the dock.
+// What was found of a dock: the request's rank where that was evaluated, and the ranks of both sides where the dock is true and
+// the request's reaches the bar.
+#[derive(Clone, Copy)]
+struct Weighed {
+    rank: Option<i64>,
+    ranks: Option<Ranks>,
+}
+
+// What the sides rank each other, where their dock is true and the request's rank, which may be known, reaches the bar. Nothing
+// is evaluated where a test decides the dock.
 fn ranks<F: Ledger, E: Ledger>(
     alloc: Global,
     request: &Request,
     ad: &Ad,
     moment: u64,
     bar: Option<i64>,
+    known: Option<i64>,
     tops: &mut Steps<F>,
     entry: &mut Steps<E>,
-) -> Result<Option<Ranks>, OutOfMemory>
-    requires { request.now.ports ≡ [] }
-    ensures ranks { IfOk result (λ ranks. ranks ≡ scan.ranks_above bar (scan.ranks_of_dock moment (ad_frames request.now.ad) (ad_frames ad.now))) }
+) -> Result<Weighed, OutOfMemory>
+    requires single { request.now.ports ≡ [] }
+    requires known { IfSome known (λ n. n ≡ rank_of_dock moment (ad_frames request.now.ad) (ad_frames ad.now)) }
+    ensures ranks { IfOk result (λ weighed. weighed.ranks ≡ scan.ranks_above bar (scan.ranks_of_dock moment (ad_frames request.now.ad) (ad_frames ad.now))) }
+    ensures rank { IfOk result (λ weighed. IfSome weighed.rank (λ n. n ≡ rank_of_dock moment (ad_frames request.now.ad) (ad_frames ad.now))) }
     ensures evaluations { tops.new ≤ tops.old + (if is_undecided (ad_frames request.now.ad) (ad_frames ad.now) then 4 else 0) }
     ensures entries { entry.new ≤ entry.old + (if is_undecided (ad_frames request.now.ad) (ad_frames ad.now)
         then 4 * attribute_count (pair_world moment (ad_frames request.now.ad) (ad_frames ad.now)) else 0) }
     ensures ratio { IsSmall (ad_frames request.now.ad) → IsSmall (ad_frames ad.now) → entry.new + 9216 * tops.old ≤ entry.old + 9216 * tops.new }
 {
     let Some(sides) = open_sides(alloc, request, 0, ad) else {
-        return Ok(None);
+        return Ok(Weighed {
+            rank: None,
+            ranks: None,
+        });
     };
     let world = World::new(moment, &request.ad, &request.ports).with(ad);
-    ranks_in(alloc, &world, sides, bar, tops, entry)
+    ranks_in(alloc, &world, sides, bar, known, tops, entry)
 }
 
 // What the sides of the last dock rank each other, where it is true and the request's rank reaches the bar. Tests leave these
@@ -153,31 +174,64 @@ fn ranks_in<F: Ledger, E: Ledger>(
     world: &World<'_>,
     sides: OpenSides,
     bar: Option<i64>,
+    known: Option<i64>,
     tops: &mut Steps<F>,
     entry: &mut Steps<E>,
-) -> Result<Option<Ranks>, OutOfMemory>
+) -> Result<Weighed, OutOfMemory>
     requires docked { 0 < length (world_of world.now).docked }
+    requires known { IfSome known (λ n. n ≡ rank_by (world_of world.now) (request_side (world_of world.now))) }
     requires left { last_open (world_of world.now) ≡ Some sides }
-    ensures ranks { IfOk result (λ ranks. ranks ≡ scan.ranks_above bar (scan.ranks_in (world_of world.now))) }
+    ensures ranks { IfOk result (λ weighed. weighed.ranks ≡ scan.ranks_above bar (scan.ranks_in (world_of world.now))) }
+    ensures rank { IfOk result (λ weighed. IfSome weighed.rank (λ n. n ≡ rank_by (world_of world.now) (request_side (world_of world.now)))) }
     ensures evaluations { tops.new ≤ tops.old + 4 }
     ensures entries { entry.new ≤ entry.old + 4 * attribute_count (world_of world.now) }
     ensures ratio { AreSmall (world_of world.now) → entry.new + 9216 * tops.old ≤ entry.old + 9216 * tops.new }
 {
     if !sides.dock(alloc, world, tops, entry)? {
-        return Ok(None);
+        return Ok(Weighed {
+            rank: None,
+            ranks: None,
+        });
     }
-    let given = rank(alloc, world, world.request_place(), tops, entry)?;
+    let given = given_rank(alloc, world, known, tops, entry)?;
     if !reaches(bar, given) {
-        return Ok(None);
+        return Ok(Weighed {
+            rank: Some(given),
+            ranks: None,
+        });
     }
-    Ok(Some(Ranks {
-        rank: given,
-        regard: rank(alloc, world, world.resource_place(), tops, entry)?,
-    }))
+    let regard = rank(alloc, world, world.resource_place(), tops, entry)?;
+    Ok(Weighed {
+        rank: Some(given),
+        ranks: Some(Ranks {
+            rank: given,
+            regard,
+        }),
+    })
 }
 
-// Whether a rank is no lower than the bar, where there is one.
-fn reaches(bar: Option<i64>, rank: i64) -> bool
+// The rank by the request of the ad that was docked last, which is evaluated unless it is known.
+fn given_rank<F: Ledger, E: Ledger>(
+    alloc: Global,
+    world: &World<'_>,
+    known: Option<i64>,
+    tops: &mut Steps<F>,
+    entry: &mut Steps<E>,
+) -> Result<i64, OutOfMemory>
+    requires { IfSome known (λ n. n ≡ rank_by (world_of world.now) (request_side (world_of world.now))) }
+    ensures rank { IfOk result (λ n. n ≡ rank_by (world_of world.now) (request_side (world_of world.now))) }
+    ensures evaluations { tops.new ≤ tops.old + 1 }
+    ensures entries { entry.new ≤ entry.old + attribute_count (world_of world.now) }
+    ensures ratio { AreSmall (world_of world.now) → entry.new + 9216 * tops.old ≤ entry.old + 9216 * tops.new }
+{
+    match known {
+        Some(given) => Ok(given),
+        None => rank(alloc, world, world.request_place(), tops, entry),
+    }
+}
+
+/// Whether a rank is no lower than the bar, where there is one.
+pub(crate) fn reaches(bar: Option<i64>, rank: i64) -> bool
     ensures { result ≡ scan.reaches bar rank }
 {
     match bar {

@@ -16,6 +16,7 @@ ghost use Rattle.bilateral_match.specs.Shortlists.{AreInOrder, IsShortlist};
 ghost use Rattle.bilateral_match.specs.Small.{AreSmallAds, AreSmallHolders};
 
 use crate::candidates::candidates;
+use crate::known::Ranking;
 use crate::member::Member;
 use crate::members::member_at;
 use ad_store::{Holdings, Store};
@@ -96,9 +97,20 @@ fn members_at<H: Holdings, F: Ledger, E: Ledger, T: Ledger>(
     ensures looks { touch.new ≤ touch.old + 9 * length places.now }
 {
     let mut found = Vec::new(alloc);
+    let mut ranking = Ranking::unknown(alloc);
     for place in places.as_slice() {
         let next = member_at(
-            alloc, store, held, request, moment, *place, None, tops, entry, touch,
+            alloc,
+            store,
+            held,
+            request,
+            moment,
+            *place,
+            None,
+            &mut ranking,
+            tops,
+            entry,
+            touch,
         )?;
         keep(&mut found, next)?;
     }

@@ -11,6 +11,7 @@ use Rattle.ad_tree.specs.Frames.{Frame}
 use Rattle.ad_tree.specs.declared.request.Request.{Request}
 use Rattle.ad_store.specs.Stock.{Stock}
 use Rattle.bilateral_match.specs.Alike.{AreAlike}
+use Rattle.bilateral_match.specs.Known.{AreKnown}
 use Rattle.bilateral_match.specs.Members.{best_slot}
 use Rattle.bilateral_match.specs.Pool.{pool_of}
 use Rattle.bilateral_match.specs.Shortlists.{IsShortlist, first_left}
@@ -116,29 +117,32 @@ module _ (moment : ℕ) (stock : Stock) (jobs : List Job) where
       ∙ ap (λ (n : ℕ). best_slot stock (pool_for moment stock jobs) (ad_at jobs n)) same
       ∙ ap (best_slot stock (pool_for moment stock jobs)) (ad-is jobs i request at)
 
-  pub no-clusters : (clusters : Clusters) → clusters.seen.items ≡ [] → clusters.ranked.items ≡ [] → AreClusters moment stock jobs clusters
-  no-clusters clusters seen ranked = record {
+  pub no-clusters : (clusters : Clusters) → clusters.seen.items ≡ [] → clusters.ranked.items ≡ [] → AreKnown moment stock.ads clusters.known → AreClusters moment stock jobs clusters
+  no-clusters clusters seen ranked known = record {
     seen = subst (All (λ place. place < length jobs)) (sym seen) (All-nil (λ place. place < length jobs));
     ranked = subst (All (IsCluster moment stock jobs)) (sym ranked) (All-nil (IsCluster moment stock jobs));
+    known = known;
   }
 
 -- ---- clusters that change
 
 module _ (moment : ℕ) (stock : Stock) (jobs : List Job) (clusters : Clusters) (are : AreClusters moment stock jobs clusters) where
-  pub one-changed : (after : Clusters) (k : ℕ) (cluster : Cluster) → after.seen.items ≡ clusters.seen.items → after.ranked.items ≡ set clusters.ranked.items k cluster → IsCluster moment stock jobs cluster → AreClusters moment stock jobs after
-  one-changed after k cluster seen ranked is = record {
+  pub one-changed : (after : Clusters) (k : ℕ) (cluster : Cluster) → after.seen.items ≡ clusters.seen.items → after.ranked.items ≡ set clusters.ranked.items k cluster → after.known ≡ clusters.known → IsCluster moment stock jobs cluster → AreClusters moment stock jobs after
+  one-changed after k cluster seen ranked known is = record {
     seen = subst (All (λ place. place < length jobs)) (sym seen) are.seen;
     ranked = subst (All (IsCluster moment stock jobs)) (sym ranked) (All-set (IsCluster moment stock jobs) clusters.ranked.items k cluster is are.ranked);
+    known = subst (AreKnown moment stock.ads) (sym known) are.known;
   }
 
-  pub one-ranked : (after : Clusters) (cluster : Cluster) → after.seen.items ≡ clusters.seen.items → after.ranked.items ≡ clusters.ranked.items ++ cluster ∷ [] → IsCluster moment stock jobs cluster → AreClusters moment stock jobs after
-  one-ranked after cluster seen ranked is = record {
+  pub one-ranked : (after : Clusters) (cluster : Cluster) → after.seen.items ≡ clusters.seen.items → after.ranked.items ≡ clusters.ranked.items ++ cluster ∷ [] → after.known ≡ clusters.known → IsCluster moment stock jobs cluster → AreClusters moment stock jobs after
+  one-ranked after cluster seen ranked known is = record {
     seen = subst (All (λ place. place < length jobs)) (sym seen) are.seen;
     ranked = subst (All (IsCluster moment stock jobs)) (sym ranked) (All-push (IsCluster moment stock jobs) clusters.ranked.items cluster are.ranked is);
+    known = subst (AreKnown moment stock.ads) (sym known) are.known;
   }
 
-  pub one-seen : (after : Clusters) → All (λ place. place < length jobs) after.seen.items → after.ranked.items ≡ clusters.ranked.items → AreClusters moment stock jobs after
-  one-seen after seen ranked = record { seen = seen; ranked = subst (All (IsCluster moment stock jobs)) (sym ranked) are.ranked }
+  pub one-seen : (after : Clusters) → All (λ place. place < length jobs) after.seen.items → after.ranked.items ≡ clusters.ranked.items → AreKnown moment stock.ads after.known → AreClusters moment stock jobs after
+  one-seen after seen ranked known = record { seen = seen; ranked = subst (All (IsCluster moment stock jobs)) (sym ranked) are.ranked; known = known }
 
 pub same-clusters : (scene : Scene) {jobs later : List Job} {clusters after : Clusters} → later ≡ jobs → after ≡ clusters → AreClusters scene.moment (stock_in scene) jobs clusters → AreClusters scene.moment (stock_in scene) later after
 same-clusters scene jobs_are clusters_are are = rw (jobs_are, clusters_are) are
@@ -169,4 +173,5 @@ module _ (moment : ℕ) (stock : Stock) (jobs : List Job) (i : ℕ) (slots : Lis
   clusters-later clusters are = record {
     seen = λ k d within. subst (λ (n : ℕ). get_or clusters.seen.items k d < n) (sym (length-later jobs i slots idle)) (are.seen k d within);
     ranked = λ k d within. cluster-later (get_or clusters.ranked.items k d) (are.ranked k d within);
+    known = are.known;
   }

@@ -4,6 +4,7 @@ use Rattle.std.specs.Option.{option_map_or}
 use Rattle.ad_tree.specs.Ad.{ad_frames}
 use Rattle.ad_tree.specs.Frames.{Frame}
 use Rattle.ad_store.specs.Stock.{Stock}
+use Rattle.bilateral_match.specs.Known.{AreKnown}
 use Rattle.bilateral_match.specs.Shortlists.{IsShortlist}
 use Rattle.claim_table.specs.declared.job.Job.{Job}
 use Rattle.claim_table.specs.Holders.{holder_of}
@@ -24,7 +25,8 @@ pub record IsCluster (moment : ℕ) (stock : Stock) (jobs : List Job) (cluster :
   pub list : IsShortlist moment stock (is_offered jobs) (holder_of jobs) (ad_at jobs cluster.place) cluster.slots
   pub passed : All (λ slot. is_offered jobs slot ≡ true) (take cluster.passed cluster.slots)
 
--- so is each cluster, and the ads that were seen are those of jobs
+-- so is each cluster, the ads that were seen are those of jobs, and the ranks that are kept are those by their expressions
 pub record AreClusters (moment : ℕ) (stock : Stock) (jobs : List Job) (clusters : Clusters) : Type 0 where
   pub seen : All (λ place. place < length jobs) clusters.seen.items
   pub ranked : All (IsCluster moment stock jobs) clusters.ranked.items
+  pub known : AreKnown moment stock.ads clusters.known

@@ -1,9 +1,11 @@
 // Clusters of jobs: jobs without ports that have the same ad share one list of resources, so that each resource is weighed
 // once for all of them.
-ghost use Rattle.std.specs.Prelude.{◌≡◌, ◌<◌, ◌≤◌, ◌+◌, ◌*◌, [], false, true, All, IfOk, IfSome, IsTrue, Some, length, option_map, slice_get, take};
+ghost use Rattle.std.specs.Prelude.{◌≡◌, ◌<◌, ◌≤◌, ◌+◌, ◌*◌, ℕ, List, [], false, true, All, IfOk, IfSome, IsTrue, Some, length, option_map, slice_get, take};
 ghost use Rattle.ad_tree.specs.Ad.{ad_frames};
+ghost use Rattle.ad_store.specs.Stock.{Advert};
 ghost use Rattle.bilateral_match.specs.Alike.{AreAlike};
 ghost use Rattle.bilateral_match.specs.Counts.{entered_for, least_left, open_count};
+ghost use Rattle.bilateral_match.specs.Known.{AreKnown};
 ghost use Rattle.bilateral_match.specs.Members.{best_slot};
 ghost use Rattle.bilateral_match.specs.Pool.{AreStored};
 ghost use Rattle.bilateral_match.specs.Rows.{rows_of};
@@ -20,7 +22,7 @@ ghost use Rattle.negotiator.specs.Scenes.{stock_in};
 
 use crate::Scene;
 use ad_tree::Request;
-use bilateral_match::{are_alike, best, shortlist};
+use bilateral_match::{Known, are_alike, best_knowing, shortlist};
 use claim_table::ClaimTable;
 use pool_steps::Steps;
 use pool_text::{OutOfMemory, Slots};
@@ -41,12 +43,13 @@ pub struct Cluster {
     pub passed: usize,
 }
 
-/// The ads of the jobs without ports that were tried in a cycle, each by the place of the first job that has it, and the
-/// clusters of those that were tried again.
+/// The ads of the jobs without ports that were tried in a cycle, each by the place of the first job that has it, the clusters of
+/// those that were tried again, and what is known of the ranks that jobs give resources.
 #[derive(Drop)]
 pub struct Clusters {
     pub seen: Vec<usize>,
     pub ranked: Vec<Cluster>,
+    pub known: Known,
 }
 
 impl Clusters {
@@ -54,10 +57,12 @@ impl Clusters {
     pub(crate) fn new(alloc: Global) -> Clusters
         ensures seen { result.seen.items ≡ [] }
         ensures ranked { result.ranked.items ≡ [] }
+        ensures known { (moment : ℕ) (ads : List Advert) → AreKnown moment ads result.known }
     {
         Clusters {
             seen: Vec::new(alloc),
             ranked: Vec::new(alloc),
+            known: Known::new(alloc),
         }
     }
 }
@@ -124,13 +129,14 @@ pub(crate) fn choose<F: Ledger, E: Ledger, T: Ledger>(
         return Ok(slot);
     }
     note(claims, &mut clusters.seen, i)?;
-    best(
+    best_knowing(
         scene.alloc,
         scene.store,
         scene.index,
         claims,
         request,
         scene.moment,
+        &mut clusters.known,
         tops,
         entry,
         touch,

@@ -26,29 +26,29 @@ returns-then-not-is_live-clause-member g c =
     let request = ad_frames c.args.request.now.ad in
     ap (member_above c.args.bar) (none-dead c.args.moment (stock_of c.args.store.now) (g.H.Holdings.is_offered c.args.held.now) (g.H.Holdings.holding c.args.held.now) request c.args.place c.at-slot.result c.at-slot.ensures.place (slice_get pool.ads c.args.place) (c.is_live.ensures c.args.place c.at-slot.ensures.place ∙ ap Some c.if-not-is_live.true))
 
-pub returns-in_err-met-clause-evaluations : goal.returns-in_err-met-clause-evaluations
-returns-in_err-met-clause-evaluations g c =
+pub returns-in_err-weighed-clause-evaluations : goal.returns-in_err-weighed-clause-evaluations
+returns-in_err-weighed-clause-evaluations g c =
     let pool = pool_of c.args.moment (stock_of c.args.store.now) (g.H.Holdings.is_offered c.args.held.now) (g.H.Holdings.holding c.args.held.now) in
     let ad = ad_frames c.look-ad.result.now in
     let request = ad_frames c.args.request.now.ad in
     omega (arith, c.ranks.ensures.evaluations, four-of-five c.args.moment (stock_of c.args.store.now) (g.H.Holdings.is_offered c.args.held.now) (g.H.Holdings.holding c.args.held.now) request c.args.place c.at-slot.result c.at-slot.ensures.place ad (sym c.offered.ensures ∙ c.if-offered.false) (slice_get pool.ads c.args.place) (c.look-ad.ensures.ad c.args.place c.at-slot.ensures.place))
 
-pub returns-in_err-met-clause-entries : goal.returns-in_err-met-clause-entries
-returns-in_err-met-clause-entries g c =
+pub returns-in_err-weighed-clause-entries : goal.returns-in_err-weighed-clause-entries
+returns-in_err-weighed-clause-entries g c =
     let pool = pool_of c.args.moment (stock_of c.args.store.now) (g.H.Holdings.is_offered c.args.held.now) (g.H.Holdings.holding c.args.held.now) in
     let ad = ad_frames c.look-ad.result.now in
     let request = ad_frames c.args.request.now.ad in
     omega (arith, c.ranks.ensures.entries, attributes-of-dock c.args.moment (stock_of c.args.store.now) (g.H.Holdings.is_offered c.args.held.now) (g.H.Holdings.holding c.args.held.now) request c.args.place c.at-slot.result c.at-slot.ensures.place ad (sym c.offered.ensures ∙ c.if-offered.false) (slice_get pool.ads c.args.place) (c.look-ad.ensures.ad c.args.place c.at-slot.ensures.place))
 
-pub returns-in_err-met-clause-ratio : goal.returns-in_err-met-clause-ratio
-returns-in_err-met-clause-ratio g c request ads holders =
+pub returns-in_err-weighed-clause-ratio : goal.returns-in_err-weighed-clause-ratio
+returns-in_err-weighed-clause-ratio g c request ads holders =
     c.ranks.ensures.ratio request (found-small (stock_of c.args.store.now).ads c.args.place (ad_frames c.look-ad.result.now) ads (c.look-ad.ensures.ad c.args.place c.at-slot.ensures.place))
 
 pub returns-in_default-clause-member : goal.returns-in_default-clause-member
 returns-in_default-clause-member g c =
     let pool = pool_of c.args.moment (stock_of c.args.store.now) (g.H.Holdings.is_offered c.args.held.now) (g.H.Holdings.holding c.args.held.now) in
     none-above pool (ad_frames c.args.request.now.ad) c.args.place c.args.bar (ad_frames c.look-ad.result.now) (slice_get pool.ads c.args.place) (c.look-ad.ensures.ad c.args.place c.at-slot.ensures.place)
-    (sym c.in_default.is ∙ c.in_ok-met.ensures.ranks)
+    (sym c.in_default.is ∙ c.in_ok-weighed.ensures.ranks)
 
 pub returns-in_default-clause-evaluations : goal.returns-in_default-clause-evaluations
 returns-in_default-clause-evaluations g c =
@@ -73,7 +73,7 @@ returns-clause-evaluations g c =
     let pool = pool_of c.args.moment (stock_of c.args.store.now) (g.H.Holdings.is_offered c.args.held.now) (g.H.Holdings.holding c.args.held.now) in
     let ad = ad_frames c.look-ad.result.now in
     let request = ad_frames c.args.request.now.ad in
-    omega (arith, c.ranks.ensures.evaluations, c.is_won-won.ensures.evaluations, five-in-all c.args.moment (stock_of c.args.store.now) (g.H.Holdings.is_offered c.args.held.now) (g.H.Holdings.holding c.args.held.now) request c.args.place c.at-slot.result c.at-slot.ensures.place ad (sym c.offered.ensures ∙ c.if-offered.false) (slice_get pool.ads c.args.place) c.in-Some.ranks (c.look-ad.ensures.ad c.args.place c.at-slot.ensures.place) (ranks-there c.args.bar (ranks_of_dock pool.moment request ad) c.in-Some.ranks (sym c.in-Some.is ∙ c.in_ok-met.ensures.ranks)).0)
+    omega (arith, c.ranks.ensures.evaluations, c.is_won-won.ensures.evaluations, five-in-all c.args.moment (stock_of c.args.store.now) (g.H.Holdings.is_offered c.args.held.now) (g.H.Holdings.holding c.args.held.now) request c.args.place c.at-slot.result c.at-slot.ensures.place ad (sym c.offered.ensures ∙ c.if-offered.false) (slice_get pool.ads c.args.place) c.in-Some.ranks (c.look-ad.ensures.ad c.args.place c.at-slot.ensures.place) (ranks-there c.args.bar (ranks_of_dock pool.moment request ad) c.in-Some.ranks (sym c.in-Some.is ∙ c.in_ok-weighed.ensures.ranks)).0)
 
 pub returns-clause-entries : goal.returns-clause-entries
 returns-clause-entries g c =
@@ -81,7 +81,7 @@ returns-clause-entries g c =
     let ad = ad_frames c.look-ad.result.now in
     let request = ad_frames c.args.request.now.ad in
     let taken = ap (λ h. option_map_or (λ h. attribute_count (holder_world c.args.moment (stock_of c.args.store.now) h)) h 0) (c.holder-holder.ensures.who) in
-    omega (arith, taken, c.ranks.ensures.entries, c.is_won-won.ensures.entries, attributes-in-all c.args.moment (stock_of c.args.store.now) (g.H.Holdings.is_offered c.args.held.now) (g.H.Holdings.holding c.args.held.now) request c.args.place c.at-slot.result c.at-slot.ensures.place ad (sym c.offered.ensures ∙ c.if-offered.false) (slice_get pool.ads c.args.place) c.in-Some.ranks (c.look-ad.ensures.ad c.args.place c.at-slot.ensures.place) (ranks-there c.args.bar (ranks_of_dock pool.moment request ad) c.in-Some.ranks (sym c.in-Some.is ∙ c.in_ok-met.ensures.ranks)).0)
+    omega (arith, taken, c.ranks.ensures.entries, c.is_won-won.ensures.entries, attributes-in-all c.args.moment (stock_of c.args.store.now) (g.H.Holdings.is_offered c.args.held.now) (g.H.Holdings.holding c.args.held.now) request c.args.place c.at-slot.result c.at-slot.ensures.place ad (sym c.offered.ensures ∙ c.if-offered.false) (slice_get pool.ads c.args.place) c.in-Some.ranks (c.look-ad.ensures.ad c.args.place c.at-slot.ensures.place) (ranks-there c.args.bar (ranks_of_dock pool.moment request ad) c.in-Some.ranks (sym c.in-Some.is ∙ c.in_ok-weighed.ensures.ranks)).0)
 
 pub returns-clause-ratio : goal.returns-clause-ratio
 returns-clause-ratio g c request ads holders =
@@ -99,7 +99,7 @@ returns-clause-member g c =
     let slot = c.at-slot.result in
     let at = c.at-slot.ensures.place in
     let given = to_z w64 (of_z w64 c.in-Some.ranks.regard) in
-    let there = ranks-there c.args.bar (ranks_of_dock pool.moment request ad) c.in-Some.ranks (sym c.in-Some.is ∙ c.in_ok-met.ensures.ranks) in
+    let there = ranks-there c.args.bar (ranks_of_dock pool.moment request ad) c.in-Some.ranks (sym c.in-Some.is ∙ c.in_ok-weighed.ensures.ranks) in
     let ranks = there.0 in
     let won = option_map_or (λ h. int_lt (regard_in (holder_world c.args.moment stock h)) given) (option_map holding_of c.holder-holder.result) true in
     let regards = to_z-of_z w64 c.in-Some.ranks.regard fits ∙ (are-ranks c.args.moment request ad c.in-Some.ranks (sym ranks)).2 in

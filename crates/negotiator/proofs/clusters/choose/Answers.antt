@@ -43,7 +43,7 @@ returns-in-Some-clause-best g c =
 
 pub returns-in-Some-clause-clusters : goal.returns-in-Some-clause-clusters
 returns-in-Some-clause-clusters g c =
-    one-changed c.args.scene.now.moment (stock_in c.args.scene.now) (jobs_of c.args.claims.now) c.args.clusters.now c.requires.clusters _ c.in-Some.k c.first.new.self refl refl c.first.ensures.kept
+    one-changed c.args.scene.now.moment (stock_in c.args.scene.now) (jobs_of c.args.claims.now) c.args.clusters.now c.requires.clusters _ c.in-Some.k c.first.new.self refl refl refl c.first.ensures.kept
 
 pub returns-in-Some-clause-free : goal.returns-in-Some-clause-free
 returns-in-Some-clause-free g c = c.first.ensures.free
@@ -106,7 +106,7 @@ returns-in_err-push-clause-ratio g c = c.rank.ensures.ratio
 
 pub returns-in_err-push-clause-clusters : goal.returns-in_err-push-clause-clusters
 returns-in_err-push-clause-clusters g c =
-    one-seen c.args.scene.now.moment (stock_in c.args.scene.now) (jobs_of c.args.claims.now) c.args.clusters.now c.requires.clusters _ c.requires.clusters.seen c.in_err-push.ensures.items
+    one-seen c.args.scene.now.moment (stock_in c.args.scene.now) (jobs_of c.args.claims.now) c.args.clusters.now c.requires.clusters _ c.requires.clusters.seen c.in_err-push.ensures.items c.requires.clusters.known
 
 pub returns-then-was_seen-clause-best : goal.returns-then-was_seen-clause-best
 returns-then-was_seen-clause-best g c =
@@ -115,7 +115,7 @@ returns-then-was_seen-clause-best g c =
 
 pub returns-then-was_seen-clause-clusters : goal.returns-then-was_seen-clause-clusters
 returns-then-was_seen-clause-clusters g c =
-    one-ranked c.args.scene.now.moment (stock_in c.args.scene.now) (jobs_of c.args.claims.now) c.args.clusters.now c.requires.clusters _ c.first-slot.new.self refl c.in_ok-push.ensures.items c.first-slot.ensures.kept
+    one-ranked c.args.scene.now.moment (stock_in c.args.scene.now) (jobs_of c.args.claims.now) c.args.clusters.now c.requires.clusters _ c.first-slot.new.self refl c.in_ok-push.ensures.items refl c.first-slot.ensures.kept
 
 pub returns-then-was_seen-clause-free : goal.returns-then-was_seen-clause-free
 returns-then-was_seen-clause-free g c = c.first-slot.ensures.free
@@ -142,7 +142,7 @@ note-requires-clause-all g c = c.requires.clusters.seen
 
 pub returns-in_err-note-clause-clusters : goal.returns-in_err-note-clause-clusters
 returns-in_err-note-clause-clusters g c =
-    one-seen c.args.scene.now.moment (stock_in c.args.scene.now) (jobs_of c.args.claims.now) c.args.clusters.now c.requires.clusters _ c.note.ensures refl
+    one-seen c.args.scene.now.moment (stock_in c.args.scene.now) (jobs_of c.args.claims.now) c.args.clusters.now c.requires.clusters _ c.note.ensures refl c.requires.clusters.known
 
 pub returns-in_err-note-clause-evaluations : goal.returns-in_err-note-clause-evaluations
 returns-in_err-note-clause-evaluations g c = omega arith
@@ -157,25 +157,25 @@ pub returns-in_err-note-clause-ratio : goal.returns-in_err-note-clause-ratio
 returns-in_err-note-clause-ratio g c ads small = omega arith
 
 pub returns-clause-best : goal.returns-clause-best
-returns-clause-best g c = c.best.ensures.best
+returns-clause-best g c = c.best_knowing.ensures.best
 
 pub returns-clause-free : goal.returns-clause-free
-returns-clause-free g c = c.best.ensures.free
+returns-clause-free g c = c.best_knowing.ensures.free
 
 pub returns-clause-evaluations : goal.returns-clause-evaluations
-returns-clause-evaluations g c = c.best.ensures.evaluations
+returns-clause-evaluations g c = c.best_knowing.ensures.evaluations
 
 pub returns-clause-entries : goal.returns-clause-entries
-returns-clause-entries g c = c.best.ensures.entries
+returns-clause-entries g c = c.best_knowing.ensures.entries
 
 pub returns-clause-looks : goal.returns-clause-looks
-returns-clause-looks g c = c.best.ensures.looks
+returns-clause-looks g c = c.best_knowing.ensures.looks
 
 pub returns-clause-clusters : goal.returns-clause-clusters
 returns-clause-clusters g c =
-    one-seen c.args.scene.now.moment (stock_in c.args.scene.now) (jobs_of c.args.claims.now) c.args.clusters.now c.requires.clusters _ c.note.ensures refl
+    one-seen c.args.scene.now.moment (stock_in c.args.scene.now) (jobs_of c.args.claims.now) c.args.clusters.now c.requires.clusters _ c.note.ensures refl c.best_knowing.ensures.known
 
 pub returns-clause-ratio : goal.returns-clause-ratio
 returns-clause-ratio g c ads small =
     let jobs = jobs_of c.args.claims.now in
-    c.best.ensures.ratio (small-job jobs c.args.i c.args.request.now c.requires.job small) ads (holders-small jobs small)
+    c.best_knowing.ensures.ratio (small-job jobs c.args.i c.args.request.now c.requires.job small) ads (holders-small jobs small)

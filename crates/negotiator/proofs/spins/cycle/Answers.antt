@@ -37,7 +37,7 @@ run_spins-requires-clause-ready g c =
 
 pub run_spins-requires-clause-clusters : goal.run_spins-requires-clause-clusters
 run_spins-requires-clause-clusters g c =
-    no-clusters c.args.moment (stock_of c.args.store.now) (jobs_of c.args.claims.now) c.new-clusters.result c.new-clusters.ensures.seen c.new-clusters.ensures.ranked
+    no-clusters c.args.moment (stock_of c.args.store.now) (jobs_of c.args.claims.now) c.new-clusters.result c.new-clusters.ensures.seen c.new-clusters.ensures.ranked (c.new-clusters.ensures.known c.args.moment (stock_of c.args.store.now).ads)
 
 pub returns-clause-stored : goal.returns-clause-stored
 returns-clause-stored g c = cycle-stored c.args.store.now c.args.moment (settings_of c.args.priorities.now) (jobs_of c.args.claims.now)

@@ -3,7 +3,7 @@ use Rattle.ad_tree.specs.Ad.{ad_frames}
 use Rattle.ad_store.specs.Store.{stock_of}
 use Rattle.bilateral_match.specs.Pool.{pool_of, slot_at}
 use Rattle.bilateral_match.proofs.MemberScanLemmas.{entered-sum, first-free, first-within, found-best, open-sum, slot-free}
-use Rattle.bilateral_match.proofs.choosing.best.Goals as goal
+use Rattle.bilateral_match.proofs.choosing.best_knowing.Goals as goal
 
 pub slot_of-requires : goal.slot_of-requires
 slot_of-requires g c =

@@ -1,25 +1,25 @@
 -- An expression that an ad settles has one value beside it for all requests, and so has a rank by that expression.
-use Rattle.std.proofs.Common.{◌≡◌, ◌+◌, ℕ, ℤ, pos, zero, suc, Bool, true, false, not, ◌&&◌, int_lt, List, [], ◌∷◌, ◌++◌, All, drop, eqb, get_or, length, remove, replicate, set, slice_get, Option, None, Some, is_some, IfSome, if◌then◌else◌, refl, ap, sym, ◌∙◌, subst, arith}
+use Rattle.std.proofs.Common.{◌≡◌, ◌+◌, ℕ, ℤ, pos, zero, suc, Bool, true, false, not, ◌&&◌, List, [], ◌∷◌, All, drop, eqb, remove, replicate, set, slice_get, take, Option, None, Some, is_some, IfSome, if◌then◌else◌, refl, ap, sym, ◌∙◌, subst, arith}
 use Rattle.std.specs.Prelude.{codes, option_map, unwrap_or}
 use Rattle.std.specs.Option.{option_and_then, option_map_or}
-use Rattle.std.proofs.lemmas.List.Elements.{All-cons, All-head, All-tail}
+use Rattle.std.proofs.lemmas.Bool.Decides.{nat_tests}
+use Rattle.std.proofs.lemmas.List.Elements.{All-append, All-drop, All-take}
 use Rattle.pool_text.specs.declared.language.AdPlace.{AdPlace}
 use Rattle.pool_text.specs.declared.language.Pos.{Pos}
 use Rattle.ad_value.specs.Plain.{Plain, error}
 use Rattle.ad_tree.specs.declared.tree.Scope.{Scope}
 use Rattle.ad_tree.specs.Enclosing.{expr_named}
 use Rattle.ad_tree.specs.Frames.{Frame, expr_at}
-use Rattle.ad_tree.specs.Special.{attribute_named, rank_of}
+use Rattle.ad_tree.specs.Special.{attribute_named}
 use Rattle.ad_tree.specs.Tree.{Label, Tree, Trees, all, any, binary, call, choice, frame, list, literal, more, name, node, none, pack, select, subscript, unary}
 use Rattle.ad_tree.proofs.TreeLemmas.{pack-drop}
 use Rattle.ad_store.specs.Stock.{Advert}
 use Rattle.conjunct_plan.specs.Decided.{counted}
 use Rattle.eval_scope.specs.Look.{find, first_found, in_frame}
-use Rattle.eval_scope.specs.World.{PlainWorld, expr_of, frame_of_attribute, request_side}
-use Rattle.ad_eval.specs.Dock.{attribute_of, rank_by, rank_number}
+use Rattle.eval_scope.specs.World.{PlainWorld, expr_of, frame_of_attribute}
+use Rattle.ad_eval.specs.Dock.{attribute_of, rank_number}
 use Rattle.ad_eval.specs.Node.{named, node_value}
-use Rattle.ad_eval.specs.Value.{evaluation_at, references, results_by, value_at, value_by}
-use Rattle.bilateral_match.specs.declared.member.Member.{Member}
+use Rattle.ad_eval.specs.Value.{evaluation_at, results_by, value_at, value_by}
 use Rattle.bilateral_match.specs.Docks.{pair_world, rank_of_dock}
 use Rattle.bilateral_match.specs.Known.{AreRanks, are_settled, is_known_below, is_rank_settled, is_settled, is_settled_label, known_at, rank_expr}
 use Rattle.bilateral_match.specs.Members.{as_member, is_member, member_with}
@@ -149,9 +149,7 @@ module _ {X : Type 0} where
   set-there (z ∷ xs) (suc k) (suc i) x apart = set-there xs k i x (grind (arith, nat_tests))
 
   pub All-but : (P : X → Type 0) (xs : List X) (k : ℕ) → All P xs → All P (remove xs k)
-  All-but P [] k h = h
-  All-but P (x ∷ xs) zero h = All-tail P x xs h
-  All-but P (x ∷ xs) (suc k) h = All-cons P x (remove xs k) (All-head P x xs h) (All-but P xs k (All-tail P x xs h))
+  All-but P xs k h = All-append P (take k xs) (drop (suc k) xs) (All-take P k xs h) (All-drop P (suc k) xs h)
 
 nothing-there : (count place : ℕ) (rank : ℤ) → slice_get (replicate count None) place ≡ Some (Some rank) → ⊥
 nothing-there zero place rank e = cc
@@ -181,6 +179,13 @@ module _ (moment : ℕ) (ads : List Advert) (expr : Option Tree) where
             let ad-is : advert.ad ≡ ad = cc in
             let rank-is : Some rank ≡ Some r = set-here ranks place (Some r) (Some rank) ranked in
             ap (rank_of_dock moment other) ad-is ∙ rank-same moment other request ad expr alike same settled ∙ sym is ∙ cc
+
+-- a rank that is noted
+pub noted : (moment : ℕ) (ads : List Advert) (expr : Option Tree) (ranks : List (Option ℤ)) (place : ℕ) (rank : Option ℤ) (request ad : List Frame) → AreRanks moment ads expr ranks
+    → option_map (λ (a : Advert). a.ad) (slice_get ads place) ≡ Some ad → IfSome rank (λ n. n ≡ rank_of_dock moment request ad) → is_some rank ≡ true → rank_expr request ≡ expr
+    → is_rank_settled ad expr ≡ true → AreRanks moment ads expr (set ranks place rank)
+noted moment ads expr ranks place None request ad are at is some same settled = absurd (cc)
+noted moment ads expr ranks place (Some r) request ad are at is some same settled = one-noted moment ads expr ranks place r request ad are at is same settled
 
 -- a resource whose rank is known not to reach the bar is no member above it
 module _ (pool : Pool) (request : List Frame) (place : ℕ) (bar : Option ℤ) where

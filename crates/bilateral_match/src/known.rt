@@ -1,6 +1,7 @@
 // Ranks that are remembered, since jobs with the same rank expression give them to the same resources.
-ghost use Rattle.std.specs.Prelude.{◌≡◌, ◌<◌, ℕ, [], List, Some, None, All, IfOk, IfSome, IsTrue, length, option_map, replicate, slice_get};
+ghost use Rattle.std.specs.Prelude.{◌≡◌, ◌<◌, ℕ, List, Option, Some, IfOk, IfSome, IsTrue, length, option_map, slice_get};
 ghost use Rattle.ad_tree.specs.Ad.{ad_frames};
+ghost use Rattle.ad_tree.specs.Tree.{Tree};
 ghost use Rattle.ad_store.specs.Stock.{Advert};
 ghost use Rattle.bilateral_match.specs.Docks.{rank_of_dock};
 ghost use Rattle.bilateral_match.specs.Known.{AreKnown, AreRanks, known_at, rank_expr};
@@ -37,7 +38,7 @@ pub struct Known {
 impl Ranking {
     /// A ranking of no places, in which no rank is known or noted. It takes no memory.
     pub(crate) fn unknown(alloc: Global) -> Ranking
-        ensures { result.ranks.items ≡ [] }
+        ensures { (moment : ℕ) (ads : List Advert) (expr : Option Tree) → AreRanks moment ads expr result.ranks.items }
     {
         Ranking {
             ranks: Vec::new(alloc),
@@ -46,7 +47,7 @@ impl Ranking {
 
     // A ranking of so many places, none of which is known.
     fn of_places(alloc: Global, count: usize) -> Result<Ranking, OutOfMemory>
-        ensures { IfOk result (λ ranking. ranking.ranks.items ≡ replicate count None) }
+        ensures { IfOk result (λ ranking. (moment : ℕ) (ads : List Advert) (expr : Option Tree) → AreRanks moment ads expr ranking.ranks.items) }
     {
         let ranks = vec![in alloc; None; count]?;
         Ok(Ranking { ranks })

@@ -42,3 +42,24 @@ returns-clause-entries g c =
 
 pub returns-clause-looks : goal.returns-clause-looks
 returns-clause-looks g c = omega (arith, c.first_at.ensures.looks, c.in_ok-places.ensures.places.few)
+
+pub returns-in_err-keep-clause-known : goal.returns-in_err-keep-clause-known
+returns-in_err-keep-clause-known g c =
+    let ads = (stock_of c.args.store.now).ads in
+    c.keep.ensures c.args.moment ads (c.take.ensures.kept c.args.moment ads c.requires.known) c.first_at.ensures.ranks
+
+pub returns-in_err-keep-clause-evaluations : goal.returns-in_err-keep-clause-evaluations
+returns-in_err-keep-clause-evaluations g c =
+    omega (arith, c.first_at.ensures.evaluations, open-sum (pool_of c.args.moment (stock_of c.args.store.now) (g.H.Holdings.is_offered c.args.held.now) (g.H.Holdings.holding c.args.held.now)) (ad_frames c.args.request.now.ad) c.in_ok-places.places c.in_ok-places.ensures.places)
+
+pub returns-in_err-keep-clause-entries : goal.returns-in_err-keep-clause-entries
+returns-in_err-keep-clause-entries g c =
+    omega (arith, c.first_at.ensures.entries, entered-sum (pool_of c.args.moment (stock_of c.args.store.now) (g.H.Holdings.is_offered c.args.held.now) (g.H.Holdings.holding c.args.held.now)) (ad_frames c.args.request.now.ad) c.in_ok-places.places c.in_ok-places.ensures.places)
+
+pub returns-in_err-keep-clause-looks : goal.returns-in_err-keep-clause-looks
+returns-in_err-keep-clause-looks g c = omega (arith, c.first_at.ensures.looks, c.in_ok-places.ensures.places.few)
+
+pub returns-clause-known : goal.returns-clause-known
+returns-clause-known g c =
+    let ads = (stock_of c.args.store.now).ads in
+    c.keep.ensures c.args.moment ads (c.take.ensures.kept c.args.moment ads c.requires.known) c.first_at.ensures.ranks

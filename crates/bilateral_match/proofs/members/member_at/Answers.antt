@@ -10,6 +10,7 @@ use Rattle.bilateral_match.specs.declared.member.Member.{Member}
 use Rattle.bilateral_match.specs.Pool.{holder_world, pool_of, regard_in}
 use Rattle.bilateral_match.specs.Scan.{member_above, ranks_of_dock}
 use Rattle.bilateral_match.proofs.BarLemmas.{none-above, ranks-there, won-above}
+use Rattle.bilateral_match.proofs.KnownLemmas.{known-is}
 use Rattle.bilateral_match.proofs.MemberWeighLemmas.{are-ranks, attributes-in-all, attributes-of-dock, five-in-all, four-of-five, holder-stands, holder-stored, holder-there, none-dead, none-offered, won-by, won-or-lost}
 use Rattle.bilateral_match.proofs.SmallLemmas.{found-small, holder-small}
 use Rattle.bilateral_match.proofs.members.member_at.Goals as goal
@@ -118,3 +119,12 @@ is_won-won-requires-clause-stored g c =
 pub is_won-won-requires-clause-stands : goal.is_won-won-requires-clause-stands
 is_won-won-requires-clause-stands g c =
     holder-stands (stock_of c.args.store.now) (g.H.Holdings.holding c.args.held.now) c.at-slot.result c.holder-holder.result c.holder-holder.ensures.stands
+
+pub ranks-requires-clause-known : goal.ranks-requires-clause-known
+ranks-requires-clause-known g c =
+    known-is c.args.moment (stock_of c.args.store.now).ads (ad_frames c.args.request.now.ad) (ad_frames c.look-ad.result.now) c.args.ranking.now.ranks.items c.args.place c.at-known.result
+    c.requires.ranks (c.look-ad.ensures.ad c.args.place c.at-slot.ensures.place) c.at-known.ensures
+
+pub returns-clause-ranks : goal.returns-clause-ranks
+returns-clause-ranks g c =
+    c.note.ensures c.args.moment (stock_of c.args.store.now).ads c.requires.ranks (c.look-ad.ensures.ad c.args.place c.at-slot.ensures.place) c.in_ok-weighed.ensures.rank

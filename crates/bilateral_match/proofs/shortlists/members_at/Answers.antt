@@ -51,6 +51,7 @@ loop-place-preserved g c =
           c.loop-place.place-index c.args.entry.now c.loop-place.entry c.member_at.new.entry c.loop-place.invariant.entries c.loop-place-test.true c.member_at.ensures.entries;
       ratio = λ small ads holders. omega (arith, c.loop-place.invariant.ratio small ads holders, c.member_at.ensures.ratio small ads holders);
       looks = omega (arith, c.loop-place.invariant.looks, c.member_at.ensures.looks);
+      ranks = c.member_at.ensures.ranks;
     }
 
 pub returns-clause-found : goal.returns-clause-found

@@ -66,6 +66,21 @@ module _ (most : ℕ) (rows : List Row) (tests : List Test) where
       by true e = let it = better-best best (Lookup.Both before test) so_far (behind, here) e in (it.0, it.1, λ _. it.2)
       by false e = (so_far, omega arith, λ pair. absurd (true≢false (sym pair ∙ e)))
 
+-- a test that leaves as many ads as the best so far isn't better
+pub not-better : (ads : List Advert) (slots : List ℕ) (best : Best) (test : Bor Test) → length ads ≡ length slots → best.left ≤ left_by ads test.now
+    → best ≡ better (rows_beside ads slots) best (Lookup.One test)
+not-better ads slots best test same high = by (nat_lt (length (slots_left (Lookup.One test) rows)) best.left) refl
+  where
+    rows : List Row
+    rows = rows_beside ads slots
+
+    left : length (slots_left (Lookup.One test) rows) ≡ left_by ads test.now
+    left = length-judged (is_left (Lookup.One test)) ads slots same
+
+    by : (b : Bool) → nat_lt (length (slots_left (Lookup.One test) rows)) best.left ≡ b → best ≡ cond b (record { lookup = Some (Lookup.One test); left = length (slots_left (Lookup.One test) rows) }) best
+    by true e = let under : length (slots_left (Lookup.One test) rows) < best.left = grind arith in absurd (omega (arith, under, left, high))
+    by false e = refl
+
 -- the best so far leaves no more than two neighbours among the first i tests that are a pair
 abbrev pub IsFewSoFar : List Row → List Test → ℕ → ℕ → Type 0
 IsFewSoFar rows tests i n =

@@ -14,12 +14,12 @@ use Rattle.bilateral_match.specs.Counts.{least_left, least_within, left_by}
 use Rattle.bilateral_match.specs.Rows.{rows_beside}
 use Rattle.bilateral_match.proofs.PlaceLemmas.{length-judged}
 
-within-le : (most : ℕ) (ads : List Advert) (tests : List Test) → least_within most ads tests ≤ most
+pub within-le : (most : ℕ) (ads : List Advert) (tests : List Test) → least_within most ads tests ≤ most
 within-le most ads [] = omega arith
 within-le most ads (t ∷ tests) = omega (arith, within-le (min most (left_by ads t)) ads tests)
 
 -- the least within a smaller number is that number, or the least within a greater one
-within-lower : (m n : ℕ) (ads : List Advert) (tests : List Test) → m ≤ n → least_within m ads tests ≡ min m (least_within n ads tests)
+pub within-lower : (m n : ℕ) (ads : List Advert) (tests : List Test) → m ≤ n → least_within m ads tests ≡ min m (least_within n ads tests)
 within-lower m n ads [] below = omega (arith, below)
 within-lower m n ads (t ∷ tests) below =
     omega (arith, within-lower (min m (left_by ads t)) (min n (left_by ads t)) ads tests (omega (arith, below)), within-le (min n (left_by ads t)) ads tests)

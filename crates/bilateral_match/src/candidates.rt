@@ -1,15 +1,15 @@
 // Which ads a query looks at: those that its narrowest test leaves, or two tests of one attribute together.
 ghost use Rattle.std.specs.Prelude.{◌≡◌, ◌<◌, ◌≤◌, [], List, length, min, slice_get, map, All, IfOk, IfNone, IfSome, IsTrue, MatchOption, Some, Contains};
 ghost use Rattle.std.specs.List.{range_with_len};
+ghost use Rattle.std.specs.Option.{option_map_or};
 ghost use Rattle.std.specs.List.Sorted.{IsPermutation};
 ghost use Rattle.ad_tree.specs.Ad.{ad_frames};
-ghost use Rattle.ad_tree.specs.Frames.{Frame};
-ghost use Rattle.ad_store.specs.Stock.{Stock};
+ghost use Rattle.ad_store.specs.Stock.{Advert, Stock};
 ghost use Rattle.ad_store.specs.Store.{stock_of};
 ghost use Rattle.literal_index.specs.Rows.{Row};
 ghost use Rattle.literal_index.specs.Shown.{IsIndex};
-ghost use Rattle.conjunct_plan.specs.Tests.{labels_of, tests_of};
-ghost use Rattle.bilateral_match.specs.Candidates.{AreAmong, AreCandidates, AreCandidatesAt, AreFewForPairs, better, better_pair, is_paired, slots_left};
+ghost use Rattle.conjunct_plan.specs.Tests.{labels_of};
+ghost use Rattle.bilateral_match.specs.Candidates.{AreAmong, AreCandidates, AreCandidatesAt, AreFewForPairs, AreOfTests, ArePlacesLeft, better, better_pair, is_paired, slots_left};
 ghost use Rattle.bilateral_match.specs.Counts.{least_left, least_within};
 ghost use Rattle.bilateral_match.specs.KnownTests.{AreTestsKnown};
 ghost use Rattle.bilateral_match.specs.Rows.{rows_of};
@@ -57,13 +57,12 @@ pub fn candidates_at(
     ensures held { IfOk result (All (λ place. place < length (stock_of store.now).slots)) }
 {
     let count = store.len();
-    store.slots_are_apart();
     let tests = plan(alloc, &request.ad, frame, &request.ports)?;
-    let Some(lookup) = narrowest(store, index, &tests, &KnownTests::new(alloc), count) else {
+    let known = KnownTests::new(alloc);
+    let Some(lookup) = narrowest(store, index, &tests, &known, count) else {
         return Ok(all_places(alloc, count)?);
     };
-    let slots = lookup.hits(index)?;
-    Ok(places_of(alloc, store, &slots)?)
+    Ok(lookup.places(alloc, store, index)?)
 }
 
 /// The same for a request without ports, found with what is known of tests: a test that is known to leave as many ads as
@@ -99,29 +98,40 @@ fn places_knowing(
     requires index { IsIndex index.now (rows_of (stock_of store.now)) }
     requires known { AreTestsKnown (stock_of store.now).ads known.old }
     ensures known { AreTestsKnown (stock_of store.now).ads known.new }
-    ensures places { IfOk result (λ places. (request : List Frame) → tests.now ≡ tests_of request 0 [] → AreCandidates request (stock_of store.now).ads places) }
-    ensures few { IfOk result (λ places. length places ≤ least_left (stock_of store.now).ads tests.now) }
-    ensures held { IfOk result (All (λ place. place < length (stock_of store.now).slots)) }
+    ensures places { IfOk result (AreOfTests (stock_of store.now).ads tests.now) }
 {
     let count = store.len();
-    store.slots_are_apart();
     let listed = known.fewest(tests, count);
-    let most = match listed {
+    let Some(lookup) = narrowest(store, index, tests, known, many(listed, count)) else {
+        return Ok(listed_or_all(alloc, listed, count)?);
+    };
+    let places = lookup.places(alloc, store, index)?;
+    lookup.list(alloc, known, &places)?;
+    Ok(places)
+}
+
+// How many places are listed; all where none are.
+fn many(listed: Option<&Slots>, count: usize) -> usize
+    ensures { result ≡ option_map_or (λ places. length places.now) listed.entry count }
+{
+    match listed {
         Some(places) => places.len(),
         None => count,
-    };
-    let Some(lookup) = narrowest(store, index, tests, known, most) else {
-        return match listed {
-            Some(places) => copy_of_places(alloc, places),
-            None => all_places(alloc, count),
-        };
-    };
-    let slots = lookup.hits(index)?;
-    let places = places_of(alloc, store, &slots)?;
-    if let Lookup::One(test) = lookup {
-        known.list(alloc, test, &places)?;
     }
-    Ok(places)
+}
+
+// The places that are listed; all where none are.
+fn listed_or_all(
+    alloc: Global,
+    listed: Option<&Slots>,
+    count: usize,
+) -> Result<Slots, OutOfMemory>
+    ensures { IfOk result (λ places. places ≡ option_map_or (λ places. places.now) listed.entry (range_with_len 0 count)) }
+{
+    match listed {
+        Some(places) => copy_of_places(alloc, places),
+        None => all_places(alloc, count),
+    }
 }
 
 // What the index is asked for: the ads that one test leaves, or that both tests of a pair leave.
@@ -140,6 +150,29 @@ impl Lookup<'_> {
         match self {
             Lookup::One(test) => index.hits(test),
             Lookup::Both(first, second) => index.hits_of_both(first, second),
+        }
+    }
+
+    // The places of the ads that are left.
+    fn places(self, alloc: Global, store: &Store, index: &Index) -> Result<Slots, OutOfMemory>
+        requires paired { IsTrue (is_paired self) }
+        requires index { IsIndex index.now (rows_of (stock_of store.now)) }
+        ensures { IfOk result (ArePlacesLeft (stock_of store.now).ads self.entry) }
+    {
+        // The length comes with the fact that each ad has a slot.
+        let _len = store.len();
+        store.slots_are_apart();
+        let slots = self.hits(index)?;
+        Ok(places_of(alloc, store, &slots)?)
+    }
+
+    // Remembers the places of the ads that are left, where they are those that one test leaves.
+    fn list(self, alloc: Global, known: &mut KnownTests, places: &Slots) -> Result<(), OutOfMemory>
+        ensures { (ads : List Advert) → AreTestsKnown ads known.old → ArePlacesLeft ads self.entry places.now → AreTestsKnown ads known.new }
+    {
+        match self {
+            Lookup::One(test) => known.list(alloc, test, places),
+            Lookup::Both(..) => Ok(()),
         }
     }
 

@@ -81,6 +81,8 @@ pub(crate) fn candidates_knowing(
     ensures places { IfOk result (AreCandidates (ad_frames request.now.ad) (stock_of store.now).ads) }
     ensures held { IfOk result (All (λ place. place < length (stock_of store.now).slots)) }
 {
+    // The length comes with the fact that each ad has a slot.
+    let _len = store.len();
     let tests = plan(alloc, &request.ad, 0, &request.ports)?;
     let places = places_knowing(alloc, store, index, &tests, known)?;
     known.note_least(&tests, places.len())?;
@@ -159,7 +161,6 @@ impl Lookup<'_> {
         requires index { IsIndex index.now (rows_of (stock_of store.now)) }
         ensures { IfOk result (ArePlacesLeft (stock_of store.now).ads self.entry) }
     {
-        // The length comes with the fact that each ad has a slot.
         let _len = store.len();
         store.slots_are_apart();
         let slots = self.hits(index)?;

@@ -1,4 +1,3 @@
-use Rattle.std.proofs.Common.{refl}
 use Rattle.bilateral_match.proofs.NarrowLemmas.{not-better}
 use Rattle.bilateral_match.proofs.candidates.Best.or_test.Goals as goal
 

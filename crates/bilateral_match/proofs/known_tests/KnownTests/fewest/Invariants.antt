@@ -1,4 +1,4 @@
-use Rattle.std.proofs.Common.{◌≤◌, ◌<◌, ◌≡◌, List, IfSome, IfNone, length}
+use Rattle.std.proofs.Common.{◌≤◌, ◌<◌, ◌≡◌, List, IfSome, length}
 use Rattle.ad_store.specs.Stock.{Advert}
 use Rattle.bilateral_match.specs.KnownTests.{ArePlacesOfOne, AreTestsKnown}
 use Rattle.bilateral_match.proofs.known_tests.KnownTests.fewest.Given as goal

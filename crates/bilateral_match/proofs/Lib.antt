@@ -6,6 +6,8 @@ pub mod DockingLemmas
 mod DifferLemmas
 mod FindLemmas
 mod KnownLemmas
+mod KnownPlaceLemmas
+mod KnownTestsLemmas
 mod LoopLemmas
 mod MemberLemmas
 mod MemberScanLemmas

@@ -14,12 +14,12 @@ use Rattle.bilateral_match.specs.Counts.{least_left, least_within, left_by}
 use Rattle.bilateral_match.specs.Rows.{rows_beside}
 use Rattle.bilateral_match.proofs.PlaceLemmas.{length-judged}
 
-within-le : (most : ℕ) (ads : List Advert) (tests : List Test) → least_within most ads tests ≤ most
+pub within-le : (most : ℕ) (ads : List Advert) (tests : List Test) → least_within most ads tests ≤ most
 within-le most ads [] = omega arith
 within-le most ads (t ∷ tests) = omega (arith, within-le (min most (left_by ads t)) ads tests)
 
 -- the least within a smaller number is that number, or the least within a greater one
-within-lower : (m n : ℕ) (ads : List Advert) (tests : List Test) → m ≤ n → least_within m ads tests ≡ min m (least_within n ads tests)
+pub within-lower : (m n : ℕ) (ads : List Advert) (tests : List Test) → m ≤ n → least_within m ads tests ≡ min m (least_within n ads tests)
 within-lower m n ads [] below = omega (arith, below)
 within-lower m n ads (t ∷ tests) below =
     omega (arith, within-lower (min m (left_by ads t)) (min n (left_by ads t)) ads tests (omega (arith, below)), within-le (min n (left_by ads t)) ads tests)
@@ -65,6 +65,21 @@ module _ (most : ℕ) (rows : List Row) (tests : List Test) where
           × (IsTrue (is_pair before.now test.now) → (cond b (better rows best (Lookup.Both before test)) best).left ≤ length (passing_both before.now test.now rows))
       by true e = let it = better-best best (Lookup.Both before test) so_far (behind, here) e in (it.0, it.1, λ _. it.2)
       by false e = (so_far, omega arith, λ pair. absurd (true≢false (sym pair ∙ e)))
+
+-- a test that leaves as many ads as the best so far isn't better
+pub not-better : (ads : List Advert) (slots : List ℕ) (best : Best) (test : Bor Test) → length ads ≡ length slots → best.left ≤ left_by ads test.now
+    → best ≡ better (rows_beside ads slots) best (Lookup.One test)
+not-better ads slots best test same high = by (nat_lt (length (slots_left (Lookup.One test) rows)) best.left) refl
+  where
+    rows : List Row
+    rows = rows_beside ads slots
+
+    left : length (slots_left (Lookup.One test) rows) ≡ left_by ads test.now
+    left = length-judged (is_left (Lookup.One test)) ads slots same
+
+    by : (b : Bool) → nat_lt (length (slots_left (Lookup.One test) rows)) best.left ≡ b → best ≡ cond b (record { lookup = Some (Lookup.One test); left = length (slots_left (Lookup.One test) rows) }) best
+    by true e = let under : length (slots_left (Lookup.One test) rows) < best.left = grind arith in absurd (omega (arith, under, left, high))
+    by false e = refl
 
 -- the best so far leaves no more than two neighbours among the first i tests that are a pair
 abbrev pub IsFewSoFar : List Row → List Test → ℕ → ℕ → Type 0

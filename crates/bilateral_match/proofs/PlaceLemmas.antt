@@ -10,12 +10,13 @@ use Rattle.std.proofs.lemmas.Option.{get_or_from_slice_get, slice_get_within}
 use Rattle.ad_tree.specs.Frames.{Frame}
 use Rattle.ad_store.specs.Stock.{Advert}
 use Rattle.conjunct_plan.specs.declared.test.Test.{Test}
-use Rattle.conjunct_plan.specs.Decided.{is_decided, is_dock_decided, rules_out}
+use Rattle.conjunct_plan.specs.Decided.{is_decided, rules_out}
 use Rattle.conjunct_plan.specs.Tests.{tests_of}
 use Rattle.literal_index.specs.Rows.{Row, row_of}
 use Rattle.bilateral_match.specs.declared.candidates.Lookup.{Lookup}
-use Rattle.bilateral_match.specs.Candidates.{AreAmong, AreCandidatesAt, is_left, places_where, slots_left}
+use Rattle.bilateral_match.specs.Candidates.{AreAmong, AreCandidatesAt, AreOfTests, ArePlacesLeft, is_left, places_where, slots_left}
 use Rattle.bilateral_match.specs.Counts.{least_left}
+use Rattle.bilateral_match.specs.KnownTests.{ArePlacesOfOne}
 use Rattle.bilateral_match.specs.Rows.{rows_beside}
 
 -- ---- places
@@ -139,23 +140,22 @@ any-at p (t ∷ tests) (suc k) test within is passed = by (p t) (any-at p tests 
     by true e = refl
     by false e = e
 
--- an ad that a test of the request doesn't leave has a decided dock
-not-left : (request : List Frame) (frame : ℕ) (labels : List (List ℕ)) (test : Test) → Contains (tests_of request frame labels) test → (advert : Advert) → not (is_decided test advert.ad 0) ≡ false → not (is_dock_decided request frame labels advert.ad) ≡ false
-not-left request frame labels test one advert e =
-    ap (λ (b : Bool). not (b || rules_out advert.ad 0 [] request frame)) (any-at (λ t. is_decided t advert.ad 0) (tests_of request frame labels) one.0 test one.1 one.2 (not-false (is_decided test advert.ad 0) e))
+-- against an ad that a test doesn't leave one of the tests decides
+test-decides : (tests : List Test) (test : Test) → Contains tests test → (advert : Advert) → not (is_decided test advert.ad 0) ≡ false → list_any (λ t. is_decided t advert.ad 0) tests ≡ true
+test-decides tests test one advert e = any-at (λ t. is_decided t advert.ad 0) tests one.0 test one.1 one.2 (not-false (is_decided test advert.ad 0) e)
   where
     not-false : (b : Bool) → not b ≡ false → b ≡ true
     not-false true e = refl
     not-false false e = absurd (cc)
 
--- nor one that a look-up doesn't leave
-none-left : (request : List Frame) (frame : ℕ) (labels : List (List ℕ)) (lookup : Lookup) → AreAmong (tests_of request frame labels) lookup → (advert : Advert) → is_left lookup advert.ad ≡ false → not (is_dock_decided request frame labels advert.ad) ≡ false
-none-left request frame labels (Lookup.One test) among advert e = not-left request frame labels test.now among advert e
-none-left request frame labels (Lookup.Both first second) among advert e = by (not (is_decided first.now advert.ad 0)) refl
+-- and against one that a look-up doesn't leave
+lookup-decides : (tests : List Test) (lookup : Lookup) → AreAmong tests lookup → (advert : Advert) → is_left lookup advert.ad ≡ false → list_any (λ t. is_decided t advert.ad 0) tests ≡ true
+lookup-decides tests (Lookup.One test) among advert e = test-decides tests test.now among advert e
+lookup-decides tests (Lookup.Both first second) among advert e = by (not (is_decided first.now advert.ad 0)) refl
   where
-    by : (b : Bool) → not (is_decided first.now advert.ad 0) ≡ b → not (is_dock_decided request frame labels advert.ad) ≡ false
-    by true h = not-left request frame labels second.now among.1 advert (sym (ap (λ (b : Bool). b && not (is_decided second.now advert.ad 0)) h) ∙ e)
-    by false h = not-left request frame labels first.now among.0 advert h
+    by : (b : Bool) → not (is_decided first.now advert.ad 0) ≡ b → list_any (λ t. is_decided t advert.ad 0) tests ≡ true
+    by true h = test-decides tests second.now among.1 advert (sym (ap (λ (b : Bool). b && not (is_decided second.now advert.ad 0)) h) ∙ e)
+    by false h = test-decides tests first.now among.0 advert h
 
 -- one more number
 pub range-next : (a n : ℕ) → range_with_len a (suc n) ≡ range_with_len a n ++ (a + n) ∷ []
@@ -164,23 +164,27 @@ range-next a (suc n) =
     let same : (a + 1) + n ≡ a + suc n = omega arith in
     ap (λ (l : List ℕ). a ∷ l) (range-next (a + 1) n ∙ ap (λ (k : ℕ). range_with_len (a + 1) n ++ k ∷ []) same)
 
-module _ (request : List Frame) (frame : ℕ) (labels : List (List ℕ)) (ads : List Advert) (all : List ℕ) (same : length ads ≡ length all) where
-  -- the places of the slots that a look-up leaves
-  pub left-candidates : (lookup : Lookup) (slots places : List ℕ) → AreApart all → AreAmong (tests_of request frame labels) lookup
-      → length (slots_left lookup (rows_beside ads all)) ≤ least_left ads (tests_of request frame labels)
-      → IsPermutation (slots_left lookup (rows_beside ads all)) slots → map (slice_get all) places ≡ map Some slots → AreCandidatesAt request frame labels ads places
-  left-candidates lookup slots places apart among least moved spelled =
+-- the places of the slots that a look-up leaves
+pub left-places : (ads : List Advert) (all : List ℕ) → length ads ≡ length all → AreApart all → (lookup : Lookup) (slots places : List ℕ)
+    → IsPermutation (slots_left lookup (rows_beside ads all)) slots → map (slice_get all) places ≡ map Some slots → ArePlacesLeft ads lookup places
+left-places ads all same apart lookup slots places moved spelled =
+    let passes : Advert → Bool = λ advert. is_left lookup advert.ad in
+    let left : List ℕ = slots_left lookup (rows_beside ads all) in
+    let are : places ≡ map (place_in all) slots = places-are all apart places slots spelled in
+    let where_left : map (place_in all) left ≡ places_where passes 0 ads = rows-places (is_left lookup) all 0 ads all same (λ i slot is. place_in-is all apart i slot is ∙ sym (zero-add i)) in
+    let step : IsPermutation (map (place_in all) left) (map (place_in all) slots) = IsPermutation-map (place_in all) left slots moved in
+    subst (λ (xs : List ℕ). IsPermutation xs places) where_left (subst (λ (ys : List ℕ). IsPermutation (map (place_in all) left) ys) (sym are) step)
+
+module _ (ads : List Advert) (tests : List Test) where
+  pub of-lookup : (all : List ℕ) (lookup : Lookup) (places : List ℕ) → length ads ≡ length all → AreAmong tests lookup → length (slots_left lookup (rows_beside ads all)) ≤ least_left ads tests
+      → ArePlacesLeft ads lookup places → AreOfTests ads tests places
+  of-lookup all lookup places same among least are =
       let passes : Advert → Bool = λ advert. is_left lookup advert.ad in
-      let left : List ℕ = slots_left lookup (rows_beside ads all) in
-      let are : places ≡ map (place_in all) slots = places-are all apart places slots spelled in
-      let where_left : map (place_in all) left ≡ places_where passes 0 ads = rows-places (is_left lookup) all 0 ads all same (λ i slot is. place_in-is all apart i slot is ∙ sym (zero-add i)) in
-      let step : IsPermutation (map (place_in all) left) (map (place_in all) slots) = IsPermutation-map (place_in all) left slots moved in
-      let permuted : IsPermutation (places_where passes 0 ads) places = subst (λ (xs : List ℕ). IsPermutation xs places) where_left (subst (λ (ys : List ℕ). IsPermutation (map (place_in all) left) ys) (sym are) step) in
       record {
         passes = passes;
-        all = permuted;
-        others = λ advert e. none-left request frame labels lookup among advert e;
-        few = omega (arith, length_permutation (places_where passes 0 ads) places permuted, length-places passes 0 ads, length-judged (is_left lookup) ads all same, least);
+        all = are;
+        others = λ advert e. lookup-decides tests lookup among advert e;
+        few = omega (arith, length_permutation (places_where passes 0 ads) places are, length-places passes 0 ads, length-judged (is_left lookup) ads all same, least);
       }
 
   -- all places
@@ -192,12 +196,34 @@ module _ (request : List Frame) (frame : ℕ) (labels : List (List ℕ)) (ads : 
   length-all k [] = refl
   length-all k (a ∷ ads) = ap suc (length-all (suc k) ads)
 
-  pub all-candidates : (places : List ℕ) → length ads ≡ least_left ads (tests_of request frame labels) → places ≡ range_with_len 0 (length all) → AreCandidatesAt request frame labels ads places
-  all-candidates places least are =
-      let whole : places_where (λ a. true) 0 ads ≡ places = all-places 0 ads ∙ ap (range_with_len 0) same ∙ sym are in
+  pub of-all : (places : List ℕ) → length ads ≤ least_left ads tests → places ≡ range_with_len 0 (length ads) → AreOfTests ads tests places
+  of-all places least are =
+      let whole : places_where (λ a. true) 0 ads ≡ places = all-places 0 ads ∙ sym are in
       record {
         passes = λ a. true;
         all = subst (λ (xs : List ℕ). IsPermutation (places_where (λ a. true) 0 ads) xs) whole (IsPermutation-refl (places_where (λ a. true) 0 ads));
         others = λ advert e. absurd (cc e);
         few = omega (arith, ap length whole, length-all 0 ads, least);
       }
+
+  -- the places that one of the tests leaves
+  pub of-one : (places : List ℕ) → ArePlacesOfOne ads tests places → length places ≤ least_left ads tests → AreOfTests ads tests places
+  of-one places one least =
+      record {
+        passes = λ advert. not (is_decided one.test advert.ad 0);
+        all = one.are;
+        others = λ advert e. test-decides tests one.test one.among advert e;
+        few = least;
+      }
+
+-- those of a request's tests are its candidates
+pub request-candidates : (request : List Frame) (frame : ℕ) (labels : List (List ℕ)) (ads : List Advert) (tests : List Test) (places : List ℕ) → tests ≡ tests_of request frame labels
+    → AreOfTests ads tests places → AreCandidatesAt request frame labels ads places
+request-candidates request frame labels ads tests places is found =
+    let some : AreOfTests ads (tests_of request frame labels) places = subst (λ (ts : List Test). AreOfTests ads ts places) is found in
+    record {
+      passes = some.passes;
+      all = some.all;
+      others = λ advert e. ap (λ (b : Bool). not (b || rules_out advert.ad 0 [] request frame)) (some.others advert e);
+      few = some.few;
+    }

@@ -1,6 +1,7 @@
 -- Which ads a query looks at.
 use Rattle.std.specs.Prelude.{ℕ, ◌≡◌, ◌≤◌, ◌+◌, Bool, true, false, not, ◌&&◌, suc, List, [], ◌∷◌, length, map, filter, nat_lt, Option, None, Some, if◌then◌else◌, slice_get, Contains, IsTrue}
 use Rattle.std.specs.Borrow.{Bor}
+use Rattle.std.specs.List.{list_any}
 use Rattle.std.specs.List.Sorted.{IsPermutation}
 use Rattle.ad_tree.specs.Frames.{Frame}
 use Rattle.ad_store.specs.Stock.{Advert}
@@ -29,12 +30,23 @@ pub record AreCandidatesAt (request : List Frame) (frame : ℕ) (labels : List (
 abbrev pub AreCandidates : List Frame → List Advert → List ℕ → Type 0
 AreCandidates request ads places = AreCandidatesAt request 0 [] ads places
 
+-- the same for tests by themselves: all ads against which none of them decides are among these
+pub record AreOfTests (ads : List Advert) (tests : List Test) (places : List ℕ) : Type 0 where
+  pub passes : Advert → Bool
+  pub all : IsPermutation (places_where passes 0 ads) places
+  pub others : (advert : Advert) → passes advert ≡ false → list_any (λ test. is_decided test advert.ad 0) tests ≡ true
+  pub few : length places ≤ least_left ads tests
+
 -- ---- what the index is asked for
 
 -- the ad's root decides against no test of a look-up
 abbrev pub is_left : Lookup → List Frame → Bool
 is_left (Lookup.One test) ad = not (is_decided test.now ad 0)
 is_left (Lookup.Both first second) ad = not (is_decided first.now ad 0) && not (is_decided second.now ad 0)
+
+-- these are the places of such ads, in any order
+abbrev pub ArePlacesLeft : List Advert → Lookup → List ℕ → Type 0
+ArePlacesLeft ads lookup places = IsPermutation (places_where (λ advert. is_left lookup advert.ad) 0 ads) places
 
 -- the slots of such ads
 abbrev pub slots_left : Lookup → List Row → List ℕ

@@ -10,6 +10,7 @@ use Rattle.ad_store.specs.Stock.{Advert}
 use Rattle.conjunct_plan.specs.Decided.{counted}
 use Rattle.bilateral_match.specs.declared.known.Known.{Known}
 use Rattle.bilateral_match.specs.Docks.{rank_of_dock}
+use Rattle.bilateral_match.specs.KnownTests.{AreTestsKnown}
 use Rattle.bilateral_match.specs.Scan.{reaches}
 
 -- the expression of a request's rank, if it has one
@@ -48,9 +49,10 @@ AreRanks moment ads expr ranks =
     (place : ℕ) (rank : ℤ) (advert : Advert) → slice_get ranks place ≡ Some (Some rank) → slice_get ads place ≡ Some advert
     → (request : List Frame) → rank_expr request ≡ expr → rank_of_dock moment request advert.ad ≡ rank
 
--- all ranks that are kept are those by their expression
-abbrev pub AreKnown : ℕ → List Advert → Known → Type 0
-AreKnown moment ads known = All (λ kept. AreRanks moment ads (rank_expr (ad_frames kept.ad)) kept.ranking.ranks.items) known.kept.items
+-- all ranks that are kept are those by their expression, and what is known of tests is so
+pub record AreKnown (moment : ℕ) (ads : List Advert) (known : Known) : Type 0 where
+  pub ranks : All (λ kept. AreRanks moment ads (rank_expr (ad_frames kept.ad)) kept.ranking.ranks.items) known.kept.items
+  pub tests : AreTestsKnown ads known.tests
 
 -- the rank at a place, if it is known
 abbrev pub known_at : List (Option ℤ) → ℕ → Option ℤ

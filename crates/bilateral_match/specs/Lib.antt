@@ -4,6 +4,7 @@ pub mod Candidates
 pub mod Counts
 pub mod Docks
 pub mod Known
+pub mod KnownTests
 pub mod Members
 pub mod Pool
 pub mod Rows

@@ -93,7 +93,8 @@ fn same_all(a: &Exprs, b: &Exprs) -> bool
     true
 }
 
-fn same_literal(a: &Lit, b: &Lit) -> bool
+/// Whether two literals are the same.
+pub(crate) fn same_literal(a: &Lit, b: &Lit) -> bool
     ensures { IsTrue result ↔ (a.now ≡ b.now) }
 {
     match (a, b) {

@@ -15,7 +15,7 @@ ghost use Rattle.bilateral_match.specs.Rows.{rows_of};
 ghost use Rattle.bilateral_match.specs.Scan as scan;
 ghost use Rattle.bilateral_match.specs.Small.{AreSmallAds, AreSmallHolders};
 
-use crate::candidates::candidates;
+use crate::candidates::candidates_knowing;
 use crate::known::{Known, Ranking};
 use crate::member::Member;
 use crate::members::{member_at, reaches};
@@ -105,7 +105,7 @@ pub fn best_knowing<H: Holdings, F: Ledger, E: Ledger, T: Ledger>(
     ensures looks { touch.new ≤ touch.old
         + 9 * least_left (stock_of store.now).ads (tests_of (ad_frames request.now.ad) 0 []) }
 {
-    let places = candidates(alloc, store, index, request)?;
+    let places = candidates_knowing(alloc, store, index, request, &mut known.tests)?;
     let mut ranking = known.take(alloc, store.len(), request)?;
     let first = first_at(
         alloc,

@@ -7,6 +7,7 @@ ghost use Rattle.bilateral_match.specs.Docks.{rank_of_dock};
 ghost use Rattle.bilateral_match.specs.Known.{AreKnown, AreRanks, known_at, rank_expr};
 
 use crate::alike::same_expr;
+use crate::known_tests::KnownTests;
 use crate::settled::is_rank_settled;
 use ad_tree::{Ad, Request};
 use pool_text::OutOfMemory;
@@ -33,6 +34,7 @@ pub struct Kept {
 #[derive(Drop)]
 pub struct Known {
     kept: Vec<Kept>,
+    pub(crate) tests: KnownTests,
 }
 
 impl Ranking {
@@ -90,6 +92,7 @@ impl Known {
     {
         Known {
             kept: Vec::new(alloc),
+            tests: KnownTests::new(alloc),
         }
     }
 

@@ -7,6 +7,7 @@ mod choosing;
 mod docking;
 mod hit;
 mod known;
+mod known_tests;
 mod laws;
 mod member;
 mod members;
@@ -22,6 +23,7 @@ pub use choosing::{best, best_knowing};
 pub use docking::pair;
 pub use hit::{Hit, Hits, Match};
 pub use known::{Kept, Known, Ranking};
+pub use known_tests::{Counted, KnownTests, Listed};
 pub use laws::{
     a_conjunct_has_the_value_of_its_test, a_conjunction_is_true_only_where_its_conjuncts_are,
     a_decided_dock_is_never_true, a_dock_whose_tests_are_all_met_is_true,

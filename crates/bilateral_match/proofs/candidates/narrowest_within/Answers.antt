@@ -14,8 +14,8 @@ loop-test-preserved c =
     let tests = c.as_slice-test-items.result.now in
     let i = c.loop-test.test-index in
     let same : length stock.ads ≡ length stock.slots = sym c.len-len.ensures.ads ∙ c.len-len.ensures.slots in
-    let it = next-best c.args.most stock.ads stock.slots same tests i c.loop-test-test.true _ c.test-item.is c.loop-test.best c.or.result c.or_pair-best.result c.loop-test.before
-    c.loop-test.invariant.best c.loop-test.invariant.few c.loop-test.invariant.among c.loop-test.invariant.pairs c.loop-test.invariant.before (c.or.ensures rows c.requires) (c.or_pair-best.ensures rows c.requires) in
+    let it = next-best c.args.most stock.ads stock.slots same tests i c.loop-test-test.true _ c.test-item.is c.loop-test.best c.or_test.result c.or_pair-best.result c.loop-test.before
+    c.loop-test.invariant.best c.loop-test.invariant.few c.loop-test.invariant.among c.loop-test.invariant.pairs c.loop-test.invariant.before (c.or_test.ensures stock same c.requires.index c.requires.known) (c.or_pair-best.ensures rows c.requires.index) in
     record {
       best = it.0;
       few = it.1;

@@ -123,11 +123,7 @@ fn many(listed: Option<&Slots>, count: usize) -> usize
 }
 
 // The places that are listed; all where none are.
-fn listed_or_all(
-    alloc: Global,
-    listed: Option<&Slots>,
-    count: usize,
-) -> Result<Slots, OutOfMemory>
+fn listed_or_all(alloc: Global, listed: Option<&Slots>, count: usize) -> Result<Slots, OutOfMemory>
     ensures { IfOk result (λ places. places ≡ option_map_or (λ places. places.now) listed.entry (range_with_len 0 count)) }
 {
     match listed {

@@ -88,12 +88,12 @@ impl KnownTests {
         None
     }
 
-    /// Notes of tests that each leaves so many ads at least, where nothing is noted of it yet.
+    /// Notes of tests that each leaves so many ads at least, where no more is known of it.
     pub(crate) fn note_least(&mut self, tests: &Tests, least: usize) -> Result<(), OutOfMemory>
         ensures { (ads : List Advert) → AreTestsKnown ads self.old → All (λ test. least ≤ left_by ads test) tests.now → AreTestsKnown ads self.new }
     {
         for test in tests.as_slice() {
-            if !self.leaves(test, 0) {
+            if !self.leaves(test, least) {
                 self.note(test, least)?;
             }
         }

@@ -46,7 +46,7 @@ returns-clause-looks g c = omega (arith, c.first_at.ensures.looks, c.in_ok-place
 pub returns-in_err-keep-clause-known : goal.returns-in_err-keep-clause-known
 returns-in_err-keep-clause-known g c =
     let ads = (stock_of c.args.store.now).ads in
-    c.keep.ensures c.args.moment ads (c.take.ensures.kept c.args.moment ads c.requires.known) c.first_at.ensures.ranks
+    c.keep.ensures c.args.moment ads (c.take.ensures.kept c.args.moment ads (record { ranks = c.requires.known.ranks; tests = c.candidates_knowing.ensures.known })) c.first_at.ensures.ranks
 
 pub returns-in_err-keep-clause-evaluations : goal.returns-in_err-keep-clause-evaluations
 returns-in_err-keep-clause-evaluations g c =
@@ -62,4 +62,12 @@ returns-in_err-keep-clause-looks g c = omega (arith, c.first_at.ensures.looks, c
 pub returns-clause-known : goal.returns-clause-known
 returns-clause-known g c =
     let ads = (stock_of c.args.store.now).ads in
-    c.keep.ensures c.args.moment ads (c.take.ensures.kept c.args.moment ads c.requires.known) c.first_at.ensures.ranks
+    c.keep.ensures c.args.moment ads (c.take.ensures.kept c.args.moment ads (record { ranks = c.requires.known.ranks; tests = c.candidates_knowing.ensures.known })) c.first_at.ensures.ranks
+
+pub returns-in_err-ranking-clause-known : goal.returns-in_err-ranking-clause-known
+returns-in_err-ranking-clause-known g c =
+    c.take.ensures.kept c.args.moment (stock_of c.args.store.now).ads (record { ranks = c.requires.known.ranks; tests = c.candidates_knowing.ensures.known })
+
+pub returns-in_err-first-clause-known : goal.returns-in_err-first-clause-known
+returns-in_err-first-clause-known g c =
+    c.take.ensures.kept c.args.moment (stock_of c.args.store.now).ads (record { ranks = c.requires.known.ranks; tests = c.candidates_knowing.ensures.known })

@@ -19,7 +19,7 @@ loop-test-preserved c =
     λ ads are low.
     let so_far : AreTestsKnown ads c.loop-test.self = c.loop-test.invariant ads are low in
     elim c.if-not-leaves.branch [
-      then-not-leaves+in_ok-note w ↦
+      | then-not-leaves+in_ok-note w ↦
           subst (λ (known : KnownTests). AreTestsKnown ads known) (sym w.self-is)
           (w.note.ensures ads so_far
           (All-at (λ (test : Test). c.args.least ≤ left_by ads test) c.args.tests.now c.as_slice-test-items.result.now c.loop-test.test-index c.test-item.result low c.as_slice-test-items.ensures c.loop-test-test.true c.test-item.is))

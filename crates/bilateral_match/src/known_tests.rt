@@ -1,5 +1,5 @@
 // What is remembered of tests, since jobs often have the same ones.
-ghost use Rattle.std.specs.Prelude.{◌≡◌, ◌≤◌, ◌<◌, List, [], All, IfOk, IfSome, IsTrue, length};
+ghost use Rattle.std.specs.Prelude.{◌≡◌, ◌≤◌, ◌<◌, List, [], Some, All, IfOk, IfSome, IsTrue, length, slice_get};
 ghost use Rattle.ad_store.specs.Stock.{Advert};
 ghost use Rattle.bilateral_match.specs.Counts.{left_by};
 ghost use Rattle.bilateral_match.specs.KnownTests.{ArePlaces, ArePlacesOfOne, AreTestsKnown, with_room};
@@ -88,7 +88,7 @@ impl KnownTests {
         None
     }
 
-    /// Notes of tests that each leaves so many ads at least, where no more is known of it.
+    /// Notes of tests that each leaves so many ads at least.
     pub(crate) fn note_least(&mut self, tests: &Tests, least: usize) -> Result<(), OutOfMemory>
         ensures { (ads : List Advert) → AreTestsKnown ads self.old → All (λ test. least ≤ left_by ads test) tests.now → AreTestsKnown ads self.new }
     {
@@ -100,14 +100,31 @@ impl KnownTests {
         Ok(())
     }
 
-    // Notes that a test leaves so many ads at least.
+    // Notes that a test leaves so many ads at least, in place of what was noted of it.
     fn note(&mut self, test: &Test, least: usize) -> Result<(), OutOfMemory>
         ensures { (ads : List Advert) → AreTestsKnown ads self.old → least ≤ left_by ads test.now → AreTestsKnown ads self.new }
     {
+        if let Some(k) = self.place_counted(test) {
+            self.counted[k].least = least;
+            return Ok(());
+        }
         let test = copy_of_test(test)?;
         make_room(&mut self.counted);
         self.counted.push(Counted { test, least })?;
         Ok(())
+    }
+
+    // Where it is noted how many ads a test leaves.
+    fn place_counted(&self, test: &Test) -> Option<usize>
+        ensures within { IfSome result (λ k. k < length self.now.counted.items) }
+        ensures same { IfSome result (λ k. (counted : Counted) → slice_get self.now.counted.items k ≡ Some counted → counted.test ≡ test.now) }
+    {
+        for k in 0..self.counted.len() {
+            if same_test(&self.counted[k].test, test) {
+                return Some(k);
+            }
+        }
+        None
     }
 
     /// Lists the places of the ads that a test leaves.

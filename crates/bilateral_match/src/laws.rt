@@ -16,7 +16,8 @@ ghost use Rattle.bilateral_match.specs.declared.member.Member.{Member};
 ghost use Rattle.bilateral_match.specs.Alike.{AreAlike};
 ghost use Rattle.bilateral_match.specs.Answers.{AreAnswers, answers};
 ghost use Rattle.bilateral_match.specs.Counts.{entered_for, open_count};
-ghost use Rattle.bilateral_match.specs.Docks.{is_last_decided, last_ad, last_open};
+ghost use Rattle.bilateral_match.specs.Docks.{is_last_decided, last_ad, last_open, rank_of_dock};
+ghost use Rattle.bilateral_match.specs.Known.{is_rank_settled, rank_expr};
 ghost use Rattle.bilateral_match.specs.Members.{IsBest, best, best_slot, members};
 ghost use Rattle.bilateral_match.specs.Pool.{Pool};
 
@@ -98,4 +99,11 @@ pub fn more_offers_leave_no_more_members(request: &Ad)
 pub fn ads_that_are_alike_have_the_same_best(a: &Ad, b: &Ad)
     ensures { (stock : Stock) (pool : Pool) → AreAlike (ad_frames a.now) (ad_frames b.now)
         → best_slot stock pool (ad_frames a.now) ≡ best_slot stock pool (ad_frames b.now) }
+{}
+
+/// An ad that settles a rank expression is given the same rank by all requests that have it: so that is evaluated once.
+pub fn a_settled_rank_is_the_same_for_all_requests(a: &Ad, b: &Ad, ad: &Ad)
+    ensures { (moment : ℕ) → rank_expr (ad_frames a.now) ≡ rank_expr (ad_frames b.now)
+        → is_rank_settled (ad_frames ad.now) (rank_expr (ad_frames b.now)) ≡ true
+        → rank_of_dock moment (ad_frames a.now) (ad_frames ad.now) ≡ rank_of_dock moment (ad_frames b.now) (ad_frames ad.now) }
 {}

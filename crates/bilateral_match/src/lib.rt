@@ -27,8 +27,9 @@ pub use known_tests::{Counted, KnownTests, Listed};
 pub use laws::{
     a_conjunct_has_the_value_of_its_test, a_conjunction_is_true_only_where_its_conjuncts_are,
     a_decided_dock_is_never_true, a_dock_whose_tests_are_all_met_is_true,
-    ads_that_are_alike_have_the_same_best, answers_are_all_matches_in_order,
-    more_offers_leave_no_more_members, no_other_member_comes_before_the_best,
+    a_settled_rank_is_the_same_for_all_requests, ads_that_are_alike_have_the_same_best,
+    answers_are_all_matches_in_order, more_offers_leave_no_more_members,
+    no_other_member_comes_before_the_best,
 };
 pub use member::Member;
 pub use members::{is_live, is_won};

@@ -1,7 +1,7 @@
 // Jobs at their limit of text, and a gang that is offered resources, gives them back, loses them and leaves.
 ghost use Rattle.std.specs.Prelude.{◌≡◌, [], ◌∷◌, IfOk, length};
 ghost use Rattle.claim_table.specs.Table.{jobs_of};
-ghost use Rattle.claim_table.specs.declared.job.Standing.{Standing};
+ghost use Rattle.claim_table.specs.declared.job.Stage.{Stage};
 
 use ad_store::Holdings;
 use ad_tree::{Draft, Port, Ports, Request};
@@ -43,7 +43,7 @@ fn gang(alloc: Global) -> Result<Request, OutOfMemory>
 
 // A table with one job, which is idle.
 fn with_job(alloc: Global, request: Request) -> Result<ClaimTable, SubmitFault>
-    ensures { IfOk result (λ table. jobs_of table ≡ (record { name = 103 ∷ []; user = 117 ∷ []; text_len = 9; request = request; standing = Standing.Idle }) ∷ []) }
+    ensures { IfOk result (λ table. jobs_of table ≡ (record { name = 103 ∷ []; user = 117 ∷ []; text_len = 9; request = request; standing = Stage.Idle }) ∷ []) }
 {
     let mut table = ClaimTable::new(alloc);
     table.submit(b"g", b"u", request, 9)?;

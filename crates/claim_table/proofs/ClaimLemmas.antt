@@ -11,21 +11,21 @@ use Rattle.claim_table.specs.declared.answers.Freed.{Freed}
 use Rattle.claim_table.specs.declared.answers.JobFault.{JobFault}
 use Rattle.claim_table.specs.declared.answers.JobState.{JobState}
 use Rattle.claim_table.specs.declared.job.Job.{Job}
-use Rattle.claim_table.specs.declared.job.Standing.{Standing}
+use Rattle.claim_table.specs.declared.job.Stage.{Stage}
 use Rattle.claim_table.specs.Answers.{freed_at, freed_of, given_back, release_answer}
 use Rattle.claim_table.specs.Claims.{checked, claimed, claimed_at, entered_for, entered_in, first_failing, freed_all, granted, losers, offer_at, offer_named, sum_over, undecided_for}
 use Rattle.claim_table.specs.Jobs.{IsFilled, job_named, numbered, offer_of, slots_of, state_of, wanted, with_standing}
 
 -- what is offered is listed
-pub offer-listed : (P : ℕ → Type 0) (standing : Standing) → All P (slots_of standing) → All P (offer_of standing)
-offer-listed P Standing.Idle all = all
-offer-listed P (Standing.Matched slots) all = all
-offer-listed P (Standing.Claimed slots) all = All-nil P
+pub offer-listed : (P : ℕ → Type 0) (standing : Stage) → All P (slots_of standing) → All P (offer_of standing)
+offer-listed P Stage.Idle all = all
+offer-listed P (Stage.Matched slots) all = all
+offer-listed P (Stage.Claimed slots) all = All-nil P
 
-enough-few : (standing : Standing) (n : ℕ) → (standing ≢ Standing.Idle → length (slots_of standing) ≡ n) → n ≤ 8 → length (offer_of standing) ≤ 8
-enough-few Standing.Idle n enough few = omega arith
-enough-few (Standing.Matched slots) n enough few = let all = enough (λ same. cc) in omega (arith, all, few)
-enough-few (Standing.Claimed slots) n enough few = omega arith
+enough-few : (standing : Stage) (n : ℕ) → (standing ≢ Stage.Idle → length (slots_of standing) ≡ n) → n ≤ 8 → length (offer_of standing) ≤ 8
+enough-few Stage.Idle n enough few = omega arith
+enough-few (Stage.Matched slots) n enough few = let all = enough (λ same. cc) in omega (arith, all, few)
+enough-few (Stage.Claimed slots) n enough few = omega arith
 
 -- no more is offered than a gang has ports
 pub offer-few : (job : Job) → IsFilled job → length (offer_of job.standing) ≤ 8
@@ -52,20 +52,20 @@ module _ (name : List ℕ) (jobs : List Job) where
     pub released-idle : state_of job.standing ≡ JobState.Idle → release_answer name jobs ≡ Err (JobFault.WrongState JobState.Idle)
     released-idle idle = given ∙ by job.standing idle
       where
-        by : (s : Standing) → state_of s ≡ JobState.Idle → given_back s ≡ Err (JobFault.WrongState JobState.Idle)
-        by Standing.Idle is = refl
-        by (Standing.Matched slots) is = absurd (cc)
-        by (Standing.Claimed slots) is = absurd (cc)
+        by : (s : Stage) → state_of s ≡ JobState.Idle → given_back s ≡ Err (JobFault.WrongState JobState.Idle)
+        by Stage.Idle is = refl
+        by (Stage.Matched slots) is = absurd (cc)
+        by (Stage.Claimed slots) is = absurd (cc)
 
     pub released-held : (slots : List ℕ) → state_of job.standing ≢ JobState.Idle → option_map (λ (j : Job). slots_of j.standing) (slice_get jobs i) ≡ Some slots → Ok slots ≡ release_answer name jobs
     released-held slots busy listed =
         let held : slots_of job.standing ≡ slots = same_Some (slots_of job.standing) slots (sym (ap (option_map (λ (j : Job). slots_of j.standing)) at) ∙ listed) in
         sym (given ∙ by job.standing busy ∙ ap (λ l. Ok l) held)
       where
-        by : (s : Standing) → state_of s ≢ JobState.Idle → given_back s ≡ Ok (slots_of s)
-        by Standing.Idle is = absurd (is refl)
-        by (Standing.Matched slots) is = refl
-        by (Standing.Claimed slots) is = refl
+        by : (s : Stage) → state_of s ≢ JobState.Idle → given_back s ≡ Ok (slots_of s)
+        by Stage.Idle is = absurd (is refl)
+        by (Stage.Matched slots) is = refl
+        by (Stage.Claimed slots) is = refl
 
 module _ (moment : ℕ) (stock : Stock) (name : List ℕ) (jobs : List Job) where
   abbrev nobody : Result (List Freed) ClaimFault × List Job
@@ -86,28 +86,28 @@ module _ (moment : ℕ) (stock : Stock) (name : List ℕ) (jobs : List Job) wher
     pub claimed-unmatched : state_of job.standing ≢ JobState.Matched → claimed moment stock name jobs ≡ (Err (ClaimFault.WrongState (state_of job.standing)), jobs)
     claimed-unmatched other = claimed-one ∙ by job.standing other
       where
-        by : (s : Standing) → state_of s ≢ JobState.Matched → claimed_at moment stock jobs i (record job { standing = s }) ≡ (Err (ClaimFault.WrongState (state_of s)), jobs)
-        by Standing.Idle other = refl
-        by (Standing.Matched slots) other = absurd (other refl)
-        by (Standing.Claimed slots) other = refl
+        by : (s : Stage) → state_of s ≢ JobState.Matched → claimed_at moment stock jobs i (record job { standing = s }) ≡ (Err (ClaimFault.WrongState (state_of s)), jobs)
+        by Stage.Idle other = refl
+        by (Stage.Matched slots) other = absurd (other refl)
+        by (Stage.Claimed slots) other = refl
 
     module _ (matched : state_of job.standing ≡ JobState.Matched) where
       claimed-checked : claimed moment stock name jobs ≡ checked moment stock jobs i job.request (offer_of job.standing)
       claimed-checked = claimed-one ∙ by job.standing matched
         where
-          by : (s : Standing) → state_of s ≡ JobState.Matched → claimed_at moment stock jobs i (record job { standing = s }) ≡ checked moment stock jobs i job.request (offer_of s)
-          by Standing.Idle other = absurd (cc)
-          by (Standing.Matched slots) same = refl
-          by (Standing.Claimed slots) other = absurd (cc)
+          by : (s : Stage) → state_of s ≡ JobState.Matched → claimed_at moment stock jobs i (record job { standing = s }) ≡ checked moment stock jobs i job.request (offer_of s)
+          by Stage.Idle other = absurd (cc)
+          by (Stage.Matched slots) same = refl
+          by (Stage.Claimed slots) other = absurd (cc)
 
       abbrev gained : Result (List Freed) ClaimFault × List Job
       gained = (Ok (freed_all jobs (losers jobs (offer_of job.standing))), granted jobs i (offer_of job.standing))
 
       abbrev by_failing : Option ℕ → Result (List Freed) ClaimFault × List Job
-      by_failing failing = option_map_or (λ slot. (Err (ClaimFault.Stale slot), with_standing jobs i Standing.Idle)) failing gained
+      by_failing failing = option_map_or (λ slot. (Err (ClaimFault.Stale slot), with_standing jobs i Stage.Idle)) failing gained
 
       pub claimed-stale : (slot : ℕ) → first_failing moment stock jobs job.request (offer_of job.standing) ≡ Some slot
-          → claimed moment stock name jobs ≡ (Err (ClaimFault.Stale slot), with_standing jobs i Standing.Idle)
+          → claimed moment stock name jobs ≡ (Err (ClaimFault.Stale slot), with_standing jobs i Stage.Idle)
       claimed-stale slot failing = claimed-checked ∙ ap by_failing failing
 
       pub claimed-granted : (freed : List Freed) (new : List Job) → first_failing moment stock jobs job.request (offer_of job.standing) ≡ None

@@ -9,7 +9,7 @@ use Rattle.std.proofs.lemmas.List.Elements.{All-head, All-tail}
 use Rattle.std.proofs.lemmas.Option.{none-some, same_Some}
 use Rattle.ad_store.specs.Holdings.{Holding}
 use Rattle.claim_table.specs.declared.job.Job.{Job}
-use Rattle.claim_table.specs.declared.job.Standing.{Standing}
+use Rattle.claim_table.specs.declared.job.Stage.{Stage}
 use Rattle.claim_table.specs.Holders.{holder_of, holding_in}
 use Rattle.claim_table.specs.Jobs.{IsFilled, claim_of, claimed_by, lists, slots_of, wanted}
 use Rattle.claim_table.specs.Kept.{AreNoted, note_at}
@@ -46,10 +46,10 @@ holder-found P jobs slot h all holds = by_number (claimed_by slot jobs) holds
     by_number None is = absurd (none-some h is)
     by_number (Some i) is = by_job i (slice_get jobs i) refl is
 
-enough_at : (standing : Standing) (n slot : ℕ) → (standing ≢ Standing.Idle → length (slots_of standing) ≡ n) → lists (claim_of standing) slot ≡ true → length (claim_of standing) ≡ n
-enough_at Standing.Idle n slot enough listed = absurd (cc)
-enough_at (Standing.Matched slots) n slot enough listed = absurd (cc)
-enough_at (Standing.Claimed slots) n slot enough listed = enough (λ same. cc)
+enough_at : (standing : Stage) (n slot : ℕ) → (standing ≢ Stage.Idle → length (slots_of standing) ≡ n) → lists (claim_of standing) slot ≡ true → length (claim_of standing) ≡ n
+enough_at Stage.Idle n slot enough listed = absurd (cc)
+enough_at (Stage.Matched slots) n slot enough listed = absurd (cc)
+enough_at (Stage.Claimed slots) n slot enough listed = enough (λ same. cc)
 
 -- a job that has claimed a slot has claimed as many as it wants
 pub claims_enough : (job : Job) (slot : ℕ) → IsFilled job → lists (claim_of job.standing) slot ≡ true → length (claim_of job.standing) ≡ wanted job.request

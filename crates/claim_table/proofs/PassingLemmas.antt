@@ -21,7 +21,7 @@ use Rattle.bilateral_match.specs.Sides.{open_sides}
 use Rattle.bilateral_match.proofs.DecidedLemmas.{not-docked}
 use Rattle.bilateral_match.proofs.DockingLemmas.{frame-there}
 use Rattle.claim_table.specs.declared.job.Job.{Job}
-use Rattle.claim_table.specs.declared.job.Standing.{Standing}
+use Rattle.claim_table.specs.declared.job.Stage.{Stage}
 use Rattle.claim_table.specs.Claims.{entered_in, is_won, passes}
 use Rattle.claim_table.specs.Holders.{holder_of}
 use Rattle.claim_table.specs.Jobs.{claim_of, slots_of}
@@ -81,10 +81,10 @@ unclaimed-won moment stock jobs slot w None none who =
 unclaimed-won moment stock jobs slot w (Some h) none who = absurd (true≢false none)
 
 -- what is claimed is listed
-claim-listed : (P : ℕ → Type 0) (standing : Standing) → All P (slots_of standing) → All P (claim_of standing)
-claim-listed P Standing.Idle all = all
-claim-listed P (Standing.Matched slots) all = All-nil P
-claim-listed P (Standing.Claimed slots) all = all
+claim-listed : (P : ℕ → Type 0) (standing : Stage) → All P (slots_of standing) → All P (claim_of standing)
+claim-listed P Stage.Idle all = all
+claim-listed P (Stage.Matched slots) all = All-nil P
+claim-listed P (Stage.Claimed slots) all = all
 
 -- what jobs hold is in the store where all that they list is
 pub holders-stored : (stock : Stock) (jobs : List Job) → All (λ job. All (Contains stock.slots) (slots_of job.standing)) jobs → AreStored stock (holder_of jobs)

@@ -12,7 +12,7 @@ use Rattle.claim_table.specs.declared.answers.ClaimFault.{ClaimFault}
 use Rattle.claim_table.specs.declared.answers.Freed.{Freed}
 use Rattle.claim_table.specs.declared.answers.JobState.{JobState}
 use Rattle.claim_table.specs.declared.job.Job.{Job}
-use Rattle.claim_table.specs.declared.job.Standing.{Standing}
+use Rattle.claim_table.specs.declared.job.Stage.{Stage}
 use Rattle.claim_table.specs.Answers.{freed_at}
 use Rattle.claim_table.specs.Holders.{holder_of}
 use Rattle.claim_table.specs.Jobs.{claimed_by, idle_at, job_named, lists, numbered, offer_of, with_standing}
@@ -60,7 +60,7 @@ all_idle jobs numbers = fold (λ js i. idle_at (Some i) js) jobs numbers
 
 -- the jobs once the one of a number has claimed these slots: those that held one of them are idle
 abbrev pub granted : List Job → ℕ → List ℕ → List Job
-granted jobs i slots = with_standing (all_idle jobs (losers jobs slots)) i (Standing.Claimed slots)
+granted jobs i slots = with_standing (all_idle jobs (losers jobs slots)) i (Stage.Claimed slots)
 
 -- the jobs of these numbers, with the slots that they had
 abbrev pub freed_all : List Job → List ℕ → List Freed
@@ -75,7 +75,7 @@ Claimed = Result (List Freed) ClaimFault × List Job
 -- the job of a number claims the slots that are offered to it
 abbrev pub checked : ℕ → Stock → List Job → ℕ → Request → List ℕ → Claimed
 checked moment stock jobs i request slots =
-    option_map_or (λ slot. (Err (ClaimFault.Stale slot), with_standing jobs i Standing.Idle))
+    option_map_or (λ slot. (Err (ClaimFault.Stale slot), with_standing jobs i Stage.Idle))
     (first_failing moment stock jobs request slots)
     (Ok (freed_all jobs (losers jobs slots)), granted jobs i slots)
 
@@ -83,10 +83,10 @@ checked moment stock jobs i request slots =
 abbrev pub claimed_at : ℕ → Stock → List Job → ℕ → Job → Claimed
 claimed_at moment stock jobs i job = by job.standing
   where
-    by : Standing → Claimed
-    by Standing.Idle = (Err (ClaimFault.WrongState JobState.Idle), jobs)
-    by (Standing.Claimed slots) = (Err (ClaimFault.WrongState JobState.Claimed), jobs)
-    by (Standing.Matched slots) = checked moment stock jobs i job.request slots
+    by : Stage → Claimed
+    by Stage.Idle = (Err (ClaimFault.WrongState JobState.Idle), jobs)
+    by (Stage.Claimed slots) = (Err (ClaimFault.WrongState JobState.Claimed), jobs)
+    by (Stage.Matched slots) = checked moment stock jobs i job.request slots
 
 -- the job of a name claims what is offered to it
 abbrev pub claimed : ℕ → Stock → List ℕ → List Job → Claimed

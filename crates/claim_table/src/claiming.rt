@@ -11,7 +11,7 @@ ghost use Rattle.bilateral_match.specs.Docks.{is_last_decided, last_ad};
 ghost use Rattle.bilateral_match.specs.Pool.{holder_world};
 ghost use Rattle.bilateral_match.specs.Small.{AreSmallAds};
 ghost use Rattle.claim_table.specs.declared.answers.JobState.{JobState};
-ghost use Rattle.claim_table.specs.declared.job.Standing.{Standing};
+ghost use Rattle.claim_table.specs.declared.job.Stage.{Stage};
 ghost use Rattle.claim_table.specs.Claims as claims;
 ghost use Rattle.claim_table.specs.Holders.{holder_of};
 ghost use Rattle.claim_table.specs.Jobs.{claimed_by, offer_of, slots_of, state_of, with_standing};
@@ -226,7 +226,7 @@ impl ClaimTable {
     fn settle(&mut self, i: usize)
         requires matched { option_map (λ job. state_of job.standing) (slice_get (jobs_of self.old) i) ≡ Some JobState.Matched }
         requires free { All (λ slot. claimed_by slot (jobs_of self.old) ≡ None) (claims.offer_at i (jobs_of self.old)) }
-        ensures { jobs_of self.new ≡ with_standing (jobs_of self.old) i (Standing.Claimed (claims.offer_at i (jobs_of self.old))) }
+        ensures { jobs_of self.new ≡ with_standing (jobs_of self.old) i (Stage.Claimed (claims.offer_at i (jobs_of self.old))) }
     {
         let slots = self.jobs[i].standing.offer();
         put(&mut self.offers, slots, None);

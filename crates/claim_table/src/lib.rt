@@ -8,5 +8,5 @@ mod notes;
 mod table;
 
 pub use answers::{ClaimFault, Freed, FreedList, JobFault, JobState, NoJob, SubmitFault};
-pub use job::{Job, Standing};
+pub use job::{Job, Stage};
 pub use table::ClaimTable;

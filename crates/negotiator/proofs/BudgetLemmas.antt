@@ -11,7 +11,7 @@ use Rattle.ad_tree.specs.declared.request.Request.{Request}
 use Rattle.ad_store.specs.Stock.{Advert, Stock}
 use Rattle.bilateral_match.specs.Pool.{Pool}
 use Rattle.claim_table.specs.declared.job.Job.{Job}
-use Rattle.claim_table.specs.declared.job.Standing.{Standing}
+use Rattle.claim_table.specs.declared.job.Stage.{Stage}
 use Rattle.claim_table.specs.Jobs.{with_standing}
 use Rattle.gang_ports.specs.Gangs.{docks_open, looks_most}
 use Rattle.negotiator.specs.Budget.{ArePaid, AreWithin, Counts, IsSearched, budget, due, entries_for, evaluations_by, evaluations_for, is_idle_at, is_marked, left_for, looks_by, looks_for, narrowed_by, open_by, open_for, over_idle, price_at}
@@ -156,7 +156,7 @@ module _ (moment : ℕ) (stock : Stock) (jobs : List Job) (failed : List Bool) (
       let dl = due-is (looks_for stock) jobs failed i idle free in let wl = mark-pays (looks_for stock) jobs failed i place within in
       record { tops = omega (arith, t, dt, wt); entry = omega (arith, e, de, we); touch = omega (arith, l, dl, wl) }
 
-  pub offer-paid : (slots : List ℕ) → ArePaid moment stock jobs (with_standing jobs i (Standing.Matched slots)) failed failed before after
+  pub offer-paid : (slots : List ℕ) → ArePaid moment stock jobs (with_standing jobs i (Stage.Matched slots)) failed failed before after
   offer-paid slots =
       let t = searched.tops in let e = searched.entry in let l = searched.touch in
       let dt = due-is (evaluations_for moment stock) jobs failed i idle free in let wt = offer-pays (evaluations_for moment stock) jobs failed i slots idle (evaluations-later jobs i slots idle moment stock) in

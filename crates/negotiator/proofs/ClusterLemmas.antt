@@ -17,7 +17,7 @@ use Rattle.bilateral_match.specs.Pool.{pool_of}
 use Rattle.bilateral_match.specs.Shortlists.{IsShortlist, first_left}
 use Rattle.bilateral_match.proofs.AlikeLemmas.{best-same}
 use Rattle.claim_table.specs.declared.job.Job.{Job}
-use Rattle.claim_table.specs.declared.job.Standing.{Standing}
+use Rattle.claim_table.specs.declared.job.Stage.{Stage}
 use Rattle.claim_table.specs.Holders.{holder_of}
 use Rattle.claim_table.specs.Jobs.{offered_to, with_standing}
 use Rattle.negotiator.specs.declared.clusters.Cluster.{Cluster}
@@ -151,7 +151,7 @@ same-clusters scene jobs_are clusters_are are = rw (jobs_are, clusters_are) are
 
 module _ (moment : ℕ) (stock : Stock) (jobs : List Job) (i : ℕ) (slots : List ℕ) (idle : is_idle_at jobs i ≡ true) where
   abbrev later : List Job
-  later = with_standing jobs i (Standing.Matched slots)
+  later = with_standing jobs i (Stage.Matched slots)
 
   ad-later : (place : ℕ) → ad_at later place ≡ ad_at jobs place
   ad-later place =

@@ -18,7 +18,7 @@ use Rattle.bilateral_match.specs.Pool.{AreStored, Pool, pool_of, slot_at}
 use Rattle.bilateral_match.specs.declared.member.Member.{Member}
 use Rattle.bilateral_match.proofs.OfferLemmas.{fewer-entered, fewer-open, none-later}
 use Rattle.claim_table.specs.declared.job.Job.{Job}
-use Rattle.claim_table.specs.declared.job.Standing.{Standing}
+use Rattle.claim_table.specs.declared.job.Stage.{Stage}
 use Rattle.claim_table.specs.Holders.{holder_of, holding_in}
 use Rattle.claim_table.specs.Jobs.{claim_of, claimed_by, lists, offer_of, offered_to, with_standing}
 use Rattle.claim_table.proofs.ListLemmas.{map-set_same, position-map}
@@ -32,15 +32,15 @@ use Rattle.negotiator.specs.Markets.{found, found_by, found_for, is_idle, pool_f
 pub record IdleJob (jobs : List Job) (i : ℕ) : Type 0 where
   pub job : Job
   pub at : slice_get jobs i ≡ Some job
-  pub idle : job.standing ≡ Standing.Idle
+  pub idle : job.standing ≡ Stage.Idle
 
 pub idle-job : (jobs : List Job) (i : ℕ) → is_idle_at jobs i ≡ true → IdleJob jobs i
 idle-job jobs i e = by (slice_get jobs i) refl e
   where
-    standing : (s : Standing) → is_idle s ≡ true → s ≡ Standing.Idle
-    standing Standing.Idle e = refl
-    standing (Standing.Matched slots) e = absurd (cc)
-    standing (Standing.Claimed slots) e = absurd (cc)
+    standing : (s : Stage) → is_idle s ≡ true → s ≡ Stage.Idle
+    standing Stage.Idle e = refl
+    standing (Stage.Matched slots) e = absurd (cc)
+    standing (Stage.Claimed slots) e = absurd (cc)
 
     by : (o : Option Job) → slice_get jobs i ≡ o → option_map_or (λ (job : Job). is_idle job.standing) o false ≡ true → IdleJob jobs i
     by None at e = absurd (cc)
@@ -118,16 +118,16 @@ all-same P jobs others same all = All-unmap others (subst (All P) (sym same) (Al
 
 module _ (jobs : List Job) (i : ℕ) (slots : List ℕ) (idle : is_idle_at jobs i ≡ true) where
   abbrev pub later : List Job
-  later = with_standing jobs i (Standing.Matched slots)
+  later = with_standing jobs i (Stage.Matched slots)
 
   abbrev pub one : IdleJob jobs i
   one = idle-job jobs i idle
 
   abbrev changed : Job
-  changed = record one.job { standing = Standing.Matched slots }
+  changed = record one.job { standing = Stage.Matched slots }
 
   pub later-is : later ≡ slice_set jobs i changed
-  later-is = ap (λ o. option_map_or (λ (job : Job). slice_set jobs i (record job { standing = Standing.Matched slots })) o jobs) one.at
+  later-is = ap (λ o. option_map_or (λ (job : Job). slice_set jobs i (record job { standing = Stage.Matched slots })) o jobs) one.at
 
   pub map-later : {A : Type 0} (f : Job → A) → f changed ≡ f one.job → map f later ≡ map f jobs
   map-later f same = ap (map f) later-is ∙ map-set_same f jobs i one.job changed one.at same
@@ -160,7 +160,7 @@ module _ (jobs : List Job) (i : ℕ) (slots : List ℕ) (idle : is_idle_at jobs 
   holding-in js slot (Some k) = sym (get-map (holding_in slot) js k)
 
   no-holding : (slot : ℕ) → holding_in slot changed ≡ holding_in slot one.job
-  no-holding slot = sym (ap (λ (s : Standing). let h : Holding = record { request = one.job.request; slots = claim_of s; port = position_or_len (λ t. t == slot) (claim_of s) } in h) one.idle)
+  no-holding slot = sym (ap (λ (s : Stage). let h : Holding = record { request = one.job.request; slots = claim_of s; port = position_or_len (λ t. t == slot) (claim_of s) } in h) one.idle)
 
   pub holder-later : (slot : ℕ) → holder_of later slot ≡ holder_of jobs slot
   holder-later slot =

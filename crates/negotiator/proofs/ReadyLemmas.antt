@@ -7,7 +7,7 @@ use Rattle.ad_tree.specs.declared.request.Request.{Request}
 use Rattle.bilateral_match.specs.Pool.{AreStored}
 use Rattle.bilateral_match.specs.Rows.{rows_of}
 use Rattle.claim_table.specs.declared.job.Job.{Job}
-use Rattle.claim_table.specs.declared.job.Standing.{Standing}
+use Rattle.claim_table.specs.declared.job.Stage.{Stage}
 use Rattle.claim_table.specs.Holders.{holder_of}
 use Rattle.claim_table.specs.Jobs.{jobs_limit, with_standing}
 use Rattle.literal_index.specs.Shown.{IsIndex}
@@ -30,7 +30,7 @@ ready-start scene jobs failed index stored own few none = record {
 }
 
 module _ (scene : Scene) (jobs : List Job) (failed : List Bool) (ready : IsReady scene jobs failed) (i : ℕ) where
-  pub ready-given : (slots : List ℕ) → is_idle_at jobs i ≡ true → IsReady scene (with_standing jobs i (Standing.Matched slots)) failed
+  pub ready-given : (slots : List ℕ) → is_idle_at jobs i ≡ true → IsReady scene (with_standing jobs i (Stage.Matched slots)) failed
   ready-given slots idle = record {
     index = ready.index;
     stored = stored-later jobs i slots idle (stock_in scene) ready.stored;

@@ -15,7 +15,7 @@ use Rattle.bilateral_match.specs.Members.{best_slot}
 use Rattle.bilateral_match.specs.Pool.{Pool, slot_at}
 use Rattle.claim_table.specs.declared.answers.JobState.{JobState}
 use Rattle.claim_table.specs.declared.job.Job.{Job}
-use Rattle.claim_table.specs.declared.job.Standing.{Standing}
+use Rattle.claim_table.specs.declared.job.Stage.{Stage}
 use Rattle.claim_table.specs.Jobs.{AreFree, AreNamedApart, job_named, numbered, offered_to, state_of, wanted}
 use Rattle.conjunct_plan.specs.Tests.{tests_of}
 use Rattle.gang_ports.specs.Gangs.{attributes_open, docks_open, gang, looks_most}
@@ -47,10 +47,10 @@ is_idle_state (Some other) = false
 pub idle-state : (jobs : List Job) (i : ℕ) → is_idle_at jobs i ≡ is_idle_state (state_at jobs i)
 idle-state jobs i = by (slice_get jobs i)
   where
-    standing : (s : Standing) → is_idle s ≡ is_idle_state (Some (state_of s))
-    standing Standing.Idle = refl
-    standing (Standing.Matched slots) = refl
-    standing (Standing.Claimed slots) = refl
+    standing : (s : Stage) → is_idle s ≡ is_idle_state (Some (state_of s))
+    standing Stage.Idle = refl
+    standing (Stage.Matched slots) = refl
+    standing (Stage.Claimed slots) = refl
 
     by : (o : Option Job) → option_map_or (λ (job : Job). is_idle job.standing) o false ≡ is_idle_state (option_map (λ (job : Job). state_of job.standing) o)
     by None = refl

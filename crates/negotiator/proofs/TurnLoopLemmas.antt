@@ -6,7 +6,7 @@ use Rattle.std.proofs.lemmas.Bool.Decides.{nat_tests}
 use Rattle.std.proofs.lemmas.List.{append-nil, drop_all, drop_more, length-map, map-append}
 use Rattle.std.proofs.lemmas.Option.{none-some, same_Some}
 use Rattle.claim_table.specs.declared.job.Job.{Job}
-use Rattle.claim_table.specs.declared.job.Standing.{Standing}
+use Rattle.claim_table.specs.declared.job.Stage.{Stage}
 use Rattle.claim_table.specs.Jobs.{wanted, with_standing}
 use Rattle.negotiator.specs.declared.answers.Offered.{Offered}
 use Rattle.negotiator.specs.declared.scene.Scene.{Scene}
@@ -169,11 +169,11 @@ module _ (scene : Scene) (began : List Job) where
                 ∙ ap (λ os. loop.made ++ os) (next ∙ turn-finds m user i (drop (k + 1) is) left given loop.made slots waiting in_slice (found-here ∙ is_found))
                 ∙ sym (append_assoc loop.made (offer i slots ∷ []) (turn m user (drop (k + 1) is) (left - wants_of m i) true (loop.made ++ offer i slots ∷ [])))
 
-            table-more : (later : List Job) → later ≡ with_standing jobs i (Standing.Matched slots) → later ≡ with_offers (loop.made ++ offer i slots ∷ []) began
-            table-more later is_later = is_later ∙ ap (λ js. with_standing js i (Standing.Matched slots)) loop.table ∙ sym (offers-ahead loop.made (offer i slots ∷ []) began)
+            table-more : (later : List Job) → later ≡ with_standing jobs i (Stage.Matched slots) → later ≡ with_offers (loop.made ++ offer i slots ∷ []) began
+            table-more later is_later = is_later ∙ ap (λ js. with_standing js i (Stage.Matched slots)) loop.table ∙ sym (offers-ahead loop.made (offer i slots ∷ []) began)
 
             -- want of memory where the offer is made
-            pub stopped-behind : (later : List Job) → later ≡ with_standing jobs i (Standing.Matched slots) → IsPart (turn m user is slice false []) began later
+            pub stopped-behind : (later : List Job) → later ≡ with_standing jobs i (Stage.Matched slots) → IsPart (turn m user is slice false []) began later
             stopped-behind later is_later = record {
               front = loop.made ++ offer i slots ∷ [];
               rest = turn m user (drop (k + 1) is) (left - wants_of m i) true (loop.made ++ offer i slots ∷ []);
@@ -182,7 +182,7 @@ module _ (scene : Scene) (began : List Job) where
             }
 
             pub turn-some : (wants : ℕ) → wants ≡ wants_of m i → (answer : Offered) → answer ≡ offer_named jobs (offer i slots) → (later_offers : List Offered) → later_offers ≡ offers ++ answer ∷ []
-                → (later_failed : List Bool) (later : List Job) (after : Counts) → later ≡ with_standing jobs i (Standing.Matched slots) → IsReady scene later later_failed
+                → (later_failed : List Bool) (later : List Job) (after : Counts) → later ≡ with_standing jobs i (Stage.Matched slots) → IsReady scene later later_failed
                 → ArePaid scene.moment (stock_in scene) began later marks later_failed before after → TurnLoop user is slice marks before (k + 1) (left - wants) true later_offers later later_failed after
             turn-some wants wants_is answer answer_is later_offers pushed later_failed later after is_later ready paid = record {
               made = loop.made ++ offer i slots ∷ [];
@@ -199,9 +199,9 @@ module _ (scene : Scene) (began : List Job) where
 
           -- what the try of the job answers
           module _ (o : Option Offered) (told : o ≡ option_map (λ slots. offer_named jobs (offer i slots)) (found scene.moment (stock_in scene) jobs i)) (later : List Job)
-              (table_is : later ≡ option_map_or (λ slots. with_standing jobs i (Standing.Matched slots)) (found scene.moment (stock_in scene) jobs i) jobs) where
-            table-of : (f : Option (List ℕ)) → found scene.moment (stock_in scene) jobs i ≡ f → later ≡ option_map_or (λ slots. with_standing jobs i (Standing.Matched slots)) f jobs
-            table-of f is = table_is ∙ ap (λ f. option_map_or (λ slots. with_standing jobs i (Standing.Matched slots)) f jobs) is
+              (table_is : later ≡ option_map_or (λ slots. with_standing jobs i (Stage.Matched slots)) (found scene.moment (stock_in scene) jobs i) jobs) where
+            table-of : (f : Option (List ℕ)) → found scene.moment (stock_in scene) jobs i ≡ f → later ≡ option_map_or (λ slots. with_standing jobs i (Stage.Matched slots)) f jobs
+            table-of f is = table_is ∙ ap (λ f. option_map_or (λ slots. with_standing jobs i (Stage.Matched slots)) f jobs) is
 
             pub tried-none : o ≡ None → (later_failed : List Bool) (after : Counts) → IsReady scene later later_failed → ArePaid scene.moment (stock_in scene) jobs later failed later_failed now after
                 → TurnLoop user is slice marks before (k + 1) left given offers later later_failed after

@@ -9,7 +9,7 @@ use Rattle.ad_store.specs.Stock.{Stock}
 use Rattle.bilateral_match.specs.Members.{best_slot}
 use Rattle.bilateral_match.specs.Pool.{Pool, pool_of, slot_at}
 use Rattle.claim_table.specs.declared.job.Job.{Job}
-use Rattle.claim_table.specs.declared.job.Standing.{Standing}
+use Rattle.claim_table.specs.declared.job.Stage.{Stage}
 use Rattle.claim_table.specs.Holders.{holder_of}
 use Rattle.claim_table.specs.Jobs.{claimed_by, offered_to, wanted, with_standing}
 use Rattle.gang_ports.specs.Gangs.{gang}
@@ -22,8 +22,8 @@ use Rattle.negotiator.specs.Priorities.{Setting, priority_of}
 
 -- ---- jobs
 
-abbrev pub is_idle : Standing → Bool
-is_idle Standing.Idle = true
+abbrev pub is_idle : Stage → Bool
+is_idle Stage.Idle = true
 is_idle other = false
 
 abbrev pub waiting_of : Job → Waiting
@@ -37,7 +37,7 @@ AreOwn frames (port ∷ ports) = ports_of frames ≡ Some (port ∷ ports)
 -- the jobs once offers are made: each stands as matched
 abbrev pub with_offers : List (Offer ℕ) → List Job → List Job
 with_offers [] jobs = jobs
-with_offers (offer ∷ offers) jobs = with_offers offers (with_standing jobs offer.job (Standing.Matched offer.resources))
+with_offers (offer ∷ offers) jobs = with_offers offers (with_standing jobs offer.job (Stage.Matched offer.resources))
 
 -- these jobs are the others once some first of the offers are made
 pub record IsPart (offers : List (Offer ℕ)) (jobs later : List Job) : Type 0 where

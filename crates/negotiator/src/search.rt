@@ -6,7 +6,7 @@ ghost use Rattle.ad_tree.specs.Small.{IsSmall};
 ghost use Rattle.bilateral_match.specs.Pool.{AreStored};
 ghost use Rattle.bilateral_match.specs.Rows.{rows_of};
 ghost use Rattle.bilateral_match.specs.Small.{AreSmallAds};
-ghost use Rattle.claim_table.specs.declared.job.Standing.{Standing};
+ghost use Rattle.claim_table.specs.declared.job.Stage.{Stage};
 ghost use Rattle.claim_table.specs.Holders.{holder_of};
 ghost use Rattle.claim_table.specs.Jobs.{AreFree, wanted, with_standing};
 ghost use Rattle.claim_table.specs.Small.{AreSmallJobs};
@@ -173,7 +173,7 @@ fn give(
     requires distinct { AllPairs (λ a b. a ≢ b) slots }
     requires enough { option_map (λ job. wanted job.request) (slice_get (jobs_of claims.old) i) ≡ Some (length slots) }
     ensures offered { IfOk result (λ offered. offered ≡ offer_named (jobs_of claims.old) (record { job = i; resources = slots })) }
-    ensures ok { OnOk result (jobs_of claims.new ≡ with_standing (jobs_of claims.old) i (Standing.Matched slots)) }
+    ensures ok { OnOk result (jobs_of claims.new ≡ with_standing (jobs_of claims.old) i (Stage.Matched slots)) }
     ensures err { OnErr result (jobs_of claims.new ≡ jobs_of claims.old) }
 {
     let job = claims.job(i).copy()?;
@@ -209,7 +209,7 @@ pub(crate) fn try_job<F: Ledger, E: Ledger, T: Ledger>(
     requires ready { IsReady scene.now (jobs_of claims.old) failed.old }
     requires clusters { AreClusters scene.now.moment (stock_in scene.now) (jobs_of claims.old) clusters.old }
     ensures offered { IfOk result (λ o. o ≡ option_map (λ slots. offer_named (jobs_of claims.old) (record { job = i; resources = slots })) (found scene.now.moment (stock_in scene.now) (jobs_of claims.old) i)) }
-    ensures table { OnOk result (jobs_of claims.new ≡ option_map_or (λ slots. with_standing (jobs_of claims.old) i (Standing.Matched slots)) (found scene.now.moment (stock_in scene.now) (jobs_of claims.old) i) (jobs_of claims.old)) }
+    ensures table { OnOk result (jobs_of claims.new ≡ option_map_or (λ slots. with_standing (jobs_of claims.old) i (Stage.Matched slots)) (found scene.now.moment (stock_in scene.now) (jobs_of claims.old) i) (jobs_of claims.old)) }
     ensures err { OnErr result (jobs_of claims.new ≡ jobs_of claims.old) }
     ensures ready { IsReady scene.now (jobs_of claims.new) failed.new }
     ensures clusters { AreClusters scene.now.moment (stock_in scene.now) (jobs_of claims.new) clusters.new }

@@ -13,7 +13,7 @@ use Rattle.ad_store.specs.Stock.{Advert, Stock, is_named}
 use Rattle.ad_store.proofs.HeldLemmas.{both}
 use Rattle.bilateral_match.specs.Pool.{AreStored, ad_in, holder_world}
 use Rattle.claim_table.specs.declared.job.Job.{Job}
-use Rattle.claim_table.specs.declared.job.Standing.{Standing}
+use Rattle.claim_table.specs.declared.job.Stage.{Stage}
 use Rattle.claim_table.specs.Holders.{holder_of, holding_in}
 use Rattle.claim_table.specs.Jobs.{claim_of, claimed_by as claimer, lists, offer_of, offered_to as offeree, slots_of}
 use Rattle.eval_scope.specs.World.{PlainWorld}
@@ -50,10 +50,10 @@ position-any test (x ∷ xs) = ap is_some (position-cons test x xs) ∙ by (test
 
 -- ---- what jobs hold is in the store
 
-claim-held : (slots : List ℕ) (standing : Standing) → list_all (lists slots) (slots_of standing) ≡ true → list_all (lists slots) (claim_of standing) ≡ true
-claim-held slots Standing.Idle held = refl
-claim-held slots (Standing.Matched own) held = refl
-claim-held slots (Standing.Claimed own) held = held
+claim-held : (slots : List ℕ) (standing : Stage) → list_all (lists slots) (slots_of standing) ≡ true → list_all (lists slots) (claim_of standing) ≡ true
+claim-held slots Stage.Idle held = refl
+claim-held slots (Stage.Matched own) held = refl
+claim-held slots (Stage.Claimed own) held = held
 
 found-held : (slots : List ℕ) (test : Job → Bool) (jobs : List Job) (job : Job) → are_stored slots jobs ≡ true → find test jobs ≡ Some job → is_stored slots job ≡ true
 found-held slots test [] job stored found = absurd (never_found job found)
@@ -122,15 +122,15 @@ module _ (stock : Stock) (beside : AreBeside stock.ads stock.slots) where
         ap (λ b. cond (not b) (1 + position_or_len (bytes_eq advert.name) (map (name_in stock) slots)) 0) (one-named s parts.0)
         ∙ ap (λ n. cond (not (eqb s slot)) (1 + n) 0) (position-named slots parts.1)
 
-    offer-test : (standing : Standing) → list_all (lists stock.slots) (slots_of standing) ≡ true → is_listed advert.name (offer_names (named_standing stock standing)) ≡ lists (offer_of standing) slot
-    offer-test Standing.Idle held = refl
-    offer-test (Standing.Matched own) held = listed-named stock.ads stock.slots beside place advert slot at slot_is own held
-    offer-test (Standing.Claimed own) held = refl
+    offer-test : (standing : Stage) → list_all (lists stock.slots) (slots_of standing) ≡ true → is_listed advert.name (offer_names (named_standing stock standing)) ≡ lists (offer_of standing) slot
+    offer-test Stage.Idle held = refl
+    offer-test (Stage.Matched own) held = listed-named stock.ads stock.slots beside place advert slot at slot_is own held
+    offer-test (Stage.Claimed own) held = refl
 
-    claim-test : (standing : Standing) → list_all (lists stock.slots) (slots_of standing) ≡ true → is_listed advert.name (claim_names (named_standing stock standing)) ≡ lists (claim_of standing) slot
-    claim-test Standing.Idle held = refl
-    claim-test (Standing.Matched own) held = refl
-    claim-test (Standing.Claimed own) held = listed-named stock.ads stock.slots beside place advert slot at slot_is own held
+    claim-test : (standing : Stage) → list_all (lists stock.slots) (slots_of standing) ≡ true → is_listed advert.name (claim_names (named_standing stock standing)) ≡ lists (claim_of standing) slot
+    claim-test Stage.Idle held = refl
+    claim-test (Stage.Matched own) held = refl
+    claim-test (Stage.Claimed own) held = listed-named stock.ads stock.slots beside place advert slot at slot_is own held
 
     found-seen : (test : Job → Bool) (passes : QueuedJob → Bool) (jobs : List Job) → are_stored stock.slots jobs ≡ true → ((job : Job) → is_stored stock.slots job ≡ true → passes (queued stock job) ≡ test job) → find passes (map (queued stock) jobs) ≡ option_map (queued stock) (find test jobs)
     found-seen test passes [] stored same = refl
@@ -158,11 +158,11 @@ module _ (stock : Stock) (beside : AreBeside stock.ads stock.slots) where
         ∙ map-map (seen.frames_named stock.ads) (name_in stock) (take ahead slots)
         ∙ frames-of-all (take ahead slots) (all-take (lists stock.slots) ahead slots all)
 
-    docked-claim : (standing : Standing) → list_all (lists stock.slots) (slots_of standing) ≡ true
+    docked-claim : (standing : Stage) → list_all (lists stock.slots) (slots_of standing) ≡ true
         → map (seen.frames_named stock.ads) (seen.up_to advert.name (claim_names (named_standing stock standing))) ≡ map (ad_in stock) (take (suc (position_or_len (λ s. eqb s slot) (claim_of standing))) (claim_of standing))
-    docked-claim Standing.Idle all = refl
-    docked-claim (Standing.Matched own) all = refl
-    docked-claim (Standing.Claimed own) all = docked-same own all
+    docked-claim Stage.Idle all = refl
+    docked-claim (Stage.Matched own) all = refl
+    docked-claim (Stage.Claimed own) all = docked-same own all
 
     held-same : (moment : ℕ) (job : Job) → is_stored stock.slots job ≡ true → IsOwned job → seen.held_world moment stock.ads advert.name (queued stock job) ≡ holder_world moment stock (holding_in slot job)
     held-same moment job stored owned =

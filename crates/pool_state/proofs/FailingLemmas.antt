@@ -10,7 +10,7 @@ use Rattle.bilateral_match.specs.Docks.{is_last_decided}
 use Rattle.claim_table.specs.Claims as claims
 use Rattle.claim_table.specs.Jobs.{is_named, lists, offer_of, slots_of}
 use Rattle.claim_table.specs.declared.job.Job.{Job}
-use Rattle.claim_table.specs.declared.job.Standing.{Standing}
+use Rattle.claim_table.specs.declared.job.Stage.{Stage}
 use Rattle.negotiator.specs.Priorities.{Setting}
 use Rattle.pool_state.specs.Claiming as seen
 use Rattle.pool_state.specs.Pool.{name_in, named_standing, queued}
@@ -84,15 +84,15 @@ found-both slots name (job ∷ jobs) stored owned = by (is_named name job) (foun
     by true rest = (All-head IsOwned job jobs owned, parts.0)
     by false rest = rest
 
-pub offer-names : (stock : Stock) (standing : Standing) → offer_names (named_standing stock standing) ≡ map (name_in stock) (offer_of standing)
-offer-names stock Standing.Idle = refl
-offer-names stock (Standing.Matched slots) = refl
-offer-names stock (Standing.Claimed slots) = refl
+pub offer-names : (stock : Stock) (standing : Stage) → offer_names (named_standing stock standing) ≡ map (name_in stock) (offer_of standing)
+offer-names stock Stage.Idle = refl
+offer-names stock (Stage.Matched slots) = refl
+offer-names stock (Stage.Claimed slots) = refl
 
-pub offer-held : (slots : List ℕ) (standing : Standing) → list_all (lists slots) (slots_of standing) ≡ true → list_all (lists slots) (offer_of standing) ≡ true
-offer-held slots Standing.Idle held = refl
-offer-held slots (Standing.Matched own) held = held
-offer-held slots (Standing.Claimed own) held = refl
+pub offer-held : (slots : List ℕ) (standing : Stage) → list_all (lists slots) (slots_of standing) ≡ true → list_all (lists slots) (offer_of standing) ≡ true
+offer-held slots Stage.Idle held = refl
+offer-held slots (Stage.Matched own) held = held
+offer-held slots (Stage.Claimed own) held = refl
 
 -- ---- an offer
 

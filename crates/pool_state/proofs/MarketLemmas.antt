@@ -8,7 +8,7 @@ use Rattle.ad_tree.specs.Frames.{Frame}
 use Rattle.ad_tree.specs.declared.request.Port.{Port}
 use Rattle.ad_store.specs.Stock.{Stock}
 use Rattle.claim_table.specs.declared.job.Job.{Job}
-use Rattle.claim_table.specs.declared.job.Standing.{Standing}
+use Rattle.claim_table.specs.declared.job.Stage.{Stage}
 use Rattle.negotiator.specs.Budget as budget
 use Rattle.negotiator.specs.Cycle.{Market, Offer, PlainSpin, PlainTurn, Waiting, cycle_of, offers_in, offers_of}
 use Rattle.negotiator.specs.Mapped.{offer_mapped, spin_mapped, turn_mapped}
@@ -34,10 +34,10 @@ use Rattle.pool_state.proofs.PoolLemmas.{docks-seen, free-seen, open-seen}
 use Rattle.pool_state.proofs.SpinRowLemmas.{spin-rows}
 
 module _ (stock : Stock) where
-  idle-seen : (standing : Standing) → seen.is_idle (named_standing stock standing) ≡ market.is_idle standing
-  idle-seen Standing.Idle = refl
-  idle-seen (Standing.Matched own) = refl
-  idle-seen (Standing.Claimed own) = refl
+  idle-seen : (standing : Stage) → seen.is_idle (named_standing stock standing) ≡ market.is_idle standing
+  idle-seen Stage.Idle = refl
+  idle-seen (Stage.Matched own) = refl
+  idle-seen (Stage.Claimed own) = refl
 
   one-waiting : (job : Job) → IsOwned job → seen.waiting (queued stock job) ≡ market.waiting_of job
   one-waiting job owned =

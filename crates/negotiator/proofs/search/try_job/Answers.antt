@@ -2,7 +2,7 @@ use Rattle.std.proofs.Common.{◌≡◌, ◌≢◌, ℕ, AllPairs, List, Some, a
 use Rattle.std.specs.Prelude.{IfSome, option_map}
 use Rattle.std.specs.Option.{option_map_or}
 use Rattle.claim_table.specs.declared.job.Job.{Job}
-use Rattle.claim_table.specs.declared.job.Standing.{Standing}
+use Rattle.claim_table.specs.declared.job.Stage.{Stage}
 use Rattle.claim_table.specs.Jobs.{AreFree, wanted, with_standing}
 use Rattle.claim_table.specs.Table.{jobs_of}
 use Rattle.negotiator.specs.Budget.{ArePaid, counts}
@@ -33,7 +33,7 @@ returns-then-failed-i-clause-offered g c =
 pub returns-then-failed-i-clause-table : goal.returns-then-failed-i-clause-table
 returns-then-failed-i-clause-table g c =
     let jobs = jobs_of c.args.claims.now in
-    sym (ap (λ o. option_map_or (λ slots. with_standing jobs c.args.i (Standing.Matched slots)) o jobs) (c.requires.ready.known c.args.i c.if-failed-i.true))
+    sym (ap (λ o. option_map_or (λ slots. with_standing jobs c.args.i (Stage.Matched slots)) o jobs) (c.requires.ready.known c.args.i c.if-failed-i.true))
 
 pub returns-then-failed-i-clause-paid : goal.returns-then-failed-i-clause-paid
 returns-then-failed-i-clause-paid g c =
@@ -95,7 +95,7 @@ returns-in_default-clause-offered g c =
 pub returns-in_default-clause-table : goal.returns-in_default-clause-table
 returns-in_default-clause-table g c =
     let jobs = jobs_of c.args.claims.now in
-    sym (ap (λ o. option_map_or (λ slots. with_standing jobs c.args.i (Standing.Matched slots)) o jobs) (sym c.in_ok-slots.ensures.found ∙ c.in_default.is))
+    sym (ap (λ o. option_map_or (λ slots. with_standing jobs c.args.i (Stage.Matched slots)) o jobs) (sym c.in_ok-slots.ensures.found ∙ c.in_default.is))
 
 pub returns-in_default-clause-ready : goal.returns-in_default-clause-ready
 returns-in_default-clause-ready g c = ready-marked c.args.scene.now (jobs_of c.args.claims.now) c.args.failed.now c.requires.ready c.args.i (sym c.in_ok-slots.ensures.found ∙ c.in_default.is)
@@ -156,7 +156,7 @@ returns-clause-offered g c =
 pub returns-clause-table : goal.returns-clause-table
 returns-clause-table g c =
     let jobs = jobs_of c.args.claims.now in
-    c.in_ok-give.ensures.ok ∙ sym (ap (λ o. option_map_or (λ slots. with_standing jobs c.args.i (Standing.Matched slots)) o jobs) (sym c.in_ok-slots.ensures.found ∙ c.in-Some.is))
+    c.in_ok-give.ensures.ok ∙ sym (ap (λ o. option_map_or (λ slots. with_standing jobs c.args.i (Stage.Matched slots)) o jobs) (sym c.in_ok-slots.ensures.found ∙ c.in-Some.is))
 
 pub returns-clause-ready : goal.returns-clause-ready
 returns-clause-ready g c =

@@ -10,6 +10,7 @@ use Rattle.claim_table.specs.declared.job.Job.{Job}
 use Rattle.claim_table.specs.declared.job.Stage.{Stage}
 use Rattle.claim_table.specs.Claims.{IsClaimed, all_idle, claimed, claimed_at, first_failing, freed_all, granted, losers}
 use Rattle.claim_table.specs.Jobs.{idle_at, numbered, slots_of, with_standing}
+use Rattle.claim_table.specs.Priorities.{Setting, priority_of}
 use Rattle.claim_table.proofs.HolderLemmas.{All-found}
 
 module _ (P : ℕ → Type 0) where
@@ -27,7 +28,7 @@ module _ (P : ℕ → Type 0) where
   idle-keeps jobs [] all = all
   idle-keeps jobs (k ∷ ks) all = idle-keeps (idle_at (Some k) jobs) ks (standing-keeps jobs k Stage.Idle all (All-nil P))
 
-  module _ (moment : ℕ) (stock : Stock) (name : List ℕ) (jobs : List Job) (all : All Listed jobs) where
+  module _ (moment : ℕ) (stock : Stock) (settings : List Setting) (name : List ℕ) (jobs : List Job) (all : All Listed jobs) where
     abbrev Answer : Type 0
     Answer = Result (List Freed) ClaimFault × List Job
 
@@ -41,30 +42,30 @@ module _ (P : ℕ → Type 0) where
     checked-keeps i slots offered None = standing-keeps (all_idle jobs (losers jobs slots)) i (Stage.Claimed slots) (idle-keeps jobs (losers jobs slots) all) offered
     checked-keeps i slots offered (Some slot) = standing-keeps jobs i Stage.Idle all (All-nil P)
 
-    at-keeps : (i : ℕ) (job : Job) (s : Stage) → All P (slots_of s) → All Listed (claimed_at moment stock jobs i (record job { standing = s })).1
+    at-keeps : (i : ℕ) (job : Job) (s : Stage) → All P (slots_of s) → All Listed (claimed_at moment stock settings jobs i (record job { standing = s })).1
     at-keeps i job Stage.Idle offered = all
     at-keeps i job (Stage.Claimed slots) offered = all
-    at-keeps i job (Stage.Matched slots) offered = checked-keeps i slots offered (first_failing moment stock jobs job.request slots)
+    at-keeps i job (Stage.Matched slots) offered = checked-keeps i slots offered (first_failing moment stock settings jobs (priority_of job.user settings) job.request slots)
 
-    one-keeps : (i : ℕ) (o : Option Job) → slice_get jobs i ≡ o → All Listed (option_map_or (claimed_at moment stock jobs i) o nobody).1
+    one-keeps : (i : ℕ) (o : Option Job) → slice_get jobs i ≡ o → All Listed (option_map_or (claimed_at moment stock settings jobs i) o nobody).1
     one-keeps i None at = all
     one-keeps i (Some job) at = at-keeps i job job.standing (All-found Listed jobs i job all at)
 
-    claimed-keeps : All Listed (claimed moment stock name jobs).1
+    claimed-keeps : All Listed (claimed moment stock settings name jobs).1
     claimed-keeps = by (numbered name jobs)
       where
-        by : (o : Option ℕ) → All Listed (option_map_or (λ i. option_map_or (claimed_at moment stock jobs i) (slice_get jobs i) nobody) o nobody).1
+        by : (o : Option ℕ) → All Listed (option_map_or (λ i. option_map_or (claimed_at moment stock settings jobs i) (slice_get jobs i) nobody) o nobody).1
         by None = all
         by (Some i) = one-keeps i (slice_get jobs i) refl
 
     -- after a claim, whatever it answers
-    pub claim-keeps : (answer : Result (List Freed) ClaimFault) (new : List Job) → IsClaimed answer jobs new (claimed moment stock name jobs) → All Listed new
+    pub claim-keeps : (answer : Result (List Freed) ClaimFault) (new : List Job) → IsClaimed answer jobs new (claimed moment stock settings name jobs) → All Listed new
     claim-keeps answer new is = by answer is
       where
-        told : (a : Result (List Freed) ClaimFault) → claimed moment stock name jobs ≡ (a, new) → All Listed new
+        told : (a : Result (List Freed) ClaimFault) → claimed moment stock settings name jobs ≡ (a, new) → All Listed new
         told a same = subst (All Listed) (ap (λ (x : Answer). x.1) same) claimed-keeps
 
-        by : (a : Result (List Freed) ClaimFault) → IsClaimed a jobs new (claimed moment stock name jobs) → All Listed new
+        by : (a : Result (List Freed) ClaimFault) → IsClaimed a jobs new (claimed moment stock settings name jobs) → All Listed new
         by (Ok freed) same = told (Ok freed) same
         by (Err ClaimFault.NoJob) same = told (Err ClaimFault.NoJob) same
         by (Err (ClaimFault.WrongState state)) same = told (Err (ClaimFault.WrongState state)) same

@@ -7,7 +7,6 @@ ghost use Rattle.claim_table.specs.Kept.{IsKept};
 
 use crate::notes::{close_gap, note, put, widen};
 use crate::{Freed, FreedList, Job, JobFault, JobState, NoJob, Stage, SubmitFault};
-use ad_store::{Held, Holdings};
 use ad_tree::Request;
 use indexmap::IndexSet;
 use pool_text::{OutOfMemory, Slots, Text};
@@ -317,49 +316,6 @@ impl ClaimTable {
     {
         &self.jobs[i].request
     }
-}
-
-impl Holdings for ClaimTable {
-    ghost use Rattle.std.specs.Prelude.{is_some};
-    ghost use Rattle.claim_table.specs.Holders.{holder_of};
-    ghost use Rattle.claim_table.specs.Jobs.{offered_to};
-    ghost use Rattle.claim_table.specs.Table.{jobs_of};
-
-    ghost is_offered = { λ table slot. is_some (offered_to slot (jobs_of table)) };
-
-    ghost holding = { λ table slot. holder_of (jobs_of table) slot };
-
-    fn offered(&self, slot: usize) -> bool {
-        self.offered_to(slot).is_some()
-    }
-
-    fn holder(&self, slot: usize) -> Option<Held<'_>> {
-        let Some(i) = self.claimed_by(slot) else {
-            return None;
-        };
-        let job = &self.jobs[i];
-        let slots = job.standing.claim();
-        Some(Held {
-            request: &job.request,
-            slots,
-            port: port_of(slots, slot),
-        })
-    }
-}
-
-// The first place of a slot among those of a job.
-fn port_of(slots: &[usize], slot: usize) -> u32
-    requires { length slots.now ≤ 8 }
-    ensures { result ≡ position_or_len (λ s. s == slot) slots.now }
-{
-    let mut port = 0;
-    for other in slots {
-        if *other == slot {
-            return port;
-        }
-        port += 1;
-    }
-    port
 }
 
 // A job that loses its slots, with those that it has.

@@ -18,7 +18,7 @@ use Rattle.negotiator.specs.Budget.{is_idle_at}
 use Rattle.negotiator.specs.Cycle.{Market, Offer, PlainSpin, PlainTurn, Waiting, all_users, is_given, is_of, is_waiting, places, spin, turn, user_order, waiting_count, wants_of}
 use Rattle.negotiator.specs.Mapped.{offer_mapped, turn_mapped}
 use Rattle.negotiator.specs.Markets.{found, free_among, is_idle, market_of, waiting_of, with_offers}
-use Rattle.negotiator.specs.Priorities.{Setting, priority_of}
+use Rattle.claim_table.specs.Priorities.{Setting, priority_of}
 use Rattle.negotiator.specs.Queues.{AreQueues}
 use Rattle.negotiator.proofs.AlikeLemmas.{IsAlike, count-same, filter-same, spin-alike, turn-alike}
 use Rattle.negotiator.proofs.CycleLemmas.{any-append}

@@ -13,10 +13,10 @@ use Rattle.negotiator.specs.declared.queues.Queue.{Queue}
 use Rattle.negotiator.specs.Budget.{ArePaid, Counts}
 use Rattle.negotiator.specs.Cycle.{Market, Offer, PlainSpin, PlainTurn, cycle_from, cycle_of, has_offer, is_empty, is_of, offers_in, offers_of, places, shares_of, spin, turn, turns, users_of, waiting_count}
 use Rattle.negotiator.specs.Markets.{IsPart, free_among, offer_named, spin_named, turn_named, waiting_of, with_offers}
-use Rattle.negotiator.specs.Priorities.{priority_of}
+use Rattle.claim_table.specs.Priorities.{priority_of}
 use Rattle.negotiator.specs.Scenes.{IsReady, market_in, stock_in, users_at}
 use Rattle.negotiator.specs.Queues.{AreQueues}
-use Rattle.negotiator.specs.Settings.{settings_of}
+use Rattle.claim_table.specs.Settings.{settings_of}
 use Rattle.negotiator.proofs.ActiveLemmas.{few-users}
 use Rattle.negotiator.proofs.CycleLemmas.{cycle-step, offers-append, offers-kept, spin-fewer}
 use Rattle.negotiator.proofs.ShiftLemmas.{offers-ahead, shift-count, shift-own, shift-places, shift-queues, shift-spin, shift-turn}

@@ -18,7 +18,7 @@ use Rattle.bilateral_match.specs.Pool.{Pool, slot_at}
 use Rattle.claim_table.specs.declared.job.Job.{Job}
 use Rattle.negotiator.specs.Cycle.{Market, Offer, cycle_of, is_empty, offers_in, offers_of, places, shares_of, spin, spins_within, turn, turns, users_of, waiting_count}
 use Rattle.negotiator.specs.Markets.{found, found_by, found_for, market_of, pool_for, with_offers}
-use Rattle.negotiator.specs.Priorities.{Setting}
+use Rattle.claim_table.specs.Priorities.{Setting}
 use Rattle.negotiator.proofs.CycleLemmas.{offer, offers-kept, turn-by}
 use Rattle.negotiator.proofs.GangLemmas.{gang-all, slots-stored}
 

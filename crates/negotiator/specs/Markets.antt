@@ -18,7 +18,7 @@ use Rattle.negotiator.specs.declared.answers.Offered.{Offered}
 use Rattle.negotiator.specs.declared.answers.Spin.{Spin}
 use Rattle.negotiator.specs.declared.answers.Turn.{Turn}
 use Rattle.negotiator.specs.Cycle.{Market, Offer, PlainSpin, PlainTurn, Waiting}
-use Rattle.negotiator.specs.Priorities.{Setting, priority_of}
+use Rattle.claim_table.specs.Priorities.{Setting, priority_of}
 
 -- ---- jobs
 

@@ -15,7 +15,7 @@ use Rattle.negotiator.specs.declared.scene.Scene.{Scene}
 use Rattle.negotiator.specs.Budget.{AreFailing}
 use Rattle.negotiator.specs.Cycle.{Market}
 use Rattle.negotiator.specs.Markets.{AreOwn, market_of}
-use Rattle.negotiator.specs.Settings.{settings_of}
+use Rattle.claim_table.specs.Settings.{settings_of}
 
 abbrev pub stock_in : Scene → Stock
 stock_in scene = stock_of scene.store.now

@@ -14,10 +14,10 @@ ghost use Rattle.negotiator.specs.Budget.{ArePaid, AreWithin, counts, entries_fo
 ghost use Rattle.negotiator.specs.Clusters.{AreClusters};
 ghost use Rattle.negotiator.specs.Cycle.{cycle_from, cycle_of, is_of, offers_in, offers_of, places, spin, users_of, waits};
 ghost use Rattle.negotiator.specs.Markets.{AreOwn, IsPart, free_among, is_free, market_of, spin_named, with_offers};
-ghost use Rattle.negotiator.specs.Priorities.{priority_of};
+ghost use Rattle.claim_table.specs.Priorities.{priority_of};
 ghost use Rattle.negotiator.specs.Queues.{AreQueues};
 ghost use Rattle.negotiator.specs.Scenes.{IsReady, market_in, stock_in, users_at};
-ghost use Rattle.negotiator.specs.Settings.{settings_of};
+ghost use Rattle.claim_table.specs.Settings.{settings_of};
 ghost use Rattle.pie_slices.specs.Slices.{weight_of};
 
 use crate::queues::queues_of;

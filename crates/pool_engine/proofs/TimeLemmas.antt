@@ -31,7 +31,7 @@ use Rattle.pool_replies.specs.Replies.{reply_text}
 use Rattle.pool_engine.specs.Ends.{AnswersFirst, Effects, IsWriteFault, before_last}
 use Rattle.pool_engine.specs.Events.{events_of, replies_text, state_after}
 use Rattle.ad_printer.specs.Values.{printed_frame}
-use Rattle.negotiator.specs.Priorities.{lacks_place}
+use Rattle.claim_table.specs.Priorities.{lacks_place}
 use Rattle.pool_state.specs.Gangs.{gang, gang_names, line}
 use Rattle.pool_state.specs.Ports.{has_bad_ports}
 use Rattle.pool_state.specs.Queue.{has_job, job_refusal, job_text}

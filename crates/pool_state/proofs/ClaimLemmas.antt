@@ -16,7 +16,7 @@ use Rattle.claim_table.specs.declared.answers.Freed.{Freed}
 use Rattle.claim_table.specs.declared.answers.JobFault.{JobFault}
 use Rattle.claim_table.specs.declared.job.Job.{Job}
 use Rattle.claim_table.specs.declared.job.Stage.{Stage}
-use Rattle.negotiator.specs.Priorities.{Setting}
+use Rattle.claim_table.specs.Priorities.{Setting}
 use Rattle.pool_replies.specs.declared.refusal.Refusal.TheVariants as why
 use Rattle.pool_replies.specs.declared.reply.Reply.{Reply}
 use Rattle.pool_replies.specs.declared.reply.Reply.TheVariants as reply

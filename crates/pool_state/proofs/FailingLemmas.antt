@@ -11,7 +11,7 @@ use Rattle.claim_table.specs.Claims as claims
 use Rattle.claim_table.specs.Jobs.{is_named, lists, offer_of, slots_of}
 use Rattle.claim_table.specs.declared.job.Job.{Job}
 use Rattle.claim_table.specs.declared.job.Stage.{Stage}
-use Rattle.negotiator.specs.Priorities.{Setting}
+use Rattle.claim_table.specs.Priorities.{Setting}
 use Rattle.pool_state.specs.Claiming as seen
 use Rattle.pool_state.specs.Pool.{name_in, named_standing, queued}
 use Rattle.pool_state.specs.Queue.{is_job, offer_names}

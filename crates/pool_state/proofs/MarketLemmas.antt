@@ -13,7 +13,7 @@ use Rattle.negotiator.specs.Budget as budget
 use Rattle.negotiator.specs.Cycle.{Market, Offer, PlainSpin, PlainTurn, Waiting, cycle_of, offers_in, offers_of}
 use Rattle.negotiator.specs.Mapped.{offer_mapped, spin_mapped, turn_mapped}
 use Rattle.negotiator.specs.Markets as market
-use Rattle.negotiator.specs.Priorities.{Setting}
+use Rattle.claim_table.specs.Priorities.{Setting}
 use Rattle.negotiator.specs.declared.answers.Spin.{Spin}
 use Rattle.negotiator.proofs.AlikeLemmas.{IsRenamed, cycle-renamed}
 use Rattle.negotiator.proofs.CycleLemmas.{offer}

@@ -11,7 +11,7 @@ use Rattle.bilateral_match.specs.Pool.{Pool}
 use Rattle.gang_ports.specs.Gangs.{gang}
 use Rattle.negotiator.specs.Budget.{narrowed_by, open_by}
 use Rattle.negotiator.specs.Cycle.{Market, Offer, PlainSpin, PlainTurn, Waiting, cycle_of, offers_of}
-use Rattle.negotiator.specs.Priorities.{priority_of}
+use Rattle.claim_table.specs.Priorities.{priority_of}
 use Rattle.pool_replies.specs.declared.reply.Reply.{Reply}
 use Rattle.pool_replies.specs.declared.reply.Reply.TheVariants as reply
 use Rattle.pool_replies.specs.declared.rows.OfferRow.{OfferRow}

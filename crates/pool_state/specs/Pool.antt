@@ -8,8 +8,8 @@ use Rattle.ad_store.specs.Store.{stock_of}
 use Rattle.claim_table.specs.declared.job.Job.{Job}
 use Rattle.claim_table.specs.declared.job.Stage.{Stage}
 use Rattle.claim_table.specs.Table.{jobs_of}
-use Rattle.negotiator.specs.Priorities.{Setting}
-use Rattle.negotiator.specs.Settings.{settings_of}
+use Rattle.claim_table.specs.Priorities.{Setting}
+use Rattle.claim_table.specs.Settings.{settings_of}
 use Rattle.pool_state.specs.declared.books.Books.{Books}
 use Rattle.pool_state.specs.declared.pool.Pool.{Pool}
 use Rattle.pool_state.specs.State.{JobStanding, QueuedJob, State, claimed, idle, matched}

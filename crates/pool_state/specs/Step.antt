@@ -34,7 +34,7 @@ use Rattle.pool_state.specs.Negotiation.{narrowest_for_jobs, negotiate, undecide
 use Rattle.pool_state.specs.Ports.{has_bad_ports}
 use Rattle.pool_state.specs.Queue.{claimed_by, has_job, job_refusal, offered_to, without_job, without_resources}
 use Rattle.pool_state.specs.State.{QueuedJob, State, idle}
-use Rattle.negotiator.specs.Priorities.{lacks_place, with_setting}
+use Rattle.claim_table.specs.Priorities.{lacks_place, with_setting}
 
 -- a refused command changes nothing
 abbrev pub refused : State → Refusal → State × Reply

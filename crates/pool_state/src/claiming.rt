@@ -2,7 +2,7 @@
 ghost use Rattle.std.specs.Prelude.{◌≡◌, ◌≤◌, ◌+◌, ◌*◌, ℕ, List, true, map, Contains, Err, IfOk, IsTrue};
 ghost use Rattle.ad_store.specs.Store.{stock_of};
 ghost use Rattle.claim_table.specs.declared.answers.ClaimFault.TheVariants as faults;
-ghost use Rattle.negotiator.specs.Priorities.{Setting};
+ghost use Rattle.claim_table.specs.Priorities.{Setting};
 ghost use Rattle.pool_replies.specs.Refusals.{is_wrong_state};
 ghost use Rattle.pool_replies.specs.Replies.{is_printable};
 ghost use Rattle.pool_replies.specs.declared.refusal.Refusal.TheVariants as why;

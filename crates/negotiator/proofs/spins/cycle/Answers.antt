@@ -5,7 +5,7 @@ use Rattle.negotiator.specs.declared.queues.Queue.{Queue}
 use Rattle.negotiator.specs.Budget.{counts, is_marked}
 use Rattle.negotiator.specs.Markets.{market_of}
 use Rattle.negotiator.specs.Queues.{AreQueues}
-use Rattle.negotiator.specs.Settings.{settings_of}
+use Rattle.claim_table.specs.Settings.{settings_of}
 use Rattle.negotiator.proofs.BudgetLemmas.{entries-start, evaluations-start, looks-start, none-marked}
 use Rattle.negotiator.proofs.ClusterLemmas.{no-clusters}
 use Rattle.negotiator.proofs.ReadyLemmas.{ready-start}

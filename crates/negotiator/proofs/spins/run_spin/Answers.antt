@@ -1,9 +1,9 @@
 use Rattle.std.proofs.Common.{◌≤◌, ◌<◌, ◌^◌, List, ℕ, All, ap, arith, length, map, subst, sym, ◌∙◌}
 use Rattle.claim_table.specs.Table.{jobs_of}
 use Rattle.negotiator.specs.Budget.{counts}
-use Rattle.negotiator.specs.Priorities.{priority_of}
+use Rattle.claim_table.specs.Priorities.{priority_of}
 use Rattle.negotiator.specs.Scenes.{stock_in, users_at}
-use Rattle.negotiator.specs.Settings.{settings_of}
+use Rattle.claim_table.specs.Settings.{settings_of}
 use Rattle.negotiator.proofs.BudgetLemmas.{within-none}
 use Rattle.negotiator.proofs.SpinLoopLemmas.{few-weights, on_err, part-none, slices-length, spin-part, spin-shown, spin-table}
 use Rattle.pie_slices.specs.Slices.{weight_of}

@@ -3,7 +3,7 @@ use Rattle.ad_store.specs.Store.{stock_of}
 use Rattle.claim_table.specs.Table.{jobs_of}
 use Rattle.negotiator.specs.Cycle.{cycle_of, offers_of}
 use Rattle.negotiator.specs.Markets.{IsPart, market_of, spin_named}
-use Rattle.negotiator.specs.Settings.{settings_of}
+use Rattle.claim_table.specs.Settings.{settings_of}
 use Rattle.pool_state.specs.Ports.{HasOwnPorts}
 use Rattle.pool_state.specs.Rows.{IsSpinHeld}
 use Rattle.pool_state.proofs.DockLemmas.{holders-stored}

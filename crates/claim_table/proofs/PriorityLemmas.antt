@@ -9,7 +9,7 @@ use Rattle.std.proofs.lemmas.Bool.Decides.{nat_tests}
 use Rattle.std.proofs.lemmas.List.Elements.{All-cons, All-head, All-tail}
 use Rattle.std.proofs.lemmas.Slice.Eq.{bytes_eq-Decides}
 use Rattle.indexmap.specs.IndexMap.{insert_entry}
-use Rattle.negotiator.specs.Priorities.{IsInRange, Setting, default_priority, is_of, lacks_place, priority_of, setting_of, settings_limit, with_setting}
+use Rattle.claim_table.specs.Priorities.{IsInRange, Setting, default_priority, is_of, lacks_place, priority_of, setting_of, settings_limit, with_setting}
 
 abbrev Entry : Type 0
 Entry = Vec ℕ Global × ℕ

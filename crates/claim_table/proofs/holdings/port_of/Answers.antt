@@ -1,7 +1,7 @@
 use Rattle.std.proofs.Common.{◌≡◌, ◌∙◌, arith, eqb, get_or, sym}
 use Rattle.std.proofs.lemmas.Bool.Decides.{nat_tests}
 use Rattle.std.proofs.lemmas.List.Sums.{position_or_len_is}
-use Rattle.claim_table.proofs.table.port_of.Goals as goal
+use Rattle.claim_table.proofs.holdings.port_of.Goals as goal
 
 pub returns-then-other-slot : goal.returns-then-other-slot
 returns-then-other-slot c =

@@ -1,7 +1,7 @@
 use Rattle.std.proofs.Common.{ap, sym, ◌∙◌, subst, ◌≤◌, ℕ, unwrap_or}
-use Rattle.negotiator.specs.Settings.{settings_of}
-use Rattle.negotiator.proofs.PriorityLemmas.{in-range, number-is}
-use Rattle.negotiator.proofs.priorities.Priorities.get.Goals as goal
+use Rattle.claim_table.specs.Settings.{settings_of}
+use Rattle.claim_table.proofs.PriorityLemmas.{in-range, number-is}
+use Rattle.claim_table.proofs.priorities.Priorities.get.Goals as goal
 
 pub returns-clause-number : goal.returns-clause-number
 returns-clause-number c =

@@ -1,7 +1,7 @@
 // The priorities of users.
 ghost use Rattle.std.specs.Prelude.{◌≡◌, ◌≤◌, ◌^◌, [], All, IfErr, OnErr, OnOk, false, length, map};
-ghost use Rattle.negotiator.specs.Causes.{IsCause};
-ghost use Rattle.negotiator.specs.Priorities.{IsInRange, lacks_place, priority_of, setting_of, settings_limit, with_setting};
+ghost use Rattle.claim_table.specs.Causes.{IsCause};
+ghost use Rattle.claim_table.specs.Priorities.{IsInRange, lacks_place, priority_of, setting_of, settings_limit, with_setting};
 
 use crate::PriorityFault;
 use indexmap::IndexMap;
@@ -24,7 +24,7 @@ pub struct Priorities {
 }
 
 impl Priorities {
-    ghost use Rattle.negotiator.specs.Settings.{settings_of};
+    ghost use Rattle.claim_table.specs.Settings.{settings_of};
 
     /// No priority is set, which takes no memory yet.
     pub fn new(alloc: Global) -> Priorities

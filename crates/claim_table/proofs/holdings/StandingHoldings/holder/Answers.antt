@@ -2,11 +2,11 @@ use Rattle.std.proofs.Common.{◌≡◌, ◌∙◌, Some, ap, length, refl, slic
 use Rattle.std.proofs.lemmas.Option.{slice_get_read}
 use Rattle.claim_table.specs.Jobs.{IsFilled, claim_of, lists}
 use Rattle.claim_table.proofs.HolderLemmas.{All-found, claimed_lists, claims_enough, stands_at}
-use Rattle.claim_table.proofs.table.ClaimTableHoldings.holder.Goals as goal
+use Rattle.claim_table.proofs.holdings.StandingHoldings.holder.Goals as goal
 
 pub returns-clause-stands : goal.returns-clause-stands
 returns-clause-stands c =
-    let t = c.args.self.now in
+    let t = c.args.self.now.claims.now in
     let i = c.in-Some.i in
     let job = c.index-job.result.now in
     let slots = c.claim-slots.result.now in
@@ -16,7 +16,7 @@ returns-clause-stands c =
 
 pub returns-clause-fills : goal.returns-clause-fills
 returns-clause-fills c =
-    let t = c.args.self.now in
+    let t = c.args.self.now.claims.now in
     let i = c.in-Some.i in
     let job = c.index-job.result.now in
     let at : slice_get t.jobs.items i ≡ Some job = slice_get_read t.jobs.items (length t.jobs.items) i job refl c.in-Some.ensures.within c.index-job.ensures in

@@ -1,7 +1,7 @@
 use Rattle.std.proofs.Common.{map, sym, ◌∙◌, subst, List, length, ◌≤◌, All}
-use Rattle.negotiator.specs.Priorities.{IsInRange, Setting, setting_of, settings_limit}
-use Rattle.negotiator.proofs.PriorityLemmas.{All-with_setting, few-with_setting, either-way}
-use Rattle.negotiator.proofs.priorities.Priorities.set.Goals as goal
+use Rattle.claim_table.specs.Priorities.{IsInRange, Setting, setting_of, settings_limit}
+use Rattle.claim_table.proofs.PriorityLemmas.{All-with_setting, few-with_setting, either-way}
+use Rattle.claim_table.proofs.priorities.Priorities.set.Goals as goal
 
 pub invariant_of-self : goal.invariant_of-self
 invariant_of-self c =

@@ -1,7 +1,7 @@
 use Rattle.std.proofs.Common.{ap, map, ◌∙◌, List, ℕ}
-use Rattle.negotiator.specs.Priorities.{Setting, setting_of, with_setting}
-use Rattle.negotiator.proofs.PriorityLemmas.{set-in-entries}
-use Rattle.negotiator.proofs.priorities.enter.Goals as goal
+use Rattle.claim_table.specs.Priorities.{Setting, setting_of, with_setting}
+use Rattle.claim_table.proofs.PriorityLemmas.{set-in-entries}
+use Rattle.claim_table.proofs.priorities.enter.Goals as goal
 
 pub returns-clause-ok : goal.returns-clause-ok
 returns-clause-ok c =

@@ -163,7 +163,7 @@ module _ (moment : ℕ) (stock : Stock) (settings : List Setting) where
       users = same-users;
       priority = λ user. refl;
       free = λ made p. ap (free_among stock) (offers-ahead base made jobs);
-      find = λ made k p. ap (λ js. found moment stock js k) (offers-ahead base made jobs) ∙ same-resources (found moment stock (with_offers made behind) k);
+      find = λ made k p. ap (λ js. found moment stock settings js k) (offers-ahead base made jobs) ∙ same-resources (found moment stock settings (with_offers made behind) k);
       step = λ user made k slots p w f. tt;
     }
       where

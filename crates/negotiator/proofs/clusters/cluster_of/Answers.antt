@@ -5,12 +5,12 @@ use Rattle.bilateral_match.specs.Alike.{AreAlike}
 use Rattle.claim_table.specs.Table.{jobs_of}
 use Rattle.negotiator.specs.declared.clusters.Cluster.{Cluster}
 use Rattle.negotiator.specs.Clusters.{IsCluster, ad_at}
-use Rattle.negotiator.specs.Scenes.{stock_in}
+use Rattle.negotiator.specs.Scenes.{settings_in, stock_in}
 use Rattle.negotiator.proofs.clusters.cluster_of.Goals as goal
 
 pub has_ad-requires : goal.has_ad-requires
 has_ad-requires c =
-    let one : IsCluster c.args.scene.now.moment (stock_in c.args.scene.now) (jobs_of c.args.claims.now) (get_or c.args.ranked.now c.loop-k.k c.index-ranked-k.result) =
+    let one : IsCluster c.args.scene.now.moment (stock_in c.args.scene.now) (settings_in c.args.scene.now) (jobs_of c.args.claims.now) (get_or c.args.ranked.now c.loop-k.k c.index-ranked-k.result) =
     c.requires c.loop-k.k c.index-ranked-k.result c.loop-k-test.true in
     one.place
 

@@ -16,7 +16,7 @@ use Rattle.claim_table.specs.declared.answers.Freed.{Freed}
 use Rattle.claim_table.specs.declared.answers.JobFault.{JobFault}
 use Rattle.claim_table.specs.declared.job.Job.{Job}
 use Rattle.claim_table.specs.declared.job.Stage.{Stage}
-use Rattle.claim_table.specs.Priorities.{Setting}
+use Rattle.claim_table.specs.Priorities.{Setting, priority_of}
 use Rattle.pool_replies.specs.declared.refusal.Refusal.TheVariants as why
 use Rattle.pool_replies.specs.declared.reply.Reply.{Reply}
 use Rattle.pool_replies.specs.declared.reply.Reply.TheVariants as reply
@@ -167,11 +167,11 @@ module _ (stock : Stock) (moment : ℕ) (settings : List Setting) where
     at-fits : (i : ℕ) (job : Job) (s : Stage) → slice_get jobs i ≡ Some (record job { standing = s }) → is_named name job ≡ true → IsOwned job → list_all (lists stock.slots) (slots_of s) ≡ true
         → names_given name (map (queued stock) jobs) ≡ names_of (named_standing stock s)
         → ◌≡◌ {A = State × Reply} (seen.claim (state_of jobs) name) (seen.claim_as (state_of jobs) (queued stock (record job { standing = s })) (named_standing stock s))
-        → Fits (claims.claimed_at moment stock jobs i (record job { standing = s }))
+        → Fits (claims.claimed_at moment stock settings jobs i (record job { standing = s }))
     at-fits i job Stage.Idle at named alone held given is = (refl, is)
     at-fits i job (Stage.Claimed slots) at named alone held given is = (refl, is)
     at-fits i job (Stage.Matched slots) at named alone held given is =
-        checked-fits i (record job { standing = Stage.Matched slots }) slots at named held given (claims.first_failing moment stock jobs job.request slots)
+        checked-fits i (record job { standing = Stage.Matched slots }) slots at named held given (claims.first_failing moment stock settings jobs (priority_of job.user settings) job.request slots)
         (failing-stored stock beside moment settings jobs stored owned (record job { standing = Stage.Matched slots }) alone slots held)
         (is ∙ ap (seen.checked (state_of jobs) (queued stock (record job { standing = Stage.Matched slots })) (map (name_in stock) slots)) (failing-seen stock beside moment settings jobs stored owned (record job { standing = Stage.Matched slots }) alone slots held))
 
@@ -179,21 +179,21 @@ module _ (stock : Stock) (moment : ℕ) (settings : List Setting) where
     given-one job found =
         ap (λ o. option_map_or (λ (q : QueuedJob). names_of q.standing) o []) (job-seen stock name jobs ∙ ap (option_map (queued stock)) found)
 
-    job-fits : (i : ℕ) (o : Option Job) → slice_get jobs i ≡ o → find (is_named name) jobs ≡ o → Fits (option_map_or (claims.claimed_at moment stock jobs i) o nobody)
+    job-fits : (i : ℕ) (o : Option Job) → slice_get jobs i ≡ o → find (is_named name) jobs ≡ o → Fits (option_map_or (claims.claimed_at moment stock settings jobs i) o nobody)
     job-fits i None at found = claim-found None found
     job-fits i (Some job) at found =
         let holds : IsOwned job × (is_stored stock.slots job ≡ true) = subst (λ (o : Option Job). IfSome o (λ j. IsOwned j × (is_stored stock.slots j ≡ true))) found (found-both stock.slots name jobs stored owned) in
         at-fits i job job.standing at (named-by name jobs job found) holds.0 holds.1 (given-one job found) (claim-found (Some job) found)
 
-    fits : Fits (claims.claimed moment stock name jobs)
+    fits : Fits (claims.claimed moment stock settings name jobs)
     fits = by (numbered name jobs) (found-first (is_named name) jobs)
       where
-        by : (o : Option ℕ) → option_and_then (λ i. slice_get jobs i) o ≡ find (is_named name) jobs → Fits (option_map_or (λ i. option_map_or (claims.claimed_at moment stock jobs i) (slice_get jobs i) nobody) o nobody)
+        by : (o : Option ℕ) → option_and_then (λ i. slice_get jobs i) o ≡ find (is_named name) jobs → Fits (option_map_or (λ i. option_map_or (claims.claimed_at moment stock settings jobs i) (slice_get jobs i) nobody) o nobody)
         by None found = claim-found None (sym found)
         by (Some i) found = job-fits i (slice_get jobs i) refl (sym found)
 
     -- after a claim, whatever it answers
-    pub claim-seen : (answer : Result (List Freed) ClaimFault) (new : List Job) → claims.IsClaimed answer jobs new (claims.claimed moment stock name jobs) → IsClaimAnswer stock (state_of jobs) name (state_of new) answer
+    pub claim-seen : (answer : Result (List Freed) ClaimFault) (new : List Job) → claims.IsClaimed answer jobs new (claims.claimed moment stock settings name jobs) → IsClaimAnswer stock (state_of jobs) name (state_of new) answer
     claim-seen (Ok freed) new same = subst Fits same fits
     claim-seen (Err ClaimFault.NoJob) new same = subst Fits same fits
     claim-seen (Err (ClaimFault.WrongState state)) new same = subst Fits same fits
@@ -202,7 +202,7 @@ module _ (stock : Stock) (moment : ℕ) (settings : List Setting) where
 
 -- ---- and after a claim
 
-module _ (P : Request → Type 0) (moment : ℕ) (stock : Stock) (name : List ℕ) (jobs : List Job) (kept : All (RequestIs P) jobs) where
+module _ (P : Request → Type 0) (moment : ℕ) (stock : Stock) (settings : List Setting) (name : List ℕ) (jobs : List Job) (kept : All (RequestIs P) jobs) where
   abbrev no_job : Answer
   no_job = (Err ClaimFault.NoJob, jobs)
 
@@ -210,26 +210,26 @@ module _ (P : Request → Type 0) (moment : ℕ) (stock : Stock) (name : List �
   checked-kept i slots None = kept-standing P i (Stage.Claimed slots) (claims.all_idle jobs (claims.losers jobs slots)) (kept-idle P (claims.losers jobs slots) jobs kept)
   checked-kept i slots (Some slot) = kept-standing P i Stage.Idle jobs kept
 
-  at-kept : (i : ℕ) (job : Job) (s : Stage) → All (RequestIs P) (claims.claimed_at moment stock jobs i (record job { standing = s })).1
+  at-kept : (i : ℕ) (job : Job) (s : Stage) → All (RequestIs P) (claims.claimed_at moment stock settings jobs i (record job { standing = s })).1
   at-kept i job Stage.Idle = kept
   at-kept i job (Stage.Claimed slots) = kept
-  at-kept i job (Stage.Matched slots) = checked-kept i slots (claims.first_failing moment stock jobs job.request slots)
+  at-kept i job (Stage.Matched slots) = checked-kept i slots (claims.first_failing moment stock settings jobs (priority_of job.user settings) job.request slots)
 
-  job-kept : (i : ℕ) (o : Option Job) → All (RequestIs P) (option_map_or {U = Answer} (claims.claimed_at moment stock jobs i) o no_job).1
+  job-kept : (i : ℕ) (o : Option Job) → All (RequestIs P) (option_map_or {U = Answer} (claims.claimed_at moment stock settings jobs i) o no_job).1
   job-kept i None = kept
   job-kept i (Some job) = at-kept i job job.standing
 
-  claimed-kept : All (RequestIs P) (claims.claimed moment stock name jobs).1
+  claimed-kept : All (RequestIs P) (claims.claimed moment stock settings name jobs).1
   claimed-kept = by (numbered name jobs)
     where
-      by : (o : Option ℕ) → All (RequestIs P) (option_map_or {U = Answer} (λ i. option_map_or (claims.claimed_at moment stock jobs i) (slice_get jobs i) no_job) o no_job).1
+      by : (o : Option ℕ) → All (RequestIs P) (option_map_or {U = Answer} (λ i. option_map_or (claims.claimed_at moment stock settings jobs i) (slice_get jobs i) no_job) o no_job).1
       by None = kept
       by (Some i) = job-kept i (slice_get jobs i)
 
-  after-kept : (answer : Result (List Freed) ClaimFault) (new : List Job) → claims.claimed moment stock name jobs ≡ (answer, new) → All (RequestIs P) new
+  after-kept : (answer : Result (List Freed) ClaimFault) (new : List Job) → claims.claimed moment stock settings name jobs ≡ (answer, new) → All (RequestIs P) new
   after-kept answer new same = subst (All (RequestIs P)) (ap (λ (x : Answer). x.1) same) claimed-kept
 
-  pub claim-kept : (answer : Result (List Freed) ClaimFault) (new : List Job) → claims.IsClaimed answer jobs new (claims.claimed moment stock name jobs) → All (RequestIs P) new
+  pub claim-kept : (answer : Result (List Freed) ClaimFault) (new : List Job) → claims.IsClaimed answer jobs new (claims.claimed moment stock settings name jobs) → All (RequestIs P) new
   claim-kept (Ok freed) new same = after-kept (Ok freed) new same
   claim-kept (Err ClaimFault.NoJob) new same = after-kept (Err ClaimFault.NoJob) new same
   claim-kept (Err (ClaimFault.WrongState state)) new same = after-kept (Err (ClaimFault.WrongState state)) new same

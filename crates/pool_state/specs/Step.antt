@@ -187,7 +187,7 @@ step s (command.Query block) = (s, query s.moment s.ads (ad_outcome block))
 step s (command.Submit job user block) = submit s job user (length block) (ad_outcome block)
 step s (command.Remove job) = remove s job
 step s (command.Priority user n) = set_priority s user n
-step s (command.Gang block) = (s, gang s.moment s.ads s.jobs (ad_outcome block))
+step s (command.Gang block) = (s, gang s.moment s.ads s.priorities s.jobs (ad_outcome block))
 step s command.Negotiate = negotiate s
 step s (command.Claim job) = claim s job
 step s (command.Release job) = release s job
@@ -197,7 +197,7 @@ step s (command.Bad number) = refused s (why.Line number)
 -- how many docks a command meets in a state that literal attributes leave undecided
 unfoldable pub undecided : State → Command → ℕ
 undecided s (command.Query block) = undecided_docks s.ads (ad_outcome block)
-undecided s (command.Gang block) = undecided_for_gang s.moment s.ads s.jobs (ad_outcome block)
+undecided s (command.Gang block) = undecided_for_gang s.moment s.ads s.priorities s.jobs (ad_outcome block)
 undecided s command.Negotiate = undecided_for_jobs s
 undecided s (command.Claim job) = undecided_for_claim s job
 undecided s other = 0

@@ -225,6 +225,7 @@ impl Pool {
             Command::Claim(job) => claim(
                 self.alloc,
                 &mut self.books,
+                &self.priorities,
                 job,
                 self.moment,
                 tops,
@@ -271,6 +272,7 @@ impl Pool {
             Command::Gang(block) => gang(
                 self.alloc,
                 &self.books,
+                &self.priorities,
                 self.moment,
                 block.bytes(),
                 tops,

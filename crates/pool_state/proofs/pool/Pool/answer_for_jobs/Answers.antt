@@ -28,7 +28,7 @@ returns-in-Priority-clause-step g c =
 pub returns-in-Claim-clause-step : goal.returns-in-Claim-clause-step
 unfolding state_of
 returns-in-Claim-clause-step g c =
-    if_ok c.claim.result _ _ (λ reply is. ap (step (state_of c.args.self.now)) c.in-Claim.is ∙ step-Claim (state_of c.args.self.now) c.in-Claim.job ∙ is (settings_of c.args.self.now.priorities)) c.claim.ensures.step
+    if_ok c.claim.result _ _ (λ reply is. ap (step (state_of c.args.self.now)) c.in-Claim.is ∙ step-Claim (state_of c.args.self.now) c.in-Claim.job ∙ is) c.claim.ensures.step
 
 pub returns-in-Claim-clause-cost : goal.returns-in-Claim-clause-cost
 unfolding state_of

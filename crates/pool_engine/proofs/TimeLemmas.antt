@@ -31,7 +31,7 @@ use Rattle.pool_replies.specs.Replies.{reply_text}
 use Rattle.pool_engine.specs.Ends.{AnswersFirst, Effects, IsWriteFault, before_last}
 use Rattle.pool_engine.specs.Events.{events_of, replies_text, state_after}
 use Rattle.ad_printer.specs.Values.{printed_frame}
-use Rattle.claim_table.specs.Priorities.{lacks_place}
+use Rattle.claim_table.specs.Priorities.{Setting, lacks_place}
 use Rattle.pool_state.specs.Gangs.{gang, gang_names, line}
 use Rattle.pool_state.specs.Ports.{has_bad_ports}
 use Rattle.pool_state.specs.Queue.{has_job, job_refusal, job_text}
@@ -236,13 +236,13 @@ query_told : (s : State) (moment : ℕ) (ads : List Advert) (text : List ℕ) (o
 query_told s moment ads text (Ok x) has_outcome = hits_told s _
 query_told s moment ads text (Err fault) has_outcome = text_told s fault (told_fault fault has_outcome.1)
 
-gang_told : (s : State) (moment : ℕ) (ads : List Advert) (jobs : List QueuedJob) (text : List ℕ) (outcome : Result Inline ParseFault) → HasAdOutcome text outcome → IsTold (s, gang moment ads jobs outcome)
-gang_told s moment ads jobs text (Ok x) has_outcome = by (ports_of (ad_of x))
+gang_told : (s : State) (moment : ℕ) (ads : List Advert) (settings : List Setting) (jobs : List QueuedJob) (text : List ℕ) (outcome : Result Inline ParseFault) → HasAdOutcome text outcome → IsTold (s, gang moment ads settings jobs outcome)
+gang_told s moment ads settings jobs text (Ok x) has_outcome = by (ports_of (ad_of x))
   where
-    by : (listed : Option (List Port)) → IsTold (s, option_map_or (λ ports. line (gang_names moment ads jobs (ad_of x) ports)) listed (reply.Refused why.BadPorts))
+    by : (listed : Option (List Port)) → IsTold (s, option_map_or (λ ports. line (gang_names moment ads settings jobs (ad_of x) ports)) listed (reply.Refused why.BadPorts))
     by None = bad_ports_told s
-    by (Some ports) = names_told s (gang_names moment ads jobs (ad_of x) ports)
-gang_told s moment ads jobs text (Err fault) has_outcome = text_told s fault (told_fault fault has_outcome.1)
+    by (Some ports) = names_told s (gang_names moment ads settings jobs (ad_of x) ports)
+gang_told s moment ads settings jobs text (Err fault) has_outcome = text_told s fault (told_fault fault has_outcome.1)
 
 -- the refusal, where there is one, has a text
 abbrev IsRefusalTold : State → Option Refusal → Type 0
@@ -310,7 +310,7 @@ step_told s (command.Query block) = query_told s s.moment s.ads block (ad_outcom
 step_told s (command.Submit job user block) = submit_told s job user block (length block) (ad_outcome block) (ad_outcome-has block)
 step_told s (command.Remove job) = remove_told s job
 step_told s (command.Priority user n) = set_priority_told s user n
-step_told s (command.Gang block) = gang_told s s.moment s.ads s.jobs block (ad_outcome block) (ad_outcome-has block)
+step_told s (command.Gang block) = gang_told s s.moment s.ads s.priorities s.jobs block (ad_outcome block) (ad_outcome-has block)
 step_told s command.Negotiate = cycle_told s _
 step_told s (command.Claim job) = claim_told s job
 step_told s (command.Release job) = release_told s job

@@ -6,25 +6,25 @@ use Rattle.eval_scope.specs.Shown.{world_of}
 use Rattle.ad_eval.specs.Scene.{values_in, world_in}
 use Rattle.ad_eval.specs.Value.{value_with}
 use Rattle.ad_eval.proofs.TopLemmas.{entered-in, few-attributes, ready_new, result_of, scene_values}
-use Rattle.ad_eval.proofs.top.value.Goals as goal
+use Rattle.ad_eval.proofs.top.spend.Goals as goal
 
 pub evaluate-evaluated-requires : goal.evaluate-evaluated-requires
 evaluate-evaluated-requires g c =
-    let s : TheScene = record { alloc = c.args.alloc; world = c.args.world; at = c.args.at; left = 24 } in
+    let s : TheScene = c.args.scene.now in
     ready_new (world_in s) c.new-guard.result (values_in s (tree c.args.expr.now)) c.new-guard.ensures
 
 pub returns-clause-value : goal.returns-clause-value
 returns-clause-value g c =
-    let s : TheScene = record { alloc = c.args.alloc; world = c.args.world; at = c.args.at; left = 24 } in
+    let s : TheScene = c.args.scene.now in
     let e = tree c.args.expr.now in
-    result_of (world_in s) (values_in s e) 24 c.new-guard.result c.evaluate-evaluated.new.guard c.evaluate-evaluated.result c.value_or_error.result (unwrap_or (value_with 24 (world_of c.args.world.now) c.args.at e) error) (ap (λ o. unwrap_or o error) (scene_values s e 24)) c.evaluate-evaluated.ensures.answer c.value_or_error.ensures
+    result_of (world_in s) (values_in s e) s.left c.new-guard.result c.evaluate-evaluated.new.guard c.evaluate-evaluated.result c.value_or_error.result (unwrap_or (value_with s.left (world_of s.world.now) s.at e) error) (ap (λ o. unwrap_or o error) (scene_values s e s.left)) c.evaluate-evaluated.ensures.answer c.value_or_error.ensures
 
 pub returns-clause-entries : goal.returns-clause-entries
 returns-clause-entries g c =
-    let s : TheScene = record { alloc = c.args.alloc; world = c.args.world; at = c.args.at; left = 24 } in
+    let s : TheScene = c.args.scene.now in
     entered-in s c.args.entry.now c.evaluate-evaluated.new.entry c.new-guard.result c.evaluate-evaluated.new.guard c.evaluate-evaluated.ensures.counted
 
 pub returns-clause-ratio : goal.returns-clause-ratio
 returns-clause-ratio g c small =
-    let s : TheScene = record { alloc = c.args.alloc; world = c.args.world; at = c.args.at; left = 24 } in
-    omega (arith, c.tick.ensures, few-attributes c.args.world.now small, entered-in s c.args.entry.now c.evaluate-evaluated.new.entry c.new-guard.result c.evaluate-evaluated.new.guard c.evaluate-evaluated.ensures.counted)
+    let s : TheScene = c.args.scene.now in
+    omega (arith, c.tick.ensures, few-attributes s.world.now small, entered-in s c.args.entry.now c.evaluate-evaluated.new.entry c.new-guard.result c.evaluate-evaluated.new.guard c.evaluate-evaluated.ensures.counted)

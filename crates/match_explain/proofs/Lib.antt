@@ -1,0 +1,4 @@
+mod CountLemmas
+mod FailingLemmas
+mod LawLemmas
+mod ReportLemmas

@@ -8,13 +8,6 @@ use Rattle.ad_store.specs.Stock.{Advert}
 use Rattle.match_explain.specs.Counted.{counted}
 use Rattle.match_explain.specs.Why.{holding, holds_for}
 
--- as many counts as before
-pub counted-length : (bs : List Bool) (ns : List ℕ) → length (counted bs ns) ≡ length ns
-counted-length [] [] = refl
-counted-length [] (n ∷ ns) = refl
-counted-length (b ∷ bs) [] = refl
-counted-length (b ∷ bs) (n ∷ ns) = ap suc (counted-length bs ns)
-
 -- a count that isn't reached yet is as it was
 untouched-suc : (bs : List Bool) (ns : List ℕ) (i : ℕ) → get_or (counted (take i bs) ns) i 0 ≡ get_or ns i 0
 untouched-suc [] [] zero = refl
@@ -42,21 +35,30 @@ next-suc (b ∷ bs) (n ∷ ns) zero within beside = ap (λ rest. one_more b n �
 next-suc (b ∷ bs) (n ∷ ns) (suc i) within beside = ap (λ rest. one_more b n ∷ rest) (next-suc bs ns i (omega (arith, within)) (omega (arith, beside)))
 
 -- the next count
-pub counted-next : (bs : List Bool) (ns : List ℕ) (i : ℕ) → i < length bs → length ns ≡ length bs
+counted-next : (bs : List Bool) (ns : List ℕ) (i : ℕ) → i < length bs → length ns ≡ length bs
     → set (counted (take i bs) ns) i (one_more (get_or bs i false) (get_or (counted (take i bs) ns) i 0)) ≡ counted (take (i + 1) bs) ns
 counted-next bs ns i within beside = rw (add-one i) (next-suc bs ns i within beside)
+
+-- written to its place
+pub counted-now : (bs : List Bool) (ns now : List ℕ) (i n : ℕ) → i < length bs → length ns ≡ length bs → now ≡ counted (take i bs) ns
+    → n ≡ one_more (get_or bs i false) (get_or now i 0) → set now i n ≡ counted (take (i + 1) bs) ns
+counted-now bs ns now i n within beside so_far next =
+    ap (set now i) next
+    ∙ ap (λ (ms : List ℕ). set ms i (one_more (get_or bs i false) (get_or ms i 0))) so_far
+    ∙ counted-next bs ns i within beside
 
 -- a count that isn't reached yet is as it was
 pub untouched : (bs : List Bool) (ns : List ℕ) (i : ℕ) → get_or (counted (take i bs) ns) i 0 ≡ get_or ns i 0
 untouched bs ns i = untouched-suc bs ns i
 
+-- a count of 0 for each
+pub zeros-of : {X : Type 0} (f : X → Tree) (es : List X) → map (λ (e : X). 0) es ≡ map (λ (t : Tree). 0) (map f es)
+zeros-of f [] = refl
+zeros-of f (e ∷ es) = ap (λ rest. 0 ∷ rest) (zeros-of f es)
+
 -- ---- counts over ads
 
 module _ (moment : ℕ) (request : List Frame) where
-  pub none-holds : (ts : List Tree) → map (λ t. 0) ts ≡ map (holding moment request []) ts
-  none-holds [] = refl
-  none-holds (t ∷ ts) = ap (λ rest. 0 ∷ rest) (none-holds ts)
-
   -- no conjunct holds for more ads than there are
   pub holds-few : (ads : List Advert) (ts : List Tree) (k : ℕ) → get_or (map (holding moment request ads) ts) k 0 ≤ length ads
   holds-few ads [] k = omega arith

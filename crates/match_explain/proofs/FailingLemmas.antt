@@ -9,10 +9,6 @@ use Rattle.match_explain.specs.Counted.{against}
 use Rattle.match_explain.specs.Why.{failing, first_failing, holds}
 
 module _ {X : Type 0} (test : X → Bool) where
-  -- the first of what is left of a list
-  by-head : (b : Bool) (o : Option ℕ) → Option ℕ
-  by-head b o = cond b (option_map suc o) (Some 1)
-
   suc-none : (o : Option ℕ) → option_map suc o ≡ None → o ≡ None
   suc-none None is = refl
   suc-none (Some n) is = absurd (cc)
@@ -64,3 +60,6 @@ against-truths w p o is = ap (λ found. option_map_or (λ t. first_failing (hold
     by : (found : Option Tree) → option_map_or (λ t. first_failing (holds w p) (conjuncts t)) found (Some 0) ≡ against found (first_failing (λ b. b) (map (holds w p) (option_map_or conjuncts found [])))
     by None = refl
     by (Some t) = sym (failing-map (λ b. b) (holds w p) (conjuncts t))
+
+pub failing-found : (w : PlainWorld) (p : AdPlace) (t : Tree) → requirement_expr (frames_of_ad w p.ad) p.frame ≡ Some t → failing w p ≡ first_failing (holds w p) (conjuncts t)
+failing-found w p t is = ap (λ found. option_map_or (λ t. first_failing (holds w p) (conjuncts t)) found (Some 0)) is

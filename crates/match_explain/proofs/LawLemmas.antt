@@ -20,7 +20,7 @@ use Rattle.match_explain.specs.declared.report.Verdict.{Verdict}
 use Rattle.match_explain.specs.Why.{failing, first_failing, holds, verdict, verdict_by}
 
 -- a result is the Boolean true
-abbrev truth : Option Plain → Bool
+abbrev pub truth : Option Plain → Bool
 truth o = is_true (unwrap_or o error)
 
 -- ---- chains of `&&`
@@ -62,7 +62,7 @@ alone false = refl
 
 -- an expression is true where each of its conjuncts is
 module _ (at : Pos → Option Plain) (w : PlainWorld) (p : AdPlace) where
-  is_met : Tree → Bool
+  abbrev pub is_met : Tree → Bool
   is_met t = truth (value_by at w p t)
 
   mutual

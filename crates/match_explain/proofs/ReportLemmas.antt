@@ -80,7 +80,7 @@ module _ (moment : ℕ) (request : List Frame) (ads : List Advert) (i : ℕ) (fs
       ∙ (λ k. counted (map (holds_for moment request ((sym it.frames) k)) ts) (so_far k))
       ∙ counts-next moment request ads i it.advert it.here ts
 
-  one-ad : Advert → ℕ
+  abbrev one-ad : Advert → ℕ
   one-ad a = evaluations_for request a.ad
 
   here-is : one-ad (get_or ads i it.advert) ≡ evaluations_for request fs

@@ -1,5 +1,5 @@
 // For how many ads conjuncts hold.
-ghost use Rattle.std.specs.Prelude.{◌≡◌, ◌+◌, ◌<◌, ◌^◌, ℕ, get_or, length, map, IfOk, if◌then◌else◌};
+ghost use Rattle.std.specs.Prelude.{◌≡◌, ◌+◌, ◌<◌, ◌-◌, ◌^◌, ℕ, get_or, length, map, IfOk, if◌then◌else◌};
 ghost use Rattle.match_explain.specs.Counted.{counted};
 
 use ad_tree::Expr;

@@ -52,9 +52,9 @@ pub untouched : (bs : List Bool) (ns : List ℕ) (i : ℕ) → get_or (counted (
 untouched bs ns i = untouched-suc bs ns i
 
 -- a count of 0 for each
-pub zeros-of : {X : Type 0} (f : X → Tree) (es : List X) → map (λ (e : X). 0) es ≡ map (λ (t : Tree). 0) (map f es)
+pub zeros-of : {X : Type 0} (f : X → Tree) (es : List X) → map {B = ℕ} (λ (e : X). 0) es ≡ map {B = ℕ} (λ (t : Tree). 0) (map f es)
 zeros-of f [] = refl
-zeros-of f (e ∷ es) = ap (λ rest. 0 ∷ rest) (zeros-of f es)
+zeros-of f (e ∷ es) = ap (λ (rest : List ℕ). 0 ∷ rest) (zeros-of f es)
 
 -- ---- counts over ads
 

@@ -1,6 +1,6 @@
 -- Verdicts ad by ad, and rows conjunct by conjunct.
-use Rattle.std.proofs.Common.{◌≡◌, ◌∙◌, ap, sym, refl, ℕ, zero, suc, ◌+◌, ◌*◌, ◌<◌, ◌≤◌, add-one, All, List, [], ◌∷◌, ◌++◌, length, map, sum_by, take, get_or, Option, None, Some, option_map, slice_get, subst, arith}
-use Rattle.std.proofs.lemmas.List.{map-append, take_more}
+use Rattle.std.proofs.Common.{◌≡◌, ◌∙◌, ap, sym, refl, ℕ, zero, suc, ◌+◌, ◌*◌, ◌<◌, ◌≤◌, add-one, All, List, [], ◌∷◌, ◌++◌, drop, length, map, sum_by, take, get_or, Option, None, Some, option_map, slice_get, subst, arith}
+use Rattle.std.proofs.lemmas.List.{append-nil, drop_all, map-append, take_all, take_more}
 use Rattle.std.proofs.lemmas.List.Elements.{All-cons, All-tail}
 use Rattle.std.proofs.lemmas.List.Sums.{sum_by_more, sum_by_more_le}
 use Rattle.std.proofs.lemmas.Option.{get_or_from_slice_get, slice_get_within}
@@ -114,3 +114,8 @@ rows-next fs ts ns i t n text old new there beside so_far told added =
 pub rows-all : (fs : List Frame) (f : Tree → ℕ) (ts : List Tree) → rows_of fs ts (map f ts) ≡ map (λ t. record { text = printed (spelled_tree fs t); holds = f t }) ts
 rows-all fs f [] = refl
 rows-all fs f (t ∷ ts) = ap (λ rest. (record { text = printed (spelled_tree fs t); holds = f t }) ∷ rest) (rows-all fs f ts)
+
+-- a list of the same length that is written over another
+pub written-over : {X : Type 0} (old new : List X) (len : ℕ) → length new ≡ length old → len ≡ length old → take len (new ++ drop (length new) old) ≡ new
+written-over old new len same whole =
+    ap (λ rest. take len (new ++ rest)) (drop_all (length new) old (omega (arith, same))) ∙ ap (take len) (append-nil new) ∙ take_all len new (omega (arith, same, whole))

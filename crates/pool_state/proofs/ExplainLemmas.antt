@@ -2,6 +2,7 @@
 use Rattle.std.proofs.Common.{◌≡◌, ◌∙◌, ap, sym, ℕ, zero, suc, ◌+◌, ◌++◌, add-one, take, ◌<◌, ◌≤◌, All, List, [], ◌∷◌, length, map, Option, None, Some, option_map, slice_get, subst, refl, arith}
 use Rattle.std.specs.Option.{option_and_then, option_map_or}
 use Rattle.std.proofs.lemmas.List.Elements.{All-head, All-tail}
+use Rattle.std.proofs.lemmas.Option.{none-some, same_Some}
 use Rattle.ad_store.specs.Stock.{Advert, Stock}
 use Rattle.ad_tree.specs.Ad.{ad_frames}
 use Rattle.ad_tree.specs.Small.{IsSmall}
@@ -34,13 +35,13 @@ requests : (jobs : List Job) (i : ℕ) (request : Request) → option_map (λ (j
 requests jobs i request is = by (slice_get jobs i) refl is
   where
     by : (o : Option Job) → slice_get jobs i ≡ o → option_map (λ (job : Job). job.request) o ≡ Some request → Requests jobs i request
-    by None there is = absurd (cc)
-    by (Some job) there is = record { job = job; at = there; request_is = cc }
+    by None there is = absurd (none-some request is)
+    by (Some job) there is = record { job = job; at = there; request_is = same_Some job.request request is }
 
 -- what holds of all holds of the one at a place
 at-place : (P : Job → Type 0) (jobs : List Job) (i : ℕ) (job : Job) → All P jobs → slice_get jobs i ≡ Some job → P job
-at-place P [] i job each at = absurd (cc)
-at-place P (j ∷ jobs) zero job each at = let same : j ≡ job = cc in subst P same (All-head P j jobs each)
+at-place P [] i job each at = absurd (none-some job at)
+at-place P (j ∷ jobs) zero job each at = subst P (same_Some j job at) (All-head P j jobs each)
 at-place P (j ∷ jobs) (suc i) job each at = at-place P jobs i job (All-tail P j jobs each) at
 
 -- no job has the name
@@ -88,7 +89,7 @@ module _ (stock : Stock) (jobs : List Job) (owned : All IsOwned jobs) (name : Li
       same = sym (ap (option_map (λ (job : Job). job.name)) it.at) ∙ names
 
       named : it.job.name ≡ called
-      named = cc
+      named = same_Some it.job.name called same
 
   pub evaluations-single : request.ports ≡ [] → explained_evaluations stock.ads (map (queued stock) jobs) name ≡ evaluations_most (ad_frames request.ad) stock.ads
   evaluations-single single =

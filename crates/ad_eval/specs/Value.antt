@@ -36,3 +36,10 @@ evaluation w p e = unwrap_or (value_with references w p e) error
 
 abbrev pub evaluation_at : PlainWorld → Pos → Plain
 evaluation_at w s = unwrap_or (value_at references w s) error
+
+-- the value of a part of an attribute's expression, whose reference to the attribute is spent: Error as a whole where the other references don't suffice
+abbrev pub inner_references : ℕ
+inner_references = 23
+
+abbrev pub inner_evaluation : PlainWorld → AdPlace → Tree → Plain
+inner_evaluation w p e = unwrap_or (value_with inner_references w p e) error

@@ -19,4 +19,4 @@ mod top;
 pub use laws::{
     circles_have_no_value, equal_worlds_are_evaluated_alike, more_references_keep_a_value,
 };
-pub use top::{dock, rank, requirement, value};
+pub use top::{dock, inner, rank, requirement, value};

@@ -1,7 +1,7 @@
 // Whole evaluations: of an expression, a requirement, a rank and a dock.
-ghost use Rattle.std.specs.Prelude.{◌≡◌, ◌≤◌, ◌+◌, ◌*◌, option_map, IfOk, IfSome, IsSome};
+ghost use Rattle.std.specs.Prelude.{◌≡◌, ◌≤◌, ◌+◌, ◌*◌, option_map, unwrap_or, IfOk, IfSome, IsSome};
 ghost use Rattle.ad_value.specs.Logic.{is_true};
-ghost use Rattle.ad_value.specs.Plain.{Plain, plain};
+ghost use Rattle.ad_value.specs.Plain.{Plain, error, plain};
 ghost use Rattle.ad_tree.specs.Special.{requirement_of};
 ghost use Rattle.ad_tree.specs.Tree.{tree};
 ghost use Rattle.eval_scope.specs.Shown.{world_of};
@@ -9,7 +9,7 @@ ghost use Rattle.eval_scope.specs.World.{attribute_count, expr_of, frames_of_ad}
 ghost use Rattle.ad_eval.specs.Answered.{IsValueOrError};
 ghost use Rattle.ad_eval.specs.Dock.{attribute_of, is_docked, meets_requirement, rank_by, rank_number};
 ghost use Rattle.ad_eval.specs.Small.{AreSmall};
-ghost use Rattle.ad_eval.specs.Value.{evaluation, evaluation_at};
+ghost use Rattle.ad_eval.specs.Value.{evaluation, evaluation_at, inner_evaluation, value_with};
 
 use crate::evaluation::{attribute, evaluate};
 use crate::outcome::Outcome;
@@ -26,6 +26,9 @@ use std::sync::ledger::Ledger;
 
 /// An evaluation has so many references to spend.
 const REFERENCES: u32 = 24;
+
+/// What an attribute's expression has of them, since the reference to the attribute is the first.
+const INNER_REFERENCES: u32 = 23;
 
 /// The value of an expression that stands in the frame `at`. A reference, selection or subscript that finds an attribute
 /// spends one of 24 references, and the attribute has what is left; an evaluation that demands more is Error as a whole, as
@@ -45,17 +48,39 @@ pub fn value<F: Ledger, E: Ledger>(
     ensures entries { entry.new ≤ entry.old + attribute_count (world_of world.now) }
     ensures ratio { AreSmall (world_of world.now) → entry.new + 9216 * tops.old ≤ entry.old + 9216 * tops.new }
 {
-    tops.tick();
     let scene = Scene {
         alloc,
         world,
         at,
         left: REFERENCES,
     };
-    let mut guard = Guard::new(alloc);
-    let evaluated = evaluate(&scene, &mut guard, entry, expr);
-    drop(guard);
-    value_or_error(evaluated)
+    spend(&scene, expr, tops, entry)
+}
+
+/// The value of a part of an attribute's expression, as the value of the attribute demands it: one of the 24 references is
+/// spent already, and 23 are left. It stands in the frame `at`, and is Error as a whole where it demands more.
+///
+/// It counts one in `tops`, and in `entry` each attribute that is entered.
+pub fn inner<F: Ledger, E: Ledger>(
+    alloc: Global,
+    world: &World<'_>,
+    at: AdPlace,
+    expr: &Expr,
+    tops: &mut Steps<F>,
+    entry: &mut Steps<E>,
+) -> Result<Value, OutOfMemory>
+    ensures value { IfOk result (λ v. plain v ≡ inner_evaluation (world_of world.now) at (tree expr.now)) }
+    ensures evaluations { tops.new ≡ tops.old + 1 }
+    ensures entries { entry.new ≤ entry.old + attribute_count (world_of world.now) }
+    ensures ratio { AreSmall (world_of world.now) → entry.new + 9216 * tops.old ≤ entry.old + 9216 * tops.new }
+{
+    let scene = Scene {
+        alloc,
+        world,
+        at,
+        left: INNER_REFERENCES,
+    };
+    spend(&scene, expr, tops, entry)
 }
 
 /// Whether the requirement of the frame `at` is the Boolean true: its attribute `Requirements`, or else `Constraint`, which
@@ -119,6 +144,26 @@ pub fn dock<F: Ledger, E: Ledger>(
         return Ok(false);
     }
     requirement(alloc, world, world.resource_place(), tops, entry)
+}
+
+// The value of an expression with the references that the scene has left, Error where it demands more.
+fn spend<F: Ledger, E: Ledger>(
+    scene: &Scene<'_>,
+    expr: &Expr,
+    tops: &mut Steps<F>,
+    entry: &mut Steps<E>,
+) -> Result<Value, OutOfMemory>
+    ensures value { IfOk result (λ v. plain v
+        ≡ unwrap_or (value_with scene.now.left (world_of scene.now.world.now) scene.now.at (tree expr.now)) error) }
+    ensures evaluations { tops.new ≡ tops.old + 1 }
+    ensures entries { entry.new ≤ entry.old + attribute_count (world_of scene.now.world.now) }
+    ensures ratio { AreSmall (world_of scene.now.world.now) → entry.new + 9216 * tops.old ≤ entry.old + 9216 * tops.new }
+{
+    tops.tick();
+    let mut guard = Guard::new(scene.alloc);
+    let evaluated = evaluate(scene, &mut guard, entry, expr);
+    drop(guard);
+    value_or_error(evaluated)
 }
 
 // The value of an attribute.

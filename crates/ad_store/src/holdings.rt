@@ -1,13 +1,15 @@
 // Who holds resources.
 use ad_tree::Request;
 
-/// Who holds a resource, and at which port: at 0 for a single job, else from 0. There is one slot for each port of the
-/// request, or one where it has no ports, and the resource stands at `port` among them.
+/// Who holds a resource, at which port, and the priority number of the holder's user: at port 0 for a single job, else
+/// from 0. There is one slot for each port of the request, or one where it has no ports, and the resource stands at
+/// `port` among them.
 #[derive(Clone, Copy)]
 pub struct Held<'a> {
     pub request: &'a Request,
     pub slots: &'a [usize],
     pub port: u32,
+    pub number: u64,
 }
 
 /// What is known of the resources' offers and claims, by their slots.

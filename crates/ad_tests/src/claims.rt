@@ -1,7 +1,7 @@
 // Jobs at their limit of text, and a gang that is offered resources, gives them back, loses them and leaves.
 ghost use Rattle.std.specs.Prelude.{◌≡◌, [], ◌∷◌, IfOk, length};
 ghost use Rattle.claim_table.specs.Table.{jobs_of};
-ghost use Rattle.claim_table.specs.declared.job.Standing.{Standing};
+ghost use Rattle.claim_table.specs.declared.job.Stage.{Stage};
 
 use ad_store::Holdings;
 use ad_tree::{Draft, Port, Ports, Request};
@@ -43,7 +43,7 @@ fn gang(alloc: Global) -> Result<Request, OutOfMemory>
 
 // A table with one job, which is idle.
 fn with_job(alloc: Global, request: Request) -> Result<ClaimTable, SubmitFault>
-    ensures { IfOk result (λ table. jobs_of table ≡ (record { name = 103 ∷ []; user = 117 ∷ []; text_len = 9; request = request; standing = Standing.Idle }) ∷ []) }
+    ensures { IfOk result (λ table. jobs_of table ≡ (record { name = 103 ∷ []; user = 117 ∷ []; text_len = 9; request = request; standing = Stage.Idle }) ∷ []) }
 {
     let mut table = ClaimTable::new(alloc);
     table.submit(b"g", b"u", request, 9)?;
@@ -133,18 +133,29 @@ fn assert_offered(rt: &impl Abort, table: &ClaimTable) {
     assert_state(rt, table, b"g", Some(JobState::Matched));
     assert_slots(rt, table.slots(b"g"), &[3, 5]);
     assert!(rt; table.offered_to(5) == Some(0));
-    assert!(rt; !table.offered(4));
     assert!(rt; table.claimed_by(5).is_none());
-    assert!(rt; table.holder(5).is_none());
+}
+
+// What a search is told: the slot 4 is not offered, and nobody holds the slot 5.
+fn assert_told(rt: &impl Abort, alloc: Global, table: &ClaimTable) {
+    let priorities = Priorities::new(alloc);
+    let standing = Standing {
+        claims: table,
+        priorities: &priorities,
+    };
+    assert!(rt; standing.offered(5));
+    assert!(rt; !standing.offered(4));
+    assert!(rt; standing.holder(5).is_none());
 }
 
 #[test]
 fn an_offer_is_given_back(rt: HostRuntime) -> Result<(), Fail> {
     let mut table = with_offer(rt.alloc())?;
     assert_offered(&rt, &table);
+    assert_told(&rt, rt.alloc(), &table);
     let slots = table.release(b"g")?;
     assert_slots(&rt, slots.as_slice(), &[3, 5]);
-    assert!(rt; !table.offered(5));
+    assert!(rt; table.offered_to(5).is_none());
     let fault = table.release(b"g").err();
     assert_eq!(rt; fault, Some(JobFault::WrongState(JobState::Idle)));
     Ok(())

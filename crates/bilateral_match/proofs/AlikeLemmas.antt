@@ -1,5 +1,5 @@
 -- Ads that are alike dock with the same resources, rank them alike and are ranked alike: so the same resource is best for both.
-use Rattle.std.proofs.Common.{◌≡◌, ◌++◌, ℕ, ℤ, pos, zero, suc, Bool, false, true, not, ◌&&◌, int_lt, List, [], ◌∷◌, length, map, position, slice_get, Option, None, Some, is_some, if◌then◌else◌, refl, ap, ◌∙◌}
+use Rattle.std.proofs.Common.{◌≡◌, ◌++◌, ℕ, ℤ, pos, zero, suc, Bool, false, true, not, ◌&&◌, List, [], ◌∷◌, length, map, position, slice_get, Option, None, Some, if◌then◌else◌, refl, ap, ◌∙◌}
 use Rattle.std.specs.Prelude.{codes, option_and_then, option_map, unwrap_or}
 use Rattle.std.specs.List.{cons_option}
 use Rattle.std.specs.Option.{option_map_or, option_or}
@@ -23,8 +23,8 @@ use Rattle.ad_value.specs.Logic.{is_true}
 use Rattle.builtin_funcs.specs.Calls.{call_value, is_known}
 use Rattle.bilateral_match.specs.declared.member.Member.{Member}
 use Rattle.bilateral_match.specs.Docks.{docks, pair_world, rank_of_dock}
-use Rattle.bilateral_match.specs.Members.{best_slot, first_of, member_with, members_from, regard}
-use Rattle.bilateral_match.specs.Pool.{Pool, regard_in, slot_at}
+use Rattle.bilateral_match.specs.Members.{best_slot, first_of, is_yielded, member_with, members_from, preemption_of, regard}
+use Rattle.bilateral_match.specs.Pool.{Pool, slot_at}
 use Rattle.bilateral_match.specs.Alike.{AreAlike}
 
 upward-same : (fs gs : List Frame) → ((f : ℕ) → parent_of fs f ≡ parent_of gs f) → (n : ℕ) (o : Option ℕ) → upward n fs o ≡ upward n gs o
@@ -177,23 +177,23 @@ module _ (moment : ℕ) (a b : List Frame) (alike : AreAlike a b) (ad : List Fra
 
 -- ---- the members
 
-module _ (pool : Pool) (a b : List Frame) (alike : AreAlike a b) where
+module _ (pool : Pool) (number : ℕ) (a b : List Frame) (alike : AreAlike a b) where
   -- a resource that docks or doesn't, with its ranks
   abbrev ranked_member : ℕ → Advert → Bool → ℤ → ℤ → Option Member
   ranked_member k advert docked rank given =
-      if is_live pool.moment advert && (not (pool.is_offered k) && (docked && option_map_or (λ world. int_lt (regard_in world) given) (pool.held_in k) true))
-      then Some (record { rank = rank; claimed = is_some (pool.held_in k); regard = given; place = k })
+      if is_live pool.moment advert && (not (pool.is_offered k) && (docked && is_yielded number given (pool.held_in k)))
+      then Some (record { rank = rank; preemption = preemption_of given (pool.held_in k); regard = given; place = k })
       else None
 
-  member-same : (k : ℕ) (advert : Advert) → member_with pool a k advert ≡ member_with pool b k advert
+  member-same : (k : ℕ) (advert : Advert) → member_with pool a number k advert ≡ member_with pool b number k advert
   member-same k advert =
       ap (λ d. ranked_member k advert d (rank_of_dock pool.moment a advert.ad) (regard pool.moment a advert.ad)) (docks-same pool.moment a b alike advert.ad)
       ∙ ap (λ r. ranked_member k advert (docks pool.moment b advert.ad) r (regard pool.moment a advert.ad)) (rank-same pool.moment a b alike advert.ad (request_side (pair_world pool.moment a advert.ad)))
       ∙ ap (ranked_member k advert (docks pool.moment b advert.ad) (rank_of_dock pool.moment b advert.ad)) (rank-same pool.moment a b alike advert.ad (resource_side (pair_world pool.moment a advert.ad)))
 
-  members-same : (k : ℕ) (ads : List Advert) → members_from pool a k ads ≡ members_from pool b k ads
+  members-same : (k : ℕ) (ads : List Advert) → members_from pool a number k ads ≡ members_from pool b number k ads
   members-same k [] = refl
-  members-same k (advert ∷ ads) = ap (λ m. cons_option m (members_from pool a (suc k) ads)) (member-same k advert) ∙ ap (cons_option (member_with pool b k advert)) (members-same (suc k) ads)
+  members-same k (advert ∷ ads) = ap (λ m. cons_option m (members_from pool a number (suc k) ads)) (member-same k advert) ∙ ap (cons_option (member_with pool b number k advert)) (members-same (suc k) ads)
 
-  pub best-same : (stock : Stock) → best_slot stock pool a ≡ best_slot stock pool b
+  pub best-same : (stock : Stock) → best_slot stock pool a number ≡ best_slot stock pool b number
   best-same stock = ap (λ ms. option_map (λ (m : Member). slot_at stock m.place) (first_of ms)) (members-same 0 pool.ads)

@@ -188,10 +188,10 @@ noted moment ads expr ranks place None request ad are at is some same settled = 
 noted moment ads expr ranks place (Some r) request ad are at is some same settled = one-noted moment ads expr ranks place r request ad are at is same settled
 
 -- a resource whose rank is known not to reach the bar is no member above it
-module _ (pool : Pool) (request : List Frame) (place : ℕ) (bar : Option ℤ) where
+module _ (pool : Pool) (request : List Frame) (number place : ℕ) (bar : Option ℤ) where
   low : (advert : Advert) (rank : ℤ) → rank_of_dock pool.moment request advert.ad ≡ rank → not (reaches bar rank) ≡ true
-      → None ≡ member_above bar (member_with pool request place advert)
-  low advert rank is under = by (is_member pool request place advert) (reaches bar rank) refl under
+      → None ≡ member_above bar (member_with pool request number place advert)
+  low advert rank is under = by (is_member pool request number place advert) (reaches bar rank) refl under
     where
       by : (member high : Bool) → reaches bar rank ≡ high → not high ≡ true
           → None ≡ member_above bar (if member then Some (as_member pool request place advert) else None)
@@ -200,11 +200,11 @@ module _ (pool : Pool) (request : List Frame) (place : ℕ) (bar : Option ℤ) w
       by true false e under = sym (ap (λ (c : Bool). if c then Some (as_member pool request place advert) else None) (ap (reaches bar) is ∙ e))
 
   pub below-known : (ranks : List (Option ℤ)) → AreRanks pool.moment pool.ads (rank_expr request) ranks → is_known_below bar (known_at ranks place) ≡ true
-      → None ≡ member_above bar (member_at pool request place)
+      → None ≡ member_above bar (member_at pool request number place)
   below-known ranks are under = by (slice_get ranks place) (slice_get pool.ads place) refl refl under
     where
       by : (known : Option (Option ℤ)) (there : Option Advert) → slice_get ranks place ≡ known → slice_get pool.ads place ≡ there
-          → is_known_below bar (option_and_then (λ rank. rank) known) ≡ true → None ≡ member_above bar (option_and_then (member_with pool request place) there)
+          → is_known_below bar (option_and_then (λ rank. rank) known) ≡ true → None ≡ member_above bar (option_and_then (member_with pool request number place) there)
       by None there e at under = absurd (cc)
       by (Some None) there e at under = absurd (cc)
       by (Some (Some rank)) None e at under = refl

@@ -1,7 +1,7 @@
 -- Members in order: the first of them, whatever the order in which they come.
 use Rattle.std.proofs.Common.{◌≡◌, ◌+◌, ℕ, suc, Bool, true, false, refl, List, [], ◌∷◌, ◌++◌, cond, sum_by, Option, None, Some, if◌then◌else◌, All, Contains, ap, sym, ◌∙◌, subst, arith, zero-add, ℤ, Less, Equal, Greater}
-use Rattle.std.specs.Cmp.{IsTotalOrder, IsStrictWeakOrder, bool_cmp_total}
-use Rattle.std.specs.Ordering.{bool_cmp, int_cmp, is_lt, nat_cmp, ordering_reverse, ordering_then}
+use Rattle.std.specs.Cmp.{IsTotalOrder, IsStrictWeakOrder}
+use Rattle.std.specs.Ordering.{int_cmp, is_lt, nat_cmp, ordering_reverse, ordering_then}
 use Rattle.std.specs.declared.cmp.Ordering.{Ordering}
 use Rattle.std.specs.List.{cons_option}
 use Rattle.std.proofs.lemmas.Cmp.{back_total, int_cmp_total, int_ranked, nat_cmp_total, on_total, ranked, then_total}
@@ -9,7 +9,8 @@ use Rattle.std.proofs.lemmas.List.Elements.{All-append, All-cons, All-contains, 
 use Rattle.std.proofs.lemmas.List.Sorted.{ranks_by}
 use Rattle.std.proofs.lemmas.List.Sums.{sum_by-cons}
 use Rattle.bilateral_match.specs.declared.member.Member.{Member}
-use Rattle.bilateral_match.specs.Members.{IsBest, IsFirst, earlier, first_of, member_order}
+use Rattle.bilateral_match.specs.declared.member.Preemption.{Preemption}
+use Rattle.bilateral_match.specs.Members.{IsBest, IsFirst, earlier, first_of, member_order, order_of}
 
 -- ---- the order
 
@@ -17,7 +18,7 @@ member_total : IsTotalOrder member_order
 member_total =
     then_total
     (then_total
-    (then_total (back_total (on_total (λ (m : Member). m.rank) int_cmp_total)) (on_total (λ (m : Member). m.claimed) bool_cmp_total))
+    (then_total (back_total (on_total (λ (m : Member). m.rank) int_cmp_total)) (on_total (λ (m : Member). order_of m.preemption) nat_cmp_total))
     (back_total (on_total (λ (m : Member). m.regard) int_cmp_total)))
     (on_total (λ (m : Member). m.place) nat_cmp_total)
 
@@ -41,25 +42,30 @@ whole r c s p = ordering_then (ordering_then (ordering_then r c) s) p
 
 -- two members of which neither is before the other are one
 ties-are-one : (a b : Member) → NotBefore b a → NotBefore a b → a ≡ b
-ties-are-one a b h k = by (int_cmp b.rank a.rank) (bool_cmp a.claimed b.claimed) (int_cmp b.regard a.regard) (nat_cmp a.place b.place) refl refl refl refl h (turned (member_order a b) (member_order b a) (member_total.antisymm b a) k)
+ties-are-one a b h k = by (int_cmp b.rank a.rank) (nat_cmp (order_of a.preemption) (order_of b.preemption)) (int_cmp b.regard a.regard) (nat_cmp a.place b.place) refl refl refl refl h (turned (member_order a b) (member_order b a) (member_total.antisymm b a) k)
   where
     turned : (r s : Ordering) → s ≡ ordering_reverse r → is_lt s ≡ false → r ≡ Greater → ⊥
     turned r s e f g = let same : s ≡ Less = e ∙ ap ordering_reverse g in let other : true ≡ false = sym (ap is_lt same) ∙ f in cc
 
-    claims : (x y : Bool) → bool_cmp x y ≡ Equal → x ≡ y
-    claims true true e = refl
-    claims true false e = absurd (cc)
-    claims false true e = absurd (cc)
-    claims false false e = refl
+    origins : (x y : Preemption) → order_of x ≡ order_of y → x ≡ y
+    origins Preemption.No Preemption.No e = refl
+    origins Preemption.No Preemption.ByRank e = absurd (omega (arith, e))
+    origins Preemption.No Preemption.ByPriority e = absurd (omega (arith, e))
+    origins Preemption.ByRank Preemption.No e = absurd (omega (arith, e))
+    origins Preemption.ByRank Preemption.ByRank e = refl
+    origins Preemption.ByRank Preemption.ByPriority e = absurd (omega (arith, e))
+    origins Preemption.ByPriority Preemption.No e = absurd (omega (arith, e))
+    origins Preemption.ByPriority Preemption.ByRank e = absurd (omega (arith, e))
+    origins Preemption.ByPriority Preemption.ByPriority e = refl
 
-    same_parts : b.rank ≡ a.rank → a.claimed ≡ b.claimed → b.regard ≡ a.regard → a.place ≡ b.place → a ≡ b
-    same_parts ranks claimed regards places =
-        ap (λ (r : ℤ). let m : Member = record { rank = r; claimed = a.claimed; regard = a.regard; place = a.place } in m) (sym ranks)
-        ∙ ap (λ (c : Bool). let m : Member = record { rank = b.rank; claimed = c; regard = a.regard; place = a.place } in m) claimed
-        ∙ ap (λ (r : ℤ). let m : Member = record { rank = b.rank; claimed = b.claimed; regard = r; place = a.place } in m) (sym regards)
-        ∙ ap (λ (p : ℕ). let m : Member = record { rank = b.rank; claimed = b.claimed; regard = b.regard; place = p } in m) places
+    same_parts : b.rank ≡ a.rank → a.preemption ≡ b.preemption → b.regard ≡ a.regard → a.place ≡ b.place → a ≡ b
+    same_parts ranks preemptions regards places =
+        ap (λ (r : ℤ). let m : Member = record { rank = r; preemption = a.preemption; regard = a.regard; place = a.place } in m) (sym ranks)
+        ∙ ap (λ (p : Preemption). let m : Member = record { rank = b.rank; preemption = p; regard = a.regard; place = a.place } in m) preemptions
+        ∙ ap (λ (r : ℤ). let m : Member = record { rank = b.rank; preemption = b.preemption; regard = r; place = a.place } in m) (sym regards)
+        ∙ ap (λ (p : ℕ). let m : Member = record { rank = b.rank; preemption = b.preemption; regard = b.regard; place = p } in m) places
 
-    by : (r c s p : Ordering) → int_cmp b.rank a.rank ≡ r → bool_cmp a.claimed b.claimed ≡ c → int_cmp b.regard a.regard ≡ s → nat_cmp a.place b.place ≡ p
+    by : (r c s p : Ordering) → int_cmp b.rank a.rank ≡ r → nat_cmp (order_of a.preemption) (order_of b.preemption) ≡ c → int_cmp b.regard a.regard ≡ s → nat_cmp a.place b.place ≡ p
         → is_lt (whole r c s p) ≡ false → (whole r c s p ≡ Greater → ⊥) → a ≡ b
     by Less c s p e f g i low high = absurd (cc)
     by Greater c s p e f g i low high = absurd (high refl)
@@ -70,7 +76,7 @@ ties-are-one a b h k = by (int_cmp b.rank a.rank) (bool_cmp a.claimed b.claimed)
     by Equal Equal Equal Less e f g i low high = absurd (cc)
     by Equal Equal Equal Greater e f g i low high = absurd (high refl)
     by Equal Equal Equal Equal e f g i low high =
-        same_parts (int_ranked b.rank a.rank Equal (sym e)) (claims a.claimed b.claimed f) (int_ranked b.regard a.regard Equal (sym g)) (ranked a.place b.place Equal (sym i))
+        same_parts (int_ranked b.rank a.rank Equal (sym e)) (origins a.preemption b.preemption (ranked (order_of a.preemption) (order_of b.preemption) Equal (sym f))) (int_ranked b.regard a.regard Equal (sym g)) (ranked a.place b.place Equal (sym i))
 
 -- ---- one more member
 

@@ -25,25 +25,25 @@ module _ (pool : Pool) (request : List Frame) where
   nothing-won true false won = refl
   nothing-won false free won = refl
 
-  no-member : (place : ℕ) (advert : Advert) → is_undecided request advert.ad ≡ false → member_with pool request place advert ≡ None
-  no-member place advert decided =
+  no-member : (number place : ℕ) (advert : Advert) → is_undecided request advert.ad ≡ false → member_with pool request number place advert ≡ None
+  no-member number place advert decided =
       ap (λ (b : Bool). if b then Some (as_member pool request place advert) else None)
-      (ap (λ (d : Bool). is_live pool.moment advert && (not (pool.is_offered place) && (d && is_won pool request place advert.ad))) (decided-docks pool.moment request advert.ad decided)
-      ∙ nothing-won (is_live pool.moment advert) (not (pool.is_offered place)) (is_won pool request place advert.ad))
+      (ap (λ (d : Bool). is_live pool.moment advert && (not (pool.is_offered place) && (d && is_won pool request number place advert.ad))) (decided-docks pool.moment request advert.ad decided)
+      ∙ nothing-won (is_live pool.moment advert) (not (pool.is_offered place)) (is_won pool request number place advert.ad))
 
   not-open : (place : ℕ) (advert : Advert) → is_undecided request advert.ad ≡ false → is_open pool request place advert ≡ false
   not-open place advert decided = ap (λ (b : Bool). b && not (pool.is_offered place)) decided
 
   -- ---- sums over all ads
 
-  members-total : (f : Member → ℕ) (k : ℕ) (ads : List Advert) → sum_by f (members_from pool request k ads) ≡ sum_from (λ place a. option_map_or f (member_with pool request place a) 0) k ads
-  members-total f k [] = refl
-  members-total f k (a ∷ ads) = by (members-total f (suc k) ads) (member_with pool request k a)
+  members-total : (number : ℕ) (f : Member → ℕ) (k : ℕ) (ads : List Advert) → sum_by f (members_from pool request number k ads) ≡ sum_from (λ place a. option_map_or f (member_with pool request number place a) 0) k ads
+  members-total number f k [] = refl
+  members-total number f k (a ∷ ads) = by (members-total number f (suc k) ads) (member_with pool request number k a)
     where
-      by : sum_by f (members_from pool request (suc k) ads) ≡ sum_from (λ place a. option_map_or f (member_with pool request place a) 0) (suc k) ads → (o : Option Member)
-          → sum_by f (cons_option o (members_from pool request (suc k) ads)) ≡ option_map_or f o 0 + sum_from (λ place a. option_map_or f (member_with pool request place a) 0) (suc k) ads
-      by behind None = behind ∙ sym (zero-add (sum_from (λ place a. option_map_or f (member_with pool request place a) 0) (suc k) ads))
-      by behind (Some m) = sum_by-cons f m (members_from pool request (suc k) ads) ∙ ap (λ n. f m + n) behind
+      by : sum_by f (members_from pool request number (suc k) ads) ≡ sum_from (λ place a. option_map_or f (member_with pool request number place a) 0) (suc k) ads → (o : Option Member)
+          → sum_by f (cons_option o (members_from pool request number (suc k) ads)) ≡ option_map_or f o 0 + sum_from (λ place a. option_map_or f (member_with pool request number place a) 0) (suc k) ads
+      by behind None = behind ∙ sym (zero-add (sum_from (λ place a. option_map_or f (member_with pool request number place a) 0) (suc k) ads))
+      by behind (Some m) = sum_by-cons f m (members_from pool request number (suc k) ads) ∙ ap (λ n. f m + n) behind
 
   five-times : (k : ℕ) (ads : List Advert) → sum_from (λ place a. if is_open pool request place a then 5 else 0) k ads ≡ 5 * sum_from (λ place a. if is_open pool request place a then 1 else 0) k ads
   five-times k [] = refl
@@ -59,18 +59,18 @@ module _ (pool : Pool) (request : List Frame) where
   -- ---- over the candidates
 
   module _ (places : List ℕ) (some : AreCandidates request pool.ads places) where
-    pub found-members : (f : Member → ℕ) → sum_by f (filter_map (member_at pool request) places) ≡ sum_by f (members pool request)
-    found-members f =
-        sum-filter_map f (member_at pool request) places
+    pub found-members : (number : ℕ) (f : Member → ℕ) → sum_by f (filter_map (member_at pool request number) places) ≡ sum_by f (members pool request number)
+    found-members number f =
+        sum-filter_map f (member_at pool request number) places
         ∙ all-total pool.moment request pool.ads places some
-        (λ place a. option_map_or f (member_with pool request place a) 0) (λ place. option_map_or f (member_at pool request place) 0)
-        (λ place a e. ap (λ o. option_map_or f o 0) (no-member place a e))
-        (λ place a is. ap (λ o. option_map_or f (option_and_then (member_with pool request place) o) 0) is)
-        ∙ sym (members-total f 0 pool.ads)
+        (λ place a. option_map_or f (member_with pool request number place a) 0) (λ place. option_map_or f (member_at pool request number place) 0)
+        (λ place a e. ap (λ o. option_map_or f o 0) (no-member number place a e))
+        (λ place a is. ap (λ o. option_map_or f (option_and_then (member_with pool request number place) o) 0) is)
+        ∙ sym (members-total number f 0 pool.ads)
 
     -- the first of what is found is the best
-    pub found-best : (first : Option Member) → IsBest (filter_map (member_at pool request) places) first → first ≡ best pool request
-    found-best first h = one-first (filter_map (member_at pool request) places) (members pool request) first (first_of (members pool request)) found-members h (first-is-best (members pool request))
+    pub found-best : (number : ℕ) (first : Option Member) → IsBest (filter_map (member_at pool request number) places) first → first ≡ best pool request number
+    found-best number first h = one-first (filter_map (member_at pool request number) places) (members pool request number) first (first_of (members pool request number)) (found-members number) h (first-is-best (members pool request number))
 
     pub open-sum : sum_by (evaluations_for pool request) places ≡ 5 * open_count pool request
     open-sum =
@@ -105,22 +105,22 @@ module _ (h : ℕ → Option Member) (xs : List ℕ) (i : ℕ) where
 
 -- ---- what each member is
 
-module _ (pool : Pool) (request : List Frame) (P : Member → Type 0) where
-  pub all-found : (places : List ℕ) → All (λ place. (m : Member) → member_at pool request place ≡ Some m → P m) places → All P (filter_map (member_at pool request) places)
+module _ (pool : Pool) (request : List Frame) (number : ℕ) (P : Member → Type 0) where
+  pub all-found : (places : List ℕ) → All (λ place. (m : Member) → member_at pool request number place ≡ Some m → P m) places → All P (filter_map (member_at pool request number) places)
   all-found [] h = All-nil P
-  all-found (place ∷ places) h = by (all-found places (All-tail (λ place. (m : Member) → member_at pool request place ≡ Some m → P m) place places h)) (member_at pool request place) refl
+  all-found (place ∷ places) h = by (all-found places (All-tail (λ place. (m : Member) → member_at pool request number place ≡ Some m → P m) place places h)) (member_at pool request number place) refl
     where
-      by : All P (filter_map (member_at pool request) places) → (o : Option Member) → member_at pool request place ≡ o → All P (cons_option o (filter_map (member_at pool request) places))
+      by : All P (filter_map (member_at pool request number) places) → (o : Option Member) → member_at pool request number place ≡ o → All P (cons_option o (filter_map (member_at pool request number) places))
       by rest None e = rest
-      by rest (Some m) e = All-cons P m (filter_map (member_at pool request) places) (h 0 place (omega arith) m e) rest
+      by rest (Some m) e = All-cons P m (filter_map (member_at pool request number) places) (h 0 place (omega arith) m e) rest
 
-  of-first : (places : List ℕ) (first : Option Member) → IsBest (filter_map (member_at pool request) places) first → All (λ place. (m : Member) → member_at pool request place ≡ Some m → P m) places → IfSome first P
+  of-first : (places : List ℕ) (first : Option Member) → IsBest (filter_map (member_at pool request number) places) first → All (λ place. (m : Member) → member_at pool request number place ≡ Some m → P m) places → IfSome first P
   of-first places None is h = tt
-  of-first places (Some m) is h = All-contains P (filter_map (member_at pool request) places) m (all-found places h) is.among
+  of-first places (Some m) is h = All-contains P (filter_map (member_at pool request number) places) m (all-found places h) is.among
 
-module _ (pool : Pool) (request : List Frame) where
+module _ (pool : Pool) (request : List Frame) (number : ℕ) where
   -- a member stands at its place, and isn't offered
-  pub stands-at : (place : ℕ) (m : Member) → member_at pool request place ≡ Some m → (m.place ≡ place) × (pool.is_offered place ≡ false)
+  pub stands-at : (place : ℕ) (m : Member) → member_at pool request number place ≡ Some m → (m.place ≡ place) × (pool.is_offered place ≡ false)
   stands-at place m is = by (slice_get pool.ads place) is
     where
       parts : (live before docked won : Bool) (a : Member) → (if live && (not before && (docked && won)) then Some a else None) ≡ Some m → (a ≡ m) × (before ≡ false)
@@ -130,20 +130,20 @@ module _ (pool : Pool) (request : List Frame) where
       parts true true docked won a e = absurd (cc)
       parts false before docked won a e = absurd (cc)
 
-      by : (o : Option Advert) → option_and_then (member_with pool request place) o ≡ Some m → (m.place ≡ place) × (pool.is_offered place ≡ false)
+      by : (o : Option Advert) → option_and_then (member_with pool request number place) o ≡ Some m → (m.place ≡ place) × (pool.is_offered place ≡ false)
       by None e = absurd (cc)
       by (Some a) e =
-          let p = parts (is_live pool.moment a) (pool.is_offered place) (docks pool.moment request a.ad) (is_won pool request place a.ad) (as_member pool request place a) e in
+          let p = parts (is_live pool.moment a) (pool.is_offered place) (docks pool.moment request a.ad) (is_won pool request number place a.ad) (as_member pool request place a) e in
           (ap (λ (n : Member). n.place) (sym p.0), p.1)
 
-  pub first-within : (n : ℕ) (places : List ℕ) (first : Option Member) → IsBest (filter_map (member_at pool request) places) first → All (λ place. place < n) places → IfSome first (λ m. m.place < n)
+  pub first-within : (n : ℕ) (places : List ℕ) (first : Option Member) → IsBest (filter_map (member_at pool request number) places) first → All (λ place. place < n) places → IfSome first (λ m. m.place < n)
   first-within n places first is within =
-      of-first pool request (λ m. m.place < n) places first is
+      of-first pool request number (λ m. m.place < n) places first is
       (λ k d inside m e. let at = (stands-at (get_or places k d) m e).0 in let low = within k d inside in omega (arith, at, low))
 
-  pub first-free : (places : List ℕ) (first : Option Member) → IsBest (filter_map (member_at pool request) places) first → IfSome first (λ m. pool.is_offered m.place ≡ false)
+  pub first-free : (places : List ℕ) (first : Option Member) → IsBest (filter_map (member_at pool request number) places) first → IfSome first (λ m. pool.is_offered m.place ≡ false)
   first-free places first is =
-      of-first pool request (λ m. pool.is_offered m.place ≡ false) places first is
+      of-first pool request number (λ m. pool.is_offered m.place ≡ false) places first is
       (λ k d inside m e. let s = stands-at (get_or places k d) m e in ap pool.is_offered s.0 ∙ s.1)
 
 -- the slot of the first isn't offered

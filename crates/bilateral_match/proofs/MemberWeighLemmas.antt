@@ -1,6 +1,7 @@
 -- What one resource is for a job, and what it takes to tell.
-use Rattle.std.proofs.Common.{◌≡◌, ◌<◌, ◌≤◌, ◌+◌, ◌*◌, ℕ, ℤ, zero, suc, Bool, true, false, not, ◌&&◌, int_lt, refl, List, [], ◌∷◌, slice_get, slice_index, length, All, Contains, IfSome, Option, None, Some, is_some, option_map, if◌then◌else◌, ap, sym, ◌∙◌, subst, arith, add-one, take, zero-le}
+use Rattle.std.proofs.Common.{◌≡◌, ◌<◌, ◌≤◌, ◌+◌, ◌*◌, ℕ, ℤ, zero, suc, Bool, true, false, not, ◌&&◌, int_lt, nat_le, cond, Less, Equal, Greater, refl, List, [], ◌∷◌, slice_get, slice_index, length, All, Contains, IfSome, Option, None, Some, option_map, if◌then◌else◌, ap, sym, ◌∙◌, subst, arith, add-one, take, zero-le}
 use Rattle.std.specs.Option.{option_and_then, option_map_or}
+use Rattle.std.specs.Ordering.{match_ordering}
 use Rattle.ad_tree.specs.Frames.{Frame}
 use Rattle.ad_store.specs.declared.holdings.Held.{Held}
 use Rattle.ad_store.specs.Holdings.{Holding, holding_of}
@@ -9,12 +10,13 @@ use Rattle.eval_scope.specs.World.{PlainWorld, attribute_count, resource_side}
 use Rattle.ad_eval.specs.Dock.{rank_by}
 use Rattle.conjunct_plan.specs.Decided.{is_dock_decided}
 use Rattle.bilateral_match.specs.declared.member.Member.{Member}
+use Rattle.bilateral_match.specs.declared.member.Preemption.{Preemption}
 use Rattle.bilateral_match.specs.declared.member.Ranks.{Ranks}
 use Rattle.bilateral_match.specs.Counts.{attributes_weighed, is_open}
 use Rattle.bilateral_match.specs.Docks.{docks, is_undecided, pair_world, rank_of_dock}
-use Rattle.bilateral_match.specs.Members.{as_member, is_won, member_with, regard}
-use Rattle.bilateral_match.specs.Pool.{AreStored, Pool, holder_world, pool_of, regard_in, slot_at, slots_world}
-use Rattle.bilateral_match.specs.Scan.{ranks_of_dock, where_won}
+use Rattle.bilateral_match.specs.Members.{as_member, is_won, member_with, preemption_of, regard}
+use Rattle.bilateral_match.specs.Pool.{AreStored, Hold, Pool, hold_of, holder_world, pool_of, regard_in, slot_at, slots_world}
+use Rattle.bilateral_match.specs.Scan.{ranks_of_dock, taken_by, where_won, won_from}
 use Rattle.bilateral_match.specs.Scan.{as_member as as_made}
 use Rattle.bilateral_match.proofs.ScanLemmas.{decided-docks}
 
@@ -27,13 +29,6 @@ module _ (moment : ℕ) (request ad : List Frame) where
   pub ranks-decided : is_dock_decided request 0 [] ad ≡ true → None ≡ ranks_of_dock moment request ad
   ranks-decided decided =
       sym (ap (λ (b : Bool). if b then Some ranks-there else None) (decided-docks moment request ad (ap not decided)))
-
-  none-docked : ranks_of_dock moment request ad ≡ None → docks moment request ad ≡ false
-  none-docked e = by (docks moment request ad) e
-    where
-      by : (b : Bool) → (if b then Some ranks-there else None) ≡ None → b ≡ false
-      by true e = absurd (cc)
-      by false e = refl
 
   -- where they dock, the ranks are those of both sides
   abbrev pub AreRanks : Ranks → Type 0
@@ -68,10 +63,6 @@ map-or : {A B C : Type 0} → (f : B → C) (g : A → B) (d : C) (o : Option A)
 map-or f g d None = refl
 map-or f g d (Some x) = refl
 
-some-map : {A B : Type 0} → (g : A → B) (o : Option A) → is_some (option_map g o) ≡ is_some o
-some-map g None = refl
-some-map g (Some x) = refl
-
 module _ (moment : ℕ) (stock : Stock) (offered : ℕ → Bool) (holding : ℕ → Option Holding) (request : List Frame) (place slot : ℕ) (at : slice_get stock.slots place ≡ Some slot) where
   abbrev pool : Pool
   pool = pool_of moment stock offered holding
@@ -82,92 +73,89 @@ module _ (moment : ℕ) (stock : Stock) (offered : ℕ → Bool) (holding : ℕ 
   offered-here : pool.is_offered place ≡ offered slot
   offered-here = ap offered here
 
-  held-here : is_some (pool.held_in place) ≡ is_some (holding slot)
-  held-here = some-map (holder_world moment stock) (holding (slot_at stock place)) ∙ ap (λ s. is_some (holding s)) here
+  held-here : pool.held_in place ≡ option_map (hold_of moment stock) (holding slot)
+  held-here = ap (λ s. option_map (hold_of moment stock) (holding s)) here
 
-  -- the claim is won as the contract of the look at the holder says it
-  pub won-by : (ad : List Frame) (n : ℤ) (held : Option Holding) (won : Bool) → n ≡ regard moment request ad → held ≡ holding slot
-      → won ≡ option_map_or (λ h. int_lt (regard_in (holder_world moment stock h)) n) held true → is_won pool request place ad ≡ won
-  won-by ad n held won regards who is =
-      map-or (λ w. int_lt (regard_in w) (regard moment request ad)) (holder_world moment stock) true (holding (slot_at stock place))
-      ∙ ap (λ (o : Option Holding). option_map_or (λ h. int_lt (regard_in (holder_world moment stock h)) (regard moment request ad)) o true) (ap holding here ∙ sym who)
-      ∙ ap (λ (k : ℤ). option_map_or (λ h. int_lt (regard_in (holder_world moment stock h)) k) held true) (sym regards)
-      ∙ sym is
+  module _ (number : ℕ) where
+    -- how the resource at the place is won
+    abbrev won_at : List Frame → Option Preemption
+    won_at ad = won_from number (regard moment request ad) (pool.held_in place)
 
-  abbrev member_of : Option Advert → Option Member
-  member_of o = option_and_then (member_with pool request place) o
+    -- it is won as the contract of the look at the holder says it
+    pub won-by : (ad : List Frame) (n : ℤ) (held : Option Holding) → n ≡ regard moment request ad → held ≡ holding slot
+        → won_from number n (option_map (hold_of moment stock) held) ≡ won_at ad
+    won-by ad n held regards who =
+        ap (λ (k : ℤ). won_from number k (option_map (hold_of moment stock) held)) regards
+        ∙ ap (won_from number (regard moment request ad)) (ap (option_map (hold_of moment stock)) who ∙ sym held-here)
 
-  pub none-offered : offered slot ≡ true → (o : Option Advert) → None ≡ member_of o
-  none-offered before None = refl
-  none-offered before (Some a) = sym (by (is_live pool.moment a) (pool.is_offered place) (docks pool.moment request a.ad && is_won pool request place a.ad) (offered-here ∙ before))
-    where
-      by : (live off rest : Bool) → off ≡ true → (if live && (not off && rest) then Some (as_member pool request place a) else None) ≡ None
-      by true true rest e = refl
-      by false true rest e = refl
-      by live false rest e = absurd (cc)
+    abbrev member_of : Option Advert → Option Member
+    member_of o = option_and_then (member_with pool request number place) o
 
-  pub none-dead : (o : Option Advert) → option_map (is_live pool.moment) o ≡ Some false → None ≡ member_of o
-  none-dead None e = refl
-  none-dead (Some a) e = let dead : is_live pool.moment a ≡ false = cc in sym (ap (λ (b : Bool). if b && (not (pool.is_offered place) && (docks pool.moment request a.ad && is_won pool request place a.ad)) then Some (as_member pool request place a) else None) dead)
+    pub none-offered : offered slot ≡ true → (o : Option Advert) → None ≡ member_of o
+    none-offered before None = refl
+    none-offered before (Some a) = sym (by (is_live pool.moment a) (pool.is_offered place) (docks pool.moment request a.ad && is_won pool request number place a.ad) (offered-here ∙ before))
+      where
+        by : (live off rest : Bool) → off ≡ true → (if live && (not off && rest) then Some (as_member pool request place a) else None) ≡ None
+        by true true rest e = refl
+        by false true rest e = refl
+        by live false rest e = absurd (cc)
+
+    pub none-dead : (o : Option Advert) → option_map (is_live pool.moment) o ≡ Some false → None ≡ member_of o
+    none-dead None e = refl
+    none-dead (Some a) e = let dead : is_live pool.moment a ≡ false = cc in sym (ap (λ (b : Bool). if b && (not (pool.is_offered place) && (docks pool.moment request a.ad && is_won pool request number place a.ad)) then Some (as_member pool request place a) else None) dead)
+
+    module _ (fs : List Frame) where
+      none-lost : (o : Option Advert) → option_map (λ a. a.ad) o ≡ Some fs → is_won pool request number place fs ≡ false → None ≡ member_of o
+      none-lost None is lost = refl
+      none-lost (Some a) is lost =
+          let same : a.ad ≡ fs = cc in
+          sym (by (is_live pool.moment a) (not (pool.is_offered place)) (docks pool.moment request a.ad) (is_won pool request number place a.ad) (ap (is_won pool request number place) same ∙ lost))
+        where
+          by : (live free docked won : Bool) → won ≡ false → (if live && (free && (docked && won)) then Some (as_member pool request place a) else None) ≡ None
+          by true true true false e = refl
+          by true true false false e = refl
+          by true false docked false e = refl
+          by false free docked false e = refl
+          by live free docked true e = absurd (cc)
+
+      -- as members are compared, where the request ranks the resource so
+      abbrev won_with : Ranks → Member
+      won_with r = as_made r place (preemption_of (regard moment request fs) (pool.held_in place))
+
+      abbrev made : ℤ → ℤ → ℤ → Member
+      made rank given shown = record { rank = rank; preemption = preemption_of given (pool.held_in place); regard = shown; place = place }
+
+      some-won : (o : Option Advert) (r : Ranks) → option_map (λ a. a.ad) o ≡ Some fs → option_map (is_live pool.moment) o ≡ Some true → offered slot ≡ false
+          → Some r ≡ ranks_of_dock pool.moment request fs → is_won pool request number place fs ≡ true → Some (won_with r) ≡ member_of o
+      some-won None r is live free ranks won = absurd (cc)
+      some-won (Some a) r is live free ranks won =
+          let same : a.ad ≡ fs = cc in
+          let lives : is_live pool.moment a ≡ true = cc in
+          let both = are-ranks pool.moment request fs r (sym ranks) in
+          sym (by (is_live pool.moment a) (pool.is_offered place) (docks pool.moment request a.ad) (is_won pool request number place a.ad)
+          lives (offered-here ∙ free) (ap (docks pool.moment request) same ∙ both.0) (ap (is_won pool request number place) same ∙ won)
+          ∙ ap (λ (ad : List Frame). Some (made (rank_of_dock pool.moment request ad) (regard pool.moment request ad) (regard pool.moment request ad))) same
+          ∙ ap (λ (n : ℤ). Some (made n (regard pool.moment request fs) (regard pool.moment request fs))) (sym both.1)
+          ∙ ap (λ (n : ℤ). Some (made r.rank (regard pool.moment request fs) n)) (sym both.2))
+        where
+          by : (live off docked won : Bool) → live ≡ true → off ≡ false → docked ≡ true → won ≡ true → (if live && (not off && (docked && won)) then Some (as_member pool request place a) else None) ≡ Some (as_member pool request place a)
+          by true false true true e f g h = refl
+          by true false true false e f g h = absurd (cc)
+          by true false false won e f g h = absurd (cc)
+          by true true docked won e f g h = absurd (cc)
+          by false off docked won e f g h = absurd (cc)
+
+      -- where they dock, it is a member if it is won
+      pub won-or-lost : (o : Option Advert) (r : Ranks) → option_map (λ a. a.ad) o ≡ Some fs → option_map (is_live pool.moment) o ≡ Some true → offered slot ≡ false
+          → Some r ≡ ranks_of_dock pool.moment request fs → where_won (won_at fs) r place ≡ member_of o
+      won-or-lost o r is live free ranks = by (is_won pool request number place fs) refl
+        where
+          by : (won : Bool) → is_won pool request number place fs ≡ won
+              → where_won (if won then Some (preemption_of (regard moment request fs) (pool.held_in place)) else None) r place ≡ member_of o
+          by true e = some-won o r is live free ranks e
+          by false e = none-lost o is e
 
   module _ (fs : List Frame) where
-    pub none-undocked : (o : Option Advert) → option_map (λ a. a.ad) o ≡ Some fs → None ≡ ranks_of_dock pool.moment request fs → None ≡ member_of o
-    none-undocked None is none = refl
-    none-undocked (Some a) is none =
-        let same : a.ad ≡ fs = cc in
-        sym (by (is_live pool.moment a) (not (pool.is_offered place)) (docks pool.moment request a.ad) (is_won pool request place a.ad) (ap (docks pool.moment request) same ∙ none-docked pool.moment request fs (sym none)))
-      where
-        by : (live free docked won : Bool) → docked ≡ false → (if live && (free && (docked && won)) then Some (as_member pool request place a) else None) ≡ None
-        by true true false won e = refl
-        by true false false won e = refl
-        by false free false won e = refl
-        by live free true won e = absurd (cc)
-
-    none-lost : (o : Option Advert) → option_map (λ a. a.ad) o ≡ Some fs → is_won pool request place fs ≡ false → None ≡ member_of o
-    none-lost None is lost = refl
-    none-lost (Some a) is lost =
-        let same : a.ad ≡ fs = cc in
-        sym (by (is_live pool.moment a) (not (pool.is_offered place)) (docks pool.moment request a.ad) (is_won pool request place a.ad) (ap (is_won pool request place) same ∙ lost))
-      where
-        by : (live free docked won : Bool) → won ≡ false → (if live && (free && (docked && won)) then Some (as_member pool request place a) else None) ≡ None
-        by true true true false e = refl
-        by true true false false e = refl
-        by true false docked false e = refl
-        by false free docked false e = refl
-        by live free docked true e = absurd (cc)
-
-    some-won : (o : Option Advert) (r : Ranks) (claimed : Bool) (m : Member) → option_map (λ a. a.ad) o ≡ Some fs → option_map (is_live pool.moment) o ≡ Some true → offered slot ≡ false
-        → Some r ≡ ranks_of_dock pool.moment request fs → is_won pool request place fs ≡ true → claimed ≡ is_some (holding slot)
-        → m ≡ record { rank = r.rank; claimed = claimed; regard = r.regard; place = place } → Some m ≡ member_of o
-    some-won None r claimed m is live free ranks won holds made = absurd (cc)
-    some-won (Some a) r claimed m is live free ranks won holds made =
-        let same : a.ad ≡ fs = cc in
-        let lives : is_live pool.moment a ≡ true = cc in
-        let both = are-ranks pool.moment request fs r (sym ranks) in
-        sym (by (is_live pool.moment a) (pool.is_offered place) (docks pool.moment request a.ad) (is_won pool request place a.ad)
-        lives (offered-here ∙ free) (ap (docks pool.moment request) same ∙ both.0) (ap (is_won pool request place) same ∙ won)
-        ∙ ap Some (parts (ap (rank_of_dock pool.moment request) same ∙ sym both.1) (held-here ∙ sym holds) (ap (regard pool.moment request) same ∙ sym both.2) ∙ sym made))
-      where
-        by : (live off docked won : Bool) → live ≡ true → off ≡ false → docked ≡ true → won ≡ true → (if live && (not off && (docked && won)) then Some (as_member pool request place a) else None) ≡ Some (as_member pool request place a)
-        by true false true true e f g h = refl
-        by true false true false e f g h = absurd (cc)
-        by true false false won e f g h = absurd (cc)
-        by true true docked won e f g h = absurd (cc)
-        by false off docked won e f g h = absurd (cc)
-
-        parts : rank_of_dock pool.moment request a.ad ≡ r.rank → is_some (pool.held_in place) ≡ claimed → regard pool.moment request a.ad ≡ r.regard
-            → as_member pool request place a ≡ record { rank = r.rank; claimed = claimed; regard = r.regard; place = place }
-        parts e f g =
-            ap (λ (n : ℤ). let m : Member = record { rank = n; claimed = is_some (pool.held_in place); regard = regard pool.moment request a.ad; place = place } in m) e
-            ∙ ap (λ (b : Bool). let m : Member = record { rank = r.rank; claimed = b; regard = regard pool.moment request a.ad; place = place } in m) f
-            ∙ ap (λ (n : ℤ). let m : Member = record { rank = r.rank; claimed = claimed; regard = n; place = place } in m) g
-
-    -- where they dock, it is a member if it is won
-    pub won-or-lost : (o : Option Advert) (r : Ranks) (claimed won : Bool) → option_map (λ a. a.ad) o ≡ Some fs → option_map (is_live pool.moment) o ≡ Some true → offered slot ≡ false
-        → Some r ≡ ranks_of_dock pool.moment request fs → is_won pool request place fs ≡ won → claimed ≡ is_some (holding slot) → where_won won r claimed place ≡ member_of o
-    won-or-lost o r claimed true is live free ranks won holds = some-won o r claimed (as_made r claimed place) is live free ranks won holds refl
-    won-or-lost o r claimed false is live free ranks won holds = none-lost o is won
-
     -- what it takes
     module _ (free : offered slot ≡ false) where
       open-here : (a : Advert) → a.ad ≡ fs → is_undecided request fs ≡ true → is_open pool request place a ≡ true
@@ -206,8 +194,8 @@ module _ (moment : ℕ) (stock : Stock) (offered : ℕ → Bool) (holding : ℕ 
       weighed : (a : Advert) → a.ad ≡ fs → is_undecided request fs ≡ true → (if is_open pool request place a then attributes_weighed pool request place a else 0) ≡ job_attributes + holder_attributes
       weighed a same left =
           ap {B = ℕ} (λ (b : Bool). if b then attributes_weighed pool request place a else 0) (open-here a same left)
-          ∙ ap (λ (ad : List Frame). 4 * attribute_count (pair_world pool.moment request ad) + option_map_or attribute_count (pool.held_in place) 0) same
-          ∙ ap (λ n. job_attributes + n) (map-or attribute_count (holder_world moment stock) 0 (holding (slot_at stock place)) ∙ ap (λ s. option_map_or (λ h. attribute_count (holder_world moment stock h)) (holding s) 0) here)
+          ∙ ap (λ (ad : List Frame). 4 * attribute_count (pair_world pool.moment request ad) + option_map_or (λ hold. attribute_count hold.world) (pool.held_in place) 0) same
+          ∙ ap (λ n. job_attributes + n) (map-or (λ (hold : Hold). attribute_count hold.world) (hold_of moment stock) 0 (holding (slot_at stock place)) ∙ ap (λ s. option_map_or (λ h. attribute_count (holder_world moment stock h)) (holding s) 0) here)
 
       pub attributes-of-dock : (o : Option Advert) → option_map (λ a. a.ad) o ≡ Some fs
           → (if is_undecided request fs then job_attributes else 0) ≤ option_map_or (λ a. if is_open pool request place a then attributes_weighed pool request place a else 0) o 0
@@ -236,14 +224,6 @@ module _ (stock : Stock) (holding : ℕ → Option Holding) (slot : ℕ) where
   holder-stored None stored who = tt
   holder-stored (Some h) stored who = stored slot (holding_of h) (sym who)
 
-  -- it is claimed as its holder is there
-  pub holder-there : (holder : Option Held) → option_map holding_of holder ≡ holding slot → is_some holder ≡ is_some (holding slot)
-  holder-there holder who = by holder ∙ ap is_some who
-    where
-      by : (o : Option Held) → is_some o ≡ is_some (option_map holding_of o)
-      by None = refl
-      by (Some h) = refl
-
   pub holder-stands : (holder : Option Held) → IfSome holder (λ h. slice_get h.slots.now h.port ≡ Some slot) → IfSome holder (λ h. h.port < length h.slots.now)
   holder-stands None stands = tt
   holder-stands (Some h) stands = within h.slots.now h.port stands
@@ -257,10 +237,23 @@ module _ (stock : Stock) (holding : ℕ → Option Holding) (slot : ℕ) where
 pub some-of : (holder : Option Held) (h : Held) (P : Held → Type 0) → holder ≡ Some h → IfSome holder P → P h
 some-of holder h P is all = let Q : Option Held → Type 0 = λ o. IfSome o P in subst Q is all
 
+-- how a resource is taken from a holder is how it is won where it has that holder
+taken-won : (number : ℕ) (regard : ℤ) (hold : Hold) → taken_by (regard_in hold.world) regard hold.number number ≡ won_from number regard (Some hold)
+taken-won number regard hold = by (int_lt (regard_in hold.world) regard) (int_lt regard (regard_in hold.world)) (nat_le (2 * number) hold.number)
+  where
+    by : (lower higher twice : Bool)
+        → match_ordering (cond lower Less (cond higher Greater Equal)) (Some Preemption.ByRank) (if twice then Some Preemption.ByPriority else None) None
+        ≡ (if match_ordering (cond lower Less (cond higher Greater Equal)) true twice false then Some (if lower then Preemption.ByRank else Preemption.ByPriority) else None)
+    by true higher twice = refl
+    by false true twice = refl
+    by false false true = refl
+    by false false false = refl
+
 -- the rank of the holder is that of the world up to its port
-pub rank-of-holder : (moment : ℕ) (stock : Stock) (holder : Option Held) (h : Held) (w : PlainWorld) (k : ℤ) → holder ≡ Some h
+pub won-of-holder : (moment : ℕ) (stock : Stock) (holder : Option Held) (h : Held) (w : PlainWorld) (number : ℕ) (regard : ℤ) → holder ≡ Some h
     → w ≡ slots_world moment stock h.request.now (take (h.port + 1) h.slots.now)
-    → int_lt (rank_by w (resource_side w)) k ≡ option_map_or (λ g. int_lt (regard_in (holder_world moment stock g)) k) (option_map holding_of holder) true
-rank-of-holder moment stock holder h w k is world =
-    ap (λ (u : PlainWorld). int_lt (rank_by u (resource_side u)) k) (world ∙ ap (λ i. slots_world moment stock h.request.now (take i h.slots.now)) (add-one h.port))
-    ∙ ap (λ o. option_map_or (λ g. int_lt (regard_in (holder_world moment stock g)) k) (option_map holding_of o) true) (sym is)
+    → taken_by (rank_by w (resource_side w)) regard h.number number ≡ won_from number regard (option_map (hold_of moment stock) (option_map holding_of holder))
+won-of-holder moment stock holder h w number regard is world =
+    ap (λ (u : PlainWorld). taken_by (rank_by u (resource_side u)) regard h.number number) (world ∙ ap (λ i. slots_world moment stock h.request.now (take i h.slots.now)) (add-one h.port))
+    ∙ taken-won number regard (hold_of moment stock (holding_of h))
+    ∙ ap (λ (o : Option Held). won_from number regard (option_map (hold_of moment stock) (option_map holding_of o))) (sym is)

@@ -55,16 +55,16 @@ module _ (pool : Pool) (request : List Frame) (offered : ℕ → Bool) (more : (
   abbrev later : Pool
   later = record pool { is_offered = offered }
 
-  no-members : (k : ℕ) (ads : List Advert) → members_from pool request k ads ≡ [] → members_from later request k ads ≡ []
-  no-members k [] e = refl
-  no-members k (a ∷ ads) e =
-      empty-still (member_with pool request k a) (member_with later request k a) (members_from pool request (suc k) ads) (members_from later request (suc k) ads)
-      (none-still (is_live pool.moment a) (pool.is_offered k) (offered k) (docks pool.moment request a.ad && is_won pool request k a.ad)
+  no-members : (number k : ℕ) (ads : List Advert) → members_from pool request number k ads ≡ [] → members_from later request number k ads ≡ []
+  no-members number k [] e = refl
+  no-members number k (a ∷ ads) e =
+      empty-still (member_with pool request number k a) (member_with later request number k a) (members_from pool request number (suc k) ads) (members_from later request number (suc k) ads)
+      (none-still (is_live pool.moment a) (pool.is_offered k) (offered k) (docks pool.moment request a.ad && is_won pool request number k a.ad)
       (as_member pool request k a) (as_member later request k a) (more k))
-      (no-members (suc k) ads) e
+      (no-members number (suc k) ads) e
 
-  pub none-later : best pool request ≡ None → best later request ≡ None
-  none-later e = ap first_of (no-members 0 pool.ads (none-first (members pool request) e))
+  pub none-later : (number : ℕ) → best pool request number ≡ None → best later request number ≡ None
+  none-later number e = ap first_of (no-members number 0 pool.ads (none-first (members pool request number) e))
 
   pub fewer-open : open_count later request ≤ open_count pool request
   fewer-open =

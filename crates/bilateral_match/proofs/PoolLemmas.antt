@@ -1,15 +1,13 @@
 -- Pools that say the same of each place have the same members, and as many open docks.
-use Rattle.std.proofs.Common.{◌≡◌, ◌<◌, ◌+◌, ℕ, suc, Bool, true, not, ◌&&◌, refl, List, [], ◌∷◌, Option, None, Some, is_some, if◌then◌else◌, length, ap, sym, ◌∙◌, subst, arith, int_lt, zero-add}
+use Rattle.std.proofs.Common.{◌≡◌, ◌<◌, ◌+◌, ℕ, suc, Bool, true, not, ◌&&◌, refl, List, [], ◌∷◌, Option, None, Some, if◌then◌else◌, length, ap, sym, ◌∙◌, subst, arith, zero-add}
 use Rattle.std.specs.List.{cons_option}
-use Rattle.std.specs.Option.{option_map_or}
 use Rattle.ad_tree.specs.Frames.{Frame}
 use Rattle.ad_store.specs.Stock.{Advert, is_live}
-use Rattle.eval_scope.specs.World.{PlainWorld}
 use Rattle.bilateral_match.specs.declared.member.Member.{Member}
 use Rattle.bilateral_match.specs.Counts.{is_open, open_count, sum_from}
 use Rattle.bilateral_match.specs.Docks.{docks, is_undecided, rank_of_dock}
-use Rattle.bilateral_match.specs.Members.{best, first_of, member_with, members_from, regard}
-use Rattle.bilateral_match.specs.Pool.{Pool, regard_in}
+use Rattle.bilateral_match.specs.Members.{best, first_of, is_yielded, member_with, members_from, preemption_of, regard}
+use Rattle.bilateral_match.specs.Pool.{Hold, Pool}
 
 at-front : (k : ℕ) → k + 0 ≡ k
 at-front k = omega arith
@@ -17,7 +15,7 @@ at-front k = omega arith
 further : (k i : ℕ) → k + suc i ≡ suc k + i
 further k i = omega arith
 
-module _ (moment : ℕ) (ads : List Advert) (request : List Frame) (off_a off_b : ℕ → Bool) (held_a held_b : ℕ → Option PlainWorld) where
+module _ (moment : ℕ) (ads : List Advert) (request : List Frame) (off_a off_b : ℕ → Bool) (held_a held_b : ℕ → Option Hold) where
   abbrev pub one : Pool
   one = record { moment = moment; ads = ads; is_offered = off_a; held_in = held_a }
 
@@ -29,24 +27,24 @@ module _ (moment : ℕ) (ads : List Advert) (request : List Frame) (off_a off_b 
   SameAt place = (off_a place ≡ off_b place) × (held_a place ≡ held_b place)
 
   -- a resource as a member, by what is said of it
-  abbrev member_by : ℕ → Advert → Bool → Option PlainWorld → Option Member
-  member_by place a offered held =
-      let m : Member = record { rank = rank_of_dock moment request a.ad; claimed = is_some held; regard = regard moment request a.ad; place = place } in
-      if is_live moment a && (not offered && (docks moment request a.ad && option_map_or (λ world. int_lt (regard_in world) (regard moment request a.ad)) held true)) then Some m else None
+  abbrev member_by : ℕ → ℕ → Advert → Bool → Option Hold → Option Member
+  member_by number place a offered held =
+      let m : Member = record { rank = rank_of_dock moment request a.ad; preemption = preemption_of (regard moment request a.ad) held; regard = regard moment request a.ad; place = place } in
+      if is_live moment a && (not offered && (docks moment request a.ad && is_yielded number (regard moment request a.ad) held)) then Some m else None
 
-  member-same : (place : ℕ) (a : Advert) → SameAt place → member_with one request place a ≡ member_with other request place a
-  member-same place a same = ap (λ offered. member_by place a offered (held_a place)) same.0 ∙ ap (member_by place a (off_b place)) same.1
+  member-same : (number place : ℕ) (a : Advert) → SameAt place → member_with one request number place a ≡ member_with other request number place a
+  member-same number place a same = ap (λ offered. member_by number place a offered (held_a place)) same.0 ∙ ap (member_by number place a (off_b place)) same.1
 
-  members-same : (k : ℕ) (xs : List Advert) → ((i : ℕ) → i < length xs → SameAt (k + i)) → members_from one request k xs ≡ members_from other request k xs
-  members-same k [] same = refl
-  members-same k (a ∷ xs) same =
+  members-same : (number k : ℕ) (xs : List Advert) → ((i : ℕ) → i < length xs → SameAt (k + i)) → members_from one request number k xs ≡ members_from other request number k xs
+  members-same number k [] same = refl
+  members-same number k (a ∷ xs) same =
       let here : SameAt k = subst SameAt (at-front k) (same 0 (omega arith)) in
       let behind : (i : ℕ) → i < length xs → SameAt (suc k + i) = λ i inside. subst SameAt (further k i) (same (suc i) (omega (arith, inside))) in
-      ap (λ o. cons_option o (members_from one request (suc k) xs)) (member-same k a here)
-      ∙ ap (cons_option (member_with other request k a)) (members-same (suc k) xs behind)
+      ap (λ o. cons_option o (members_from one request number (suc k) xs)) (member-same number k a here)
+      ∙ ap (cons_option (member_with other request number k a)) (members-same number (suc k) xs behind)
 
-  pub best-same : ((i : ℕ) → i < length ads → SameAt i) → best one request ≡ best other request
-  best-same same = ap first_of (members-same 0 ads (λ i inside. subst SameAt (sym (zero-add i)) (same i inside)))
+  pub best-same : (number : ℕ) → ((i : ℕ) → i < length ads → SameAt i) → best one request number ≡ best other request number
+  best-same number same = ap first_of (members-same number 0 ads (λ i inside. subst SameAt (sym (zero-add i)) (same i inside)))
 
   sum-same : (k : ℕ) (xs : List Advert) → ((i : ℕ) → i < length xs → SameAt (k + i))
       → sum_from (λ place a. if is_open one request place a then 1 else 0) k xs ≡ sum_from (λ place a. if is_open other request place a then 1 else 0) k xs

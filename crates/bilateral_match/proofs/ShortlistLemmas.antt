@@ -80,47 +80,47 @@ one-still f g m xs ys true false false false more gives others = others
 one-still f g m xs ys true false true true more gives others = let head = sum_by-cons g m xs in omega (arith, head, gives, others)
 one-still f g m xs ys true false false true more gives others = let head = sum_by-cons g m xs in let here = sum_by-cons f m ys in omega (arith, head, here, gives, others)
 
-module _ (pool : Pool) (request : List Frame) (offered : ℕ → Bool) (more : (place : ℕ) → pool.is_offered place ≡ true → offered place ≡ true) where
+module _ (pool : Pool) (request : List Frame) (number : ℕ) (offered : ℕ → Bool) (more : (place : ℕ) → pool.is_offered place ≡ true → offered place ≡ true) where
   abbrev later : Pool
   later = record pool { is_offered = offered }
 
   abbrev is_left : Member → Bool
   is_left m = not (offered m.place)
 
-  members-left : (f : Member → ℕ) (k : ℕ) (ads : List Advert) → sum_by (λ m. if is_left m then f m else 0) (members_from pool request k ads) ≡ sum_by f (members_from later request k ads)
+  members-left : (f : Member → ℕ) (k : ℕ) (ads : List Advert) → sum_by (λ m. if is_left m then f m else 0) (members_from pool request number k ads) ≡ sum_by f (members_from later request number k ads)
   members-left f k [] = refl
   members-left f k (a ∷ ads) =
-      one-still f (λ m. if is_left m then f m else 0) (as_member pool request k a) (members_from pool request (suc k) ads) (members_from later request (suc k) ads)
-      (is_live pool.moment a) (pool.is_offered k) (offered k) (docks pool.moment request a.ad && is_won pool request k a.ad) (more k) refl (members-left f (suc k) ads)
+      one-still f (λ m. if is_left m then f m else 0) (as_member pool request k a) (members_from pool request number (suc k) ads) (members_from later request number (suc k) ads)
+      (is_live pool.moment a) (pool.is_offered k) (offered k) (docks pool.moment request a.ad && is_won pool request number k a.ad) (more k) refl (members-left f (suc k) ads)
 
   -- the first of the members in order that isn't offered is the best
-  pub first-is-left : (places : List ℕ) (sorted : List Member) → AreCandidates request pool.ads places → IsPermutation (filter_map (member_at pool request) places) sorted → IsSorted member_order sorted → find is_left sorted ≡ best later request
+  pub first-is-left : (places : List ℕ) (sorted : List Member) → AreCandidates request pool.ads places → IsPermutation (filter_map (member_at pool request number) places) sorted → IsSorted member_order sorted → find is_left sorted ≡ best later request number
   first-is-left places sorted some moved ordered =
-      one-first (filter is_left sorted) (members later request) (find is_left sorted) (first_of (members later request))
+      one-first (filter is_left sorted) (members later request number) (find is_left sorted) (first_of (members later request number))
       (λ f.
       let g : Member → ℕ = λ m. if is_left m then f m else 0 in
       sum-filter is_left f sorted
-      ∙ sum_by-IsPermutation g (filter_map (member_at pool request) places) sorted moved
-      ∙ found-members pool request places some g
+      ∙ sum_by-IsPermutation g (filter_map (member_at pool request number) places) sorted moved
+      ∙ found-members pool request places some number g
       ∙ members-left f 0 pool.ads)
       (first-passes is_left sorted (in-order-from sorted ordered))
-      (first-is-best (members later request))
+      (first-is-best (members later request number))
 
 -- the slots of the members in order are a shortlist
-pub shortlisted : (moment : ℕ) (stock : Stock) (offered : ℕ → Bool) (holding : ℕ → Option Holding) (request : List Frame) (places : List ℕ) (sorted : List Member) (slots : List ℕ)
-    → AreCandidates request stock.ads places → IsPermutation (filter_map (member_at (pool_of moment stock offered holding) request) places) sorted → IsSorted member_order sorted
-    → slots ≡ map (λ m. slot_at stock m.place) sorted → IsShortlist moment stock offered holding request slots
-shortlisted moment stock offered holding request places sorted slots some moved ordered are more grows =
+pub shortlisted : (moment : ℕ) (stock : Stock) (offered : ℕ → Bool) (holding : ℕ → Option Holding) (request : List Frame) (number : ℕ) (places : List ℕ) (sorted : List Member) (slots : List ℕ)
+    → AreCandidates request stock.ads places → IsPermutation (filter_map (member_at (pool_of moment stock offered holding) request number) places) sorted → IsSorted member_order sorted
+    → slots ≡ map (λ m. slot_at stock m.place) sorted → IsShortlist moment stock offered holding request number slots
+shortlisted moment stock offered holding request number places sorted slots some moved ordered are more grows =
     let slot : Member → ℕ = λ m. slot_at stock m.place in
-    ap (option_map slot) (sym (first-is-left (pool_of moment stock offered holding) request (λ place. more (slot_at stock place)) (λ place. grows (slot_at stock place)) places sorted some moved ordered))
+    ap (option_map slot) (sym (first-is-left (pool_of moment stock offered holding) request number (λ place. more (slot_at stock place)) (λ place. grows (slot_at stock place)) places sorted some moved ordered))
     ∙ find-map more slot sorted
     ∙ ap (first_left more) (sym are)
 
 -- each member that is found stands at one of the places
-pub found-within : (pool : Pool) (request : List Frame) (n : ℕ) (places : List ℕ) → All (λ place. place < n) places → All (λ m. m.place < n) (filter_map (member_at pool request) places)
-found-within pool request n places within =
-    all-found pool request (λ m. m.place < n) places
-    (λ k d inside m e. let at = (stands-at pool request (get_or places k d) m e).0 in let low = within k d inside in omega (arith, at, low))
+pub found-within : (pool : Pool) (request : List Frame) (number n : ℕ) (places : List ℕ) → All (λ place. place < n) places → All (λ m. m.place < n) (filter_map (member_at pool request number) places)
+found-within pool request number n places within =
+    all-found pool request number (λ m. m.place < n) places
+    (λ k d inside m e. let at = (stands-at pool request number (get_or places k d) m e).0 in let low = within k d inside in omega (arith, at, low))
 
 -- one more slot
 pub slots-more : (slot : Member → ℕ) (members : List Member) (i : ℕ) (m : Member) (slots new : List ℕ) (s : ℕ) → i < length members → slots ≡ map slot (take i members) → new ≡ slots ++ s ∷ [] → s ≡ slot (get_or members i m) → new ≡ map slot (take (i + 1) members)

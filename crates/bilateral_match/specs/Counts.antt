@@ -56,7 +56,7 @@ open_count pool request = sum_from (λ place advert. if is_open pool request pla
 abbrev pub attributes_weighed : Pool → List Frame → ℕ → Advert → ℕ
 attributes_weighed pool request place advert =
     4 * attribute_count (pair_world pool.moment request advert.ad)
-    + option_map_or attribute_count (pool.held_in place) 0
+    + option_map_or (λ hold. attribute_count hold.world) (pool.held_in place) 0
 
 -- how many attributes may be entered to weigh all resources
 abbrev pub entered_for : Pool → List Frame → ℕ

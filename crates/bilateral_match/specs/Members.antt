@@ -1,14 +1,15 @@
 -- The members for a single job: the resources that it may be given. The best of them.
-use Rattle.std.specs.Prelude.{◌≡◌, ℕ, ℤ, suc, Bool, false, true, not, ◌&&◌, int_lt, List, [], ◌∷◌, Option, None, Some, is_some, option_map, All, Contains, if◌then◌else◌}
+use Rattle.std.specs.Prelude.{◌≡◌, ℕ, ℤ, suc, ◌*◌, Bool, false, true, not, ◌&&◌, int_lt, nat_le, List, [], ◌∷◌, Option, None, Some, option_map, All, Contains, if◌then◌else◌}
 use Rattle.std.specs.List.{cons_option}
 use Rattle.std.specs.Option.{option_map_or}
-use Rattle.std.specs.Ordering.{bool_cmp, int_cmp, is_lt, nat_cmp, ordering_then}
+use Rattle.std.specs.Ordering.{int_cmp, is_lt, match_ordering, nat_cmp, ordering_then}
 use Rattle.std.specs.declared.cmp.Ordering.{Ordering}
 use Rattle.ad_tree.specs.Frames.{Frame}
 use Rattle.ad_store.specs.Stock.{Advert, Stock, is_live}
 use Rattle.bilateral_match.specs.declared.member.Member.{Member}
+use Rattle.bilateral_match.specs.declared.member.Preemption.{Preemption}
 use Rattle.bilateral_match.specs.Docks.{docks, pair_world, rank_of_dock}
-use Rattle.bilateral_match.specs.Pool.{Pool, regard_in, slot_at}
+use Rattle.bilateral_match.specs.Pool.{Hold, Pool, regard_in, slot_at}
 
 -- ---- members
 
@@ -16,44 +17,63 @@ use Rattle.bilateral_match.specs.Pool.{Pool, regard_in, slot_at}
 abbrev pub regard : ℕ → List Frame → List Frame → ℤ
 regard moment request ad = regard_in (pair_world moment request ad)
 
--- the resource at a place is unclaimed, or ranks its holder strictly lower than the job
-abbrev pub is_won : Pool → List Frame → ℕ → List Frame → Bool
-is_won pool request place ad = option_map_or (λ world. int_lt (regard_in world) (regard pool.moment request ad)) (pool.held_in place) true
+-- a resource that ranks a job so is taken from its holder: it ranks the holder strictly lower, or equal where the holder's user has at least twice the number of the job's
+abbrev pub is_taken : ℕ → ℤ → Hold → Bool
+is_taken number regard hold = match_ordering (int_cmp (regard_in hold.world) regard) true (nat_le (2 * number) hold.number) false
+
+-- it is yielded to the job: it is unclaimed, or it is taken from its holder
+abbrev pub is_yielded : ℕ → ℤ → Option Hold → Bool
+is_yielded number regard hold = option_map_or (is_taken number regard) hold true
+
+-- whether a resource that is yielded to a job, which it ranks so, is taken from a holder, and why: by the resource's rank, or by the users' priorities
+abbrev pub preemption_of : ℤ → Option Hold → Preemption
+preemption_of regard None = Preemption.No
+preemption_of regard (Some hold) = if int_lt (regard_in hold.world) regard then Preemption.ByRank else Preemption.ByPriority
+
+-- the resource at a place is yielded to the job, whose user has this number
+abbrev pub is_won : Pool → List Frame → ℕ → ℕ → List Frame → Bool
+is_won pool request number place ad = is_yielded number (regard pool.moment request ad) (pool.held_in place)
 
 -- a member is a live resource that isn't offered, that docks with the job, and that the job wins
-abbrev pub is_member : Pool → List Frame → ℕ → Advert → Bool
-is_member pool request place advert =
+abbrev pub is_member : Pool → List Frame → ℕ → ℕ → Advert → Bool
+is_member pool request number place advert =
     is_live pool.moment advert
-    && (not (pool.is_offered place) && (docks pool.moment request advert.ad && is_won pool request place advert.ad))
+    && (not (pool.is_offered place) && (docks pool.moment request advert.ad && is_won pool request number place advert.ad))
 
 -- a resource as members are compared
 abbrev pub as_member : Pool → List Frame → ℕ → Advert → Member
 as_member pool request place advert = record {
   rank = rank_of_dock pool.moment request advert.ad;
-  claimed = is_some (pool.held_in place);
+  preemption = preemption_of (regard pool.moment request advert.ad) (pool.held_in place);
   regard = regard pool.moment request advert.ad;
   place = place;
 }
 
 -- the resource at a place, if it is a member
-abbrev pub member_with : Pool → List Frame → ℕ → Advert → Option Member
-member_with pool request place advert = if is_member pool request place advert then Some (as_member pool request place advert) else None
+abbrev pub member_with : Pool → List Frame → ℕ → ℕ → Advert → Option Member
+member_with pool request number place advert = if is_member pool request number place advert then Some (as_member pool request place advert) else None
 
 -- the members among the ads, which stand from place k on
-abbrev pub members_from : Pool → List Frame → ℕ → List Advert → List Member
-members_from pool request k [] = []
-members_from pool request k (advert ∷ ads) = cons_option (member_with pool request k advert) (members_from pool request (suc k) ads)
+abbrev pub members_from : Pool → List Frame → ℕ → ℕ → List Advert → List Member
+members_from pool request number k [] = []
+members_from pool request number k (advert ∷ ads) = cons_option (member_with pool request number k advert) (members_from pool request number (suc k) ads)
 
-abbrev pub members : Pool → List Frame → List Member
-members pool request = members_from pool request 0 pool.ads
+abbrev pub members : Pool → List Frame → ℕ → List Member
+members pool request number = members_from pool request number 0 pool.ads
 
 -- ---- their order
 
--- by the job's rank falling, then unclaimed before claimed, then by the resource's rank of the job falling, then by place rising
+-- a resource that is unclaimed comes first, then one that is taken by its rank, then one that is taken by priority
+abbrev pub order_of : Preemption → ℕ
+order_of Preemption.No = 0
+order_of Preemption.ByRank = 1
+order_of Preemption.ByPriority = 2
+
+-- by the job's rank falling, then by how the resource is taken, then by the resource's rank of the job falling, then by place rising
 abbrev pub member_order : Member → Member → Ordering
 member_order a b =
     ordering_then
-    (ordering_then (ordering_then (int_cmp b.rank a.rank) (bool_cmp a.claimed b.claimed)) (int_cmp b.regard a.regard))
+    (ordering_then (ordering_then (int_cmp b.rank a.rank) (nat_cmp (order_of a.preemption) (order_of b.preemption))) (int_cmp b.regard a.regard))
     (nat_cmp a.place b.place)
 
 -- one of these, before which no other comes
@@ -78,10 +98,10 @@ abbrev pub first_of : List Member → Option Member
 first_of [] = None
 first_of (m ∷ ms) = earlier (Some m) (first_of ms)
 
--- the member for a job before which no other comes
-abbrev pub best : Pool → List Frame → Option Member
-best pool request = first_of (members pool request)
+-- the member for a job of a user with this number before which no other comes
+abbrev pub best : Pool → List Frame → ℕ → Option Member
+best pool request number = first_of (members pool request number)
 
 -- the slot of that member
-abbrev pub best_slot : Stock → Pool → List Frame → Option ℕ
-best_slot stock pool request = option_map (λ m. slot_at stock m.place) (best pool request)
+abbrev pub best_slot : Stock → Pool → List Frame → ℕ → Option ℕ
+best_slot stock pool request number = option_map (λ m. slot_at stock m.place) (best pool request number)

@@ -1,4 +1,4 @@
--- The resources of a pool, which are offered, and the docks by which they are held.
+-- The resources of a pool, which are offered, and how they are held.
 use Rattle.std.specs.Prelude.{◌≡◌, ℕ, ℤ, suc, Bool, ◌==◌, List, [], map, take, slice_get, slice_index, Option, Some, All, Contains, option_map}
 use Rattle.std.specs.List.{position_or_len}
 use Rattle.std.specs.Option.{option_map_or}
@@ -12,12 +12,17 @@ use Rattle.ad_eval.specs.Dock.{rank_by}
 
 -- ---- a pool
 
--- the moment, the resources in order, and for each place whether its resource is offered, and the world of the dock by which it is held
+-- how a resource is held: the world of the dock by which it is, and the priority number of the holder's user
+pub record Hold : Type 0 where
+  pub world : PlainWorld
+  pub number : ℕ
+
+-- the moment, the resources in order, and for each place whether its resource is offered, and how it is held
 pub record Pool : Type 0 where
   pub moment : ℕ
   pub ads : List Advert
   pub is_offered : ℕ → Bool
-  pub held_in : ℕ → Option PlainWorld
+  pub held_in : ℕ → Option Hold
 
 -- the rank that the resource of the last dock gives the request
 abbrev pub regard_in : PlainWorld → ℤ
@@ -41,13 +46,17 @@ slots_world moment stock request slots = record { moment = moment; request = ad_
 abbrev pub holder_world : ℕ → Stock → Holding → PlainWorld
 holder_world moment stock holding = slots_world moment stock holding.request (take (suc holding.port) holding.slots)
 
+-- how a resource is held by this holder
+abbrev pub hold_of : ℕ → Stock → Holding → Hold
+hold_of moment stock holding = record { world = holder_world moment stock holding; number = holding.number }
+
 -- the pool of a stock, where it is told by slots what is offered, and who holds what
 abbrev pub pool_of : ℕ → Stock → (ℕ → Bool) → (ℕ → Option Holding) → Pool
 pool_of moment stock is_offered holding = record {
   moment = moment;
   ads = stock.ads;
   is_offered = λ place. is_offered (slot_at stock place);
-  held_in = λ place. option_map (holder_world moment stock) (holding (slot_at stock place));
+  held_in = λ place. option_map (hold_of moment stock) (holding (slot_at stock place));
 }
 
 -- what is held is in the store

@@ -28,12 +28,14 @@ use std::alloc::Global;
 use std::convert::AsSlice;
 use std::sync::ledger::Ledger;
 
-/// The slot of the best resource for a job without ports, `None` exactly where it may be given none. It may be given a
-/// live resource that isn't offered, whose dock with it is true, and that is unclaimed or ranks its holder strictly lower
-/// than the job, in the dock by which it is held. Best is what the job ranks highest; of these an unclaimed resource comes
-/// before a claimed one, then one that ranks the job higher, then the one that stands first in the store (the ranks of both
-/// sides are those of Raman, Livny and Solomon 1998; the order is this pool's own). The index is that of the ads of the
-/// store, and what `held` tells of is in the store.
+/// The slot of the best resource for a job without ports, whose user has this number, `None` exactly where it may be given
+/// none. It may be given a live resource that isn't offered, whose dock with it is true, and for which one of three holds: it is
+/// unclaimed; it ranks its holder strictly lower than the job; or it ranks both alike, and the holder's user has at least twice
+/// the number. The holder is ranked in the dock by which it holds the resource. Best is what the job ranks highest; of these an
+/// unclaimed resource comes before one whose holder is ranked lower, and that before one whose holder is ranked equal; then one
+/// that ranks the job higher; then the one that stands first in the store (the ranks of both sides are those of Raman, Livny and
+/// Solomon 1998, and the kinds of preemption are those of the HTCondor negotiator; the order and the factor of two are this
+/// pool's own). The index is that of the ads of the store, and what `held` tells of is in the store.
 ///
 /// Of the tests of the request the one that leaves the fewest ads says which ads are looked at; without one all are. For
 /// each it counts at most nine in `touch`: the ad, and up to eight to rank its holder. In `tops` and `entry` it counts what
@@ -45,6 +47,7 @@ pub fn best<H: Holdings, F: Ledger, E: Ledger, T: Ledger>(
     index: &Index,
     held: &H,
     request: &Request,
+    number: u64,
     moment: u64,
     tops: &mut Steps<F>,
     entry: &mut Steps<E>,
@@ -54,7 +57,7 @@ pub fn best<H: Holdings, F: Ledger, E: Ledger, T: Ledger>(
     requires stored { AreStored (stock_of store.now) (H.holding held.now) }
     requires single { request.now.ports ≡ [] }
     ensures best { IfOk result (λ slot. slot
-        ≡ best_slot (stock_of store.now) (pool_of moment (stock_of store.now) (H.is_offered held.now) (H.holding held.now)) (ad_frames request.now.ad)) }
+        ≡ best_slot (stock_of store.now) (pool_of moment (stock_of store.now) (H.is_offered held.now) (H.holding held.now)) (ad_frames request.now.ad) number) }
     ensures held { IfOk result (λ slot. IfSome slot (Contains (stock_of store.now).slots)) }
     ensures free { IfOk result (λ slot. IfSome slot (λ s. H.is_offered held.now s ≡ false)) }
     ensures evaluations { tops.new ≤ tops.old
@@ -67,7 +70,7 @@ pub fn best<H: Holdings, F: Ledger, E: Ledger, T: Ledger>(
 {
     let mut known = Known::new(alloc);
     best_knowing(
-        alloc, store, index, held, request, moment, &mut known, tops, entry, touch,
+        alloc, store, index, held, request, number, moment, &mut known, tops, entry, touch,
     )
 }
 
@@ -82,6 +85,7 @@ pub fn best_knowing<H: Holdings, F: Ledger, E: Ledger, T: Ledger>(
     index: &Index,
     held: &H,
     request: &Request,
+    number: u64,
     moment: u64,
     known: &mut Known,
     tops: &mut Steps<F>,
@@ -94,7 +98,7 @@ pub fn best_knowing<H: Holdings, F: Ledger, E: Ledger, T: Ledger>(
     requires known { AreKnown moment (stock_of store.now).ads known.old }
     ensures known { AreKnown moment (stock_of store.now).ads known.new }
     ensures best { IfOk result (λ slot. slot
-        ≡ best_slot (stock_of store.now) (pool_of moment (stock_of store.now) (H.is_offered held.now) (H.holding held.now)) (ad_frames request.now.ad)) }
+        ≡ best_slot (stock_of store.now) (pool_of moment (stock_of store.now) (H.is_offered held.now) (H.holding held.now)) (ad_frames request.now.ad) number) }
     ensures held { IfOk result (λ slot. IfSome slot (Contains (stock_of store.now).slots)) }
     ensures free { IfOk result (λ slot. IfSome slot (λ s. H.is_offered held.now s ≡ false)) }
     ensures evaluations { tops.new ≤ tops.old
@@ -112,6 +116,7 @@ pub fn best_knowing<H: Holdings, F: Ledger, E: Ledger, T: Ledger>(
         store,
         held,
         request,
+        number,
         moment,
         &places,
         &mut ranking,
@@ -139,6 +144,7 @@ fn first_at<H: Holdings, F: Ledger, E: Ledger, T: Ledger>(
     store: &Store,
     held: &H,
     request: &Request,
+    number: u64,
     moment: u64,
     places: &Slots,
     ranking: &mut Ranking,
@@ -151,7 +157,7 @@ fn first_at<H: Holdings, F: Ledger, E: Ledger, T: Ledger>(
     requires places { All (λ place. place < length (stock_of store.now).slots) places.now }
     requires ranks { AreRanks moment (stock_of store.now).ads (rank_expr (ad_frames request.now.ad)) ranking.old.ranks.items }
     ensures ranks { AreRanks moment (stock_of store.now).ads (rank_expr (ad_frames request.now.ad)) ranking.new.ranks.items }
-    ensures first { IfOk result (λ first. IsBest (filter_map (scan.member_at (pool_of moment (stock_of store.now) (H.is_offered held.now) (H.holding held.now)) (ad_frames request.now.ad)) places.now) first) }
+    ensures first { IfOk result (λ first. IsBest (filter_map (scan.member_at (pool_of moment (stock_of store.now) (H.is_offered held.now) (H.holding held.now)) (ad_frames request.now.ad) number) places.now) first) }
     ensures evaluations { tops.new ≤ tops.old + sum_by (scan.evaluations_for (pool_of moment (stock_of store.now) (H.is_offered held.now) (H.holding held.now)) (ad_frames request.now.ad)) places.now }
     ensures entries { entry.new ≤ entry.old + sum_by (scan.attributes_for (pool_of moment (stock_of store.now) (H.is_offered held.now) (H.holding held.now)) (ad_frames request.now.ad)) places.now }
     ensures ratio { IsSmall (ad_frames request.now.ad) → AreSmallAds (stock_of store.now).ads → AreSmallHolders (H.holding held.now) → entry.new + 9216 * tops.old ≤ entry.old + 9216 * tops.new }
@@ -161,7 +167,7 @@ fn first_at<H: Holdings, F: Ledger, E: Ledger, T: Ledger>(
     for place in places.as_slice() {
         let bar = rank_of(&first);
         let next = next_at(
-            alloc, store, held, request, moment, *place, bar, ranking, tops, entry, touch,
+            alloc, store, held, request, number, moment, *place, bar, ranking, tops, entry, touch,
         )?;
         first = earlier(first, next);
     }
@@ -174,6 +180,7 @@ fn next_at<H: Holdings, F: Ledger, E: Ledger, T: Ledger>(
     store: &Store,
     held: &H,
     request: &Request,
+    number: u64,
     moment: u64,
     place: usize,
     bar: Option<i64>,
@@ -187,7 +194,7 @@ fn next_at<H: Holdings, F: Ledger, E: Ledger, T: Ledger>(
     requires place { place < length (stock_of store.now).slots }
     requires ranks { AreRanks moment (stock_of store.now).ads (rank_expr (ad_frames request.now.ad)) ranking.old.ranks.items }
     ensures ranks { AreRanks moment (stock_of store.now).ads (rank_expr (ad_frames request.now.ad)) ranking.new.ranks.items }
-    ensures member { IfOk result (λ member. member ≡ scan.member_above bar (scan.member_at (pool_of moment (stock_of store.now) (H.is_offered held.now) (H.holding held.now)) (ad_frames request.now.ad) place)) }
+    ensures member { IfOk result (λ member. member ≡ scan.member_above bar (scan.member_at (pool_of moment (stock_of store.now) (H.is_offered held.now) (H.holding held.now)) (ad_frames request.now.ad) number place)) }
     ensures evaluations { tops.new ≤ tops.old + scan.evaluations_for (pool_of moment (stock_of store.now) (H.is_offered held.now) (H.holding held.now)) (ad_frames request.now.ad) place }
     ensures entries { entry.new ≤ entry.old + scan.attributes_for (pool_of moment (stock_of store.now) (H.is_offered held.now) (H.holding held.now)) (ad_frames request.now.ad) place }
     ensures ratio { IsSmall (ad_frames request.now.ad) → AreSmallAds (stock_of store.now).ads → AreSmallHolders (H.holding held.now) → entry.new + 9216 * tops.old ≤ entry.old + 9216 * tops.new }
@@ -197,7 +204,7 @@ fn next_at<H: Holdings, F: Ledger, E: Ledger, T: Ledger>(
         return Ok(None);
     }
     member_at(
-        alloc, store, held, request, moment, place, bar, ranking, tops, entry, touch,
+        alloc, store, held, request, number, moment, place, bar, ranking, tops, entry, touch,
     )
 }
 

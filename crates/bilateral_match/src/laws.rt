@@ -79,26 +79,27 @@ pub fn answers_are_all_matches_in_order(moment: u64, request: &Ad)
 
 /// The best member for a job is the one before which no other comes, and none where there are no members. No other is so.
 pub fn no_other_member_comes_before_the_best(request: &Ad)
-    ensures are { (pool : Pool) → IsBest (members pool (ad_frames request.now)) (best pool (ad_frames request.now)) }
-    ensures alone { (pool : Pool) (other : Option Member) → IsBest (members pool (ad_frames request.now)) other
-        → other ≡ best pool (ad_frames request.now) }
+    ensures are { (pool : Pool) (number : ℕ) → IsBest (members pool (ad_frames request.now) number) (best pool (ad_frames request.now) number) }
+    ensures alone { (pool : Pool) (number : ℕ) (other : Option Member) → IsBest (members pool (ad_frames request.now) number) other
+        → other ≡ best pool (ad_frames request.now) number }
 {}
 
 /// More offers leave no more to choose among: a job that finds no resource finds none once more are offered, and there are
 /// no more docks to evaluate for it, and no more attributes to enter.
 pub fn more_offers_leave_no_more_members(request: &Ad)
-    ensures none { (pool : Pool) (offered : ℕ → Bool) → ((place : ℕ) → pool.is_offered place ≡ true → offered place ≡ true)
-        → best pool (ad_frames request.now) ≡ None → best (record pool { is_offered = offered }) (ad_frames request.now) ≡ None }
+    ensures none { (pool : Pool) (number : ℕ) (offered : ℕ → Bool) → ((place : ℕ) → pool.is_offered place ≡ true → offered place ≡ true)
+        → best pool (ad_frames request.now) number ≡ None → best (record pool { is_offered = offered }) (ad_frames request.now) number ≡ None }
     ensures undecided { (pool : Pool) (offered : ℕ → Bool) → ((place : ℕ) → pool.is_offered place ≡ true → offered place ≡ true)
         → open_count (record pool { is_offered = offered }) (ad_frames request.now) ≤ open_count pool (ad_frames request.now) }
     ensures entered { (pool : Pool) (offered : ℕ → Bool) → ((place : ℕ) → pool.is_offered place ≡ true → offered place ≡ true)
         → entered_for (record pool { is_offered = offered }) (ad_frames request.now) ≤ entered_for pool (ad_frames request.now) }
 {}
 
-/// Two jobs whose ads are alike are given the same resource: each dock, and each rank in it, is the same for both.
+/// Two jobs whose ads are alike, of users with the same number, are given the same resource: each dock, and each rank in it, is
+/// the same for both.
 pub fn ads_that_are_alike_have_the_same_best(a: &Ad, b: &Ad)
-    ensures { (stock : Stock) (pool : Pool) → AreAlike (ad_frames a.now) (ad_frames b.now)
-        → best_slot stock pool (ad_frames a.now) ≡ best_slot stock pool (ad_frames b.now) }
+    ensures { (stock : Stock) (pool : Pool) (number : ℕ) → AreAlike (ad_frames a.now) (ad_frames b.now)
+        → best_slot stock pool (ad_frames a.now) number ≡ best_slot stock pool (ad_frames b.now) number }
 {}
 
 /// An ad that settles a rank expression is given the same rank by all requests that have it: so that is evaluated once.

@@ -31,8 +31,8 @@ pub use laws::{
     answers_are_all_matches_in_order, more_offers_leave_no_more_members,
     no_other_member_comes_before_the_best,
 };
-pub use member::Member;
-pub use members::{is_live, is_won};
+pub use member::{Member, Preemption};
+pub use members::{is_live, won_from};
 pub use querying::query;
 pub use shortlists::shortlist;
 pub use sides::{OpenSides, open_sides};

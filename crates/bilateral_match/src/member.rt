@@ -10,12 +10,36 @@ pub struct Ranks {
     pub regard: i64,
 }
 
-/// A resource that a job may be given: the rank that the job gives it, whether it is claimed, the rank that it gives the
-/// job, and its place in the order of the store, counted from 0.
+/// How a job gets a resource: it is unclaimed, or it is taken from a holder that it ranks strictly lower, or from one that it
+/// ranks equal, by the priorities of the users (the three are those of the HTCondor negotiator).
+#[derive(Clone, Copy)]
+pub enum Preemption {
+    No,
+    ByRank,
+    ByPriority,
+}
+
+impl Preemption {
+    ghost use Rattle.bilateral_match.specs.Members.{order_of};
+
+    // Where it stands among the three.
+    pub(crate) fn order(&self) -> u8
+        ensures { result ≡ order_of self.now }
+    {
+        match self {
+            Preemption::No => 0,
+            Preemption::ByRank => 1,
+            Preemption::ByPriority => 2,
+        }
+    }
+}
+
+/// A resource that a job may be given: the rank that the job gives it, how it is taken, the rank that it gives the job, and
+/// its place in the order of the store, counted from 0.
 #[derive(Clone, Copy)]
 pub struct Member {
     pub rank: i64,
-    pub claimed: bool,
+    pub preemption: Preemption,
     pub regard: i64,
     pub place: usize,
 }
@@ -23,7 +47,7 @@ pub struct Member {
 impl Member {
     ghost use Rattle.bilateral_match.specs.Members.{member_order};
 
-    // By the job's rank falling, then unclaimed before claimed, then by the resource's rank of the job falling, then by
+    // By the job's rank falling, then by how the resource is taken, then by the resource's rank of the job falling, then by
     // place.
     pub(crate) fn compare(&self, other: &Member) -> Ordering
         ensures { result ≡ member_order self.now other.now }
@@ -31,7 +55,7 @@ impl Member {
         other
             .rank
             .cmp(&self.rank)
-            .then(self.claimed.cmp(&other.claimed))
+            .then(self.preemption.order().cmp(&other.preemption.order()))
             .then(other.regard.cmp(&self.regard))
             .then(self.place.cmp(&other.place))
     }

@@ -1,5 +1,5 @@
 // Which resources are members for a job.
-ghost use Rattle.std.specs.Prelude.{◌≡◌, ◌≤◌, ◌<◌, ◌+◌, ◌*◌, ℕ, Bool, [], true, int_lt, nat_lt, length, slice_get, max, option_map, All, Contains, IfOk, IfSome, Some, if◌then◌else◌};
+ghost use Rattle.std.specs.Prelude.{◌≡◌, ◌≤◌, ◌<◌, ◌+◌, ◌*◌, ℕ, Option, [], nat_le, nat_lt, length, slice_get, max, option_map, All, Contains, IfOk, IfSome, Some, if◌then◌else◌};
 ghost use Rattle.std.specs.Option.{option_map_or};
 ghost use Rattle.ad_tree.specs.Ad.{ad_frames};
 ghost use Rattle.ad_tree.specs.Small.{IsSmall};
@@ -10,6 +10,7 @@ ghost use Rattle.ad_eval.specs.Dock.{rank_by};
 ghost use Rattle.ad_eval.specs.Small.{AreSmall};
 ghost use Rattle.eval_scope.specs.Shown.{world_of};
 ghost use Rattle.eval_scope.specs.World.{attribute_count, request_side, resource_side};
+ghost use Rattle.bilateral_match.specs.declared.member.Preemption.{Preemption};
 ghost use Rattle.bilateral_match.specs.Docks.{is_undecided, last_open, pair_world, rank_of_dock};
 ghost use Rattle.bilateral_match.specs.Known.{AreRanks, rank_expr};
 ghost use Rattle.bilateral_match.specs.Members as members;
@@ -19,7 +20,7 @@ ghost use Rattle.bilateral_match.specs.Small.{AreSmallAds, AreSmallHolders};
 
 use crate::docking::slots_world;
 use crate::known::Ranking;
-use crate::member::{Member, Ranks};
+use crate::member::{Member, Preemption, Ranks};
 use crate::sides::{OpenSides, open_sides};
 use ad_eval::rank;
 use ad_store::{Held, Holdings, Store};
@@ -30,13 +31,15 @@ use pool_text::OutOfMemory;
 use std::alloc::Global;
 use std::sync::ledger::Ledger;
 
-/// The resource at a place, if it is a member for the job and the job ranks it no lower than the bar, where there is one. A
-/// resource below the bar isn't asked how it ranks the job, nor is its holder. The job's rank is noted in the ranking.
+/// The resource at a place, if it is a member for the job, whose user has this number, and the job ranks it no lower than the
+/// bar, where there is one. A resource below the bar isn't asked how it ranks the job, nor is its holder. The job's rank is
+/// noted in the ranking.
 pub fn member_at<H: Holdings, F: Ledger, E: Ledger, T: Ledger>(
     alloc: Global,
     store: &Store,
     held: &H,
     request: &Request,
+    number: u64,
     moment: u64,
     place: usize,
     bar: Option<i64>,
@@ -50,7 +53,7 @@ pub fn member_at<H: Holdings, F: Ledger, E: Ledger, T: Ledger>(
     requires place { place < length (stock_of store.now).slots }
     requires ranks { AreRanks moment (stock_of store.now).ads (rank_expr (ad_frames request.now.ad)) ranking.old.ranks.items }
     ensures ranks { AreRanks moment (stock_of store.now).ads (rank_expr (ad_frames request.now.ad)) ranking.new.ranks.items }
-    ensures member { IfOk result (λ member. member ≡ scan.member_above bar (scan.member_at (pool.pool_of moment (stock_of store.now) (H.is_offered held.now) (H.holding held.now)) (ad_frames request.now.ad) place)) }
+    ensures member { IfOk result (λ member. member ≡ scan.member_above bar (scan.member_at (pool.pool_of moment (stock_of store.now) (H.is_offered held.now) (H.holding held.now)) (ad_frames request.now.ad) number place)) }
     ensures evaluations { tops.new ≤ tops.old + scan.evaluations_for (pool.pool_of moment (stock_of store.now) (H.is_offered held.now) (H.holding held.now)) (ad_frames request.now.ad) place }
     ensures entries { entry.new ≤ entry.old + scan.attributes_for (pool.pool_of moment (stock_of store.now) (H.is_offered held.now) (H.holding held.now)) (ad_frames request.now.ad) place }
     ensures ratio { IsSmall (ad_frames request.now.ad) → AreSmallAds (stock_of store.now).ads → AreSmallHolders (H.holding held.now) → entry.new + 9216 * tops.old ≤ entry.old + 9216 * tops.new }
@@ -71,42 +74,41 @@ pub fn member_at<H: Holdings, F: Ledger, E: Ledger, T: Ledger>(
         return Ok(None);
     };
     let holder = held.holder(slot);
-    let won = is_won(
+    let won = won_from(
         alloc,
         store,
         holder,
         ranks.regard,
+        number,
         moment,
         tops,
         entry,
         touch,
     );
-    where_won(won, ranks, holder.is_some(), place)
+    where_won(won, ranks, place)
 }
 
 // A resource as members are compared, where it is won.
 fn where_won(
-    won: Result<bool, OutOfMemory>,
+    won: Result<Option<Preemption>, OutOfMemory>,
     ranks: Ranks,
-    claimed: bool,
     place: usize,
 ) -> Result<Option<Member>, OutOfMemory>
-    ensures { (b : Bool) → IfOk won (λ w. w ≡ b) → IfOk result (λ member. member ≡ scan.where_won b ranks claimed place) }
+    ensures { (w : Option Preemption) → IfOk won (λ p. p ≡ w) → IfOk result (λ member. member ≡ scan.where_won w ranks place) }
 {
-    let won = won?;
-    if !won {
+    let Some(preemption) = won? else {
         return Ok(None);
-    }
-    Ok(Some(as_member(ranks, claimed, place)))
+    };
+    Ok(Some(as_member(ranks, place, preemption)))
 }
 
 // A resource as members are compared.
-fn as_member(ranks: Ranks, claimed: bool, place: usize) -> Member
-    ensures { result ≡ scan.as_member ranks claimed place }
+fn as_member(ranks: Ranks, place: usize, preemption: Preemption) -> Member
+    ensures { result ≡ scan.as_member ranks place preemption }
 {
     Member {
         rank: ranks.rank,
-        claimed,
+        preemption,
         regard: ranks.regard,
         place,
     }
@@ -240,22 +242,25 @@ pub(crate) fn reaches(bar: Option<i64>, rank: i64) -> bool
     }
 }
 
-/// Whether a resource that ranks a job so is unclaimed, or ranks its holder strictly lower. The holder is ranked in the world
-/// of the dock by which it holds the resource: one evaluation, and one look for each of its resources up to this one.
-pub fn is_won<F: Ledger, E: Ledger, T: Ledger>(
+/// How a resource that ranks a job so is taken for it, `None` exactly where it stays with its holder. It is taken where it is
+/// unclaimed, where it ranks its holder strictly lower, and where it ranks its holder equal and the holder's user has at least
+/// twice the number of the job's. The holder is ranked in the world of the dock by which it holds the resource: one evaluation,
+/// and one look for each of its resources up to this one.
+pub fn won_from<F: Ledger, E: Ledger, T: Ledger>(
     alloc: Global,
     store: &Store,
     holder: Option<Held<'_>>,
     regard: i64,
+    number: u64,
     moment: u64,
     tops: &mut Steps<F>,
     entry: &mut Steps<E>,
     touch: &mut Steps<T>,
-) -> Result<bool, OutOfMemory>
+) -> Result<Option<Preemption>, OutOfMemory>
     requires stored { IfSome holder (λ h. All (Contains (stock_of store.now).slots) h.slots.now) }
     requires stands { IfSome holder (λ h. h.port < length h.slots.now) }
     requires fills { IfSome holder (λ h. length h.slots.now ≡ max 1 (length h.request.now.ports)) }
-    ensures won { IfOk result (λ won. won ≡ option_map_or (λ h. int_lt (pool.regard_in (pool.holder_world moment (stock_of store.now) h)) regard) (option_map holding_of holder.entry) true) }
+    ensures won { IfOk result (λ won. won ≡ scan.won_from number regard (option_map (pool.hold_of moment (stock_of store.now)) (option_map holding_of holder.entry))) }
     ensures evaluations { tops.new ≤ tops.old + 1 }
     ensures entries { entry.new ≤ entry.old
         + option_map_or (λ h. attribute_count (pool.holder_world moment (stock_of store.now) h)) (option_map holding_of holder.entry) 0 }
@@ -263,26 +268,49 @@ pub fn is_won<F: Ledger, E: Ledger, T: Ledger>(
     ensures looks { touch.new ≤ touch.old + 8 }
 {
     let Some(holder) = holder else {
-        return Ok(true);
+        return Ok(Some(Preemption::No));
     };
     let upto = holder.port as usize + 1;
     let world = slots_world(store, holder.request, &holder.slots[..upto], moment, touch);
-    is_ranked_lower(alloc, &world, regard, tops, entry)
+    taken_from(alloc, &world, holder.number, regard, number, tops, entry)
 }
 
-// Whether the resource that was docked last ranks the other side strictly lower than so.
-fn is_ranked_lower<F: Ledger, E: Ledger>(
+// How the resource that was docked last is taken from the other side, whose user has the number `held`, for a job that it ranks
+// so.
+fn taken_from<F: Ledger, E: Ledger>(
     alloc: Global,
     world: &World<'_>,
+    held: u64,
     regard: i64,
+    number: u64,
     tops: &mut Steps<F>,
     entry: &mut Steps<E>,
-) -> Result<bool, OutOfMemory>
-    ensures lower { IfOk result (λ lower. lower ≡ int_lt (rank_by (world_of world.now) (resource_side (world_of world.now))) regard) }
+) -> Result<Option<Preemption>, OutOfMemory>
+    ensures taken { IfOk result (λ won. won ≡ scan.taken_by (rank_by (world_of world.now) (resource_side (world_of world.now))) regard held number) }
     ensures evaluations { tops.new ≤ tops.old + 1 }
     ensures entries { entry.new ≤ entry.old + attribute_count (world_of world.now) }
     ensures ratio { AreSmall (world_of world.now) → entry.new + 9216 * tops.old ≤ entry.old + 9216 * tops.new }
 {
     let given = rank(alloc, world, world.resource_place(), tops, entry)?;
-    Ok(given < regard)
+    Ok(taken_by(given, regard, held, number))
+}
+
+// How a resource is taken from a holder to whom it gave a rank, and whose user has the number `held`.
+fn taken_by(given: i64, regard: i64, held: u64, number: u64) -> Option<Preemption>
+    ensures { result ≡ scan.taken_by given regard held number }
+{
+    if given < regard {
+        return Some(Preemption::ByRank);
+    }
+    if regard < given || !is_twice(held, number) {
+        return None;
+    }
+    Some(Preemption::ByPriority)
+}
+
+// Whether a number is at least twice another, of which the double may be out of 64 bits.
+fn is_twice(n: u64, other: u64) -> bool
+    ensures { result ≡ nat_le (2 * other) n }
+{
+    other <= n && other <= n - other
 }

@@ -28,9 +28,10 @@ use std::alloc::Global;
 use std::convert::AsSlice;
 use std::sync::ledger::Ledger;
 
-/// The slots of all resources that a job without ports may be given, the best one first and each in the order of `best`.
-/// While the holders stay and no offer is taken back, the best resource is the first of the list that isn't offered. So one
-/// list serves all jobs of the same ad, as the automatic clusters of HTCondor's negotiator do.
+/// The slots of all resources that a job without ports may be given, whose user has this number, the best one first and each in
+/// the order of `best`. While the holders stay and no offer is taken back, the best resource is the first of the list that isn't
+/// offered. So one list serves all jobs of the same ad and of users with the same number, as the automatic clusters of HTCondor's
+/// negotiator do.
 ///
 /// It takes what `best` takes, and counts no more: each ad that is looked at is weighed once.
 pub fn shortlist<H: Holdings, F: Ledger, E: Ledger, T: Ledger>(
@@ -39,6 +40,7 @@ pub fn shortlist<H: Holdings, F: Ledger, E: Ledger, T: Ledger>(
     index: &Index,
     held: &H,
     request: &Request,
+    number: u64,
     moment: u64,
     tops: &mut Steps<F>,
     entry: &mut Steps<E>,
@@ -47,7 +49,7 @@ pub fn shortlist<H: Holdings, F: Ledger, E: Ledger, T: Ledger>(
     requires index { IsIndex index.now (rows_of (stock_of store.now)) }
     requires stored { AreStored (stock_of store.now) (H.holding held.now) }
     requires single { request.now.ports ≡ [] }
-    ensures best { IfOk result (IsShortlist moment (stock_of store.now) (H.is_offered held.now) (H.holding held.now) (ad_frames request.now.ad)) }
+    ensures best { IfOk result (IsShortlist moment (stock_of store.now) (H.is_offered held.now) (H.holding held.now) (ad_frames request.now.ad) number) }
     ensures held { IfOk result (All (Contains (stock_of store.now).slots)) }
     ensures evaluations { tops.new ≤ tops.old
         + 5 * open_count (pool_of moment (stock_of store.now) (H.is_offered held.now) (H.holding held.now)) (ad_frames request.now.ad) }
@@ -59,7 +61,7 @@ pub fn shortlist<H: Holdings, F: Ledger, E: Ledger, T: Ledger>(
 {
     let places = candidates(alloc, store, index, request)?;
     let found = members_at(
-        alloc, store, held, request, moment, &places, tops, entry, touch,
+        alloc, store, held, request, number, moment, &places, tops, entry, touch,
     )?;
     slots_in_order(alloc, store, found)
 }
@@ -81,6 +83,7 @@ fn members_at<H: Holdings, F: Ledger, E: Ledger, T: Ledger>(
     store: &Store,
     held: &H,
     request: &Request,
+    number: u64,
     moment: u64,
     places: &Slots,
     tops: &mut Steps<F>,
@@ -90,7 +93,7 @@ fn members_at<H: Holdings, F: Ledger, E: Ledger, T: Ledger>(
     requires stored { AreStored (stock_of store.now) (H.holding held.now) }
     requires single { request.now.ports ≡ [] }
     requires places { All (λ place. place < length (stock_of store.now).slots) places.now }
-    ensures found { IfOk result (λ found. found.items ≡ filter_map (scan.member_at (pool_of moment (stock_of store.now) (H.is_offered held.now) (H.holding held.now)) (ad_frames request.now.ad)) places.now) }
+    ensures found { IfOk result (λ found. found.items ≡ filter_map (scan.member_at (pool_of moment (stock_of store.now) (H.is_offered held.now) (H.holding held.now)) (ad_frames request.now.ad) number) places.now) }
     ensures evaluations { tops.new ≤ tops.old + sum_by (scan.evaluations_for (pool_of moment (stock_of store.now) (H.is_offered held.now) (H.holding held.now)) (ad_frames request.now.ad)) places.now }
     ensures entries { entry.new ≤ entry.old + sum_by (scan.attributes_for (pool_of moment (stock_of store.now) (H.is_offered held.now) (H.holding held.now)) (ad_frames request.now.ad)) places.now }
     ensures ratio { IsSmall (ad_frames request.now.ad) → AreSmallAds (stock_of store.now).ads → AreSmallHolders (H.holding held.now) → entry.new + 9216 * tops.old ≤ entry.old + 9216 * tops.new }
@@ -104,6 +107,7 @@ fn members_at<H: Holdings, F: Ledger, E: Ledger, T: Ledger>(
             store,
             held,
             request,
+            number,
             moment,
             *place,
             None,

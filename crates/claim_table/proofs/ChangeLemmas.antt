@@ -11,7 +11,7 @@ use Rattle.std.proofs.Math.ListN.{length-set}
 use Rattle.claim_table.specs.declared.answers.JobState.{JobState}
 use Rattle.claim_table.specs.declared.answers.SubmitFault.{SubmitFault}
 use Rattle.claim_table.specs.declared.job.Job.{Job}
-use Rattle.claim_table.specs.declared.job.Standing.{Standing}
+use Rattle.claim_table.specs.declared.job.Stage.{Stage}
 use Rattle.claim_table.specs.Jobs.{AreFree, IsFilled, claim_of, claimed_by, is_named, lists, offer_of, offered_to, refusal, slots_of, state_of, text_of, wanted, with_standing}
 use Rattle.claim_table.specs.Kept.{AreNoted, IsKept, names, note_at, passes_at}
 use Rattle.claim_table.proofs.HolderLemmas.{All-found}
@@ -76,7 +76,7 @@ gap_case (Some m) i k is = by_order (ltb i m) (ltb k i) refl refl
     by_order false true above before = grind (arith, nat_tests)
     by_order false false above before = grind (arith, nat_tests)
 
-module _ (part : Standing → List ℕ) (notes later : List (Option ℕ)) (jobs : List Job) (i : ℕ) (job : Job) (standing : Standing) (noted : AreNoted part notes jobs) (at : slice_get jobs i ≡ Some job) where
+module _ (part : Stage → List ℕ) (notes later : List (Option ℕ)) (jobs : List Job) (i : ℕ) (job : Job) (standing : Stage) (noted : AreNoted part notes jobs) (at : slice_get jobs i ≡ Some job) where
   abbrev test : ℕ → Job → Bool
   test slot j = lists (part j.standing) slot
 
@@ -107,10 +107,10 @@ module _ (part : Standing → List ℕ) (notes later : List (Option ℕ)) (jobs 
       ∙ ap (cond (eqb i k) (lists (part standing) slot)) (noted slot k)
       ∙ sym (passes_at-set (λ j. lists (part j.standing) slot) jobs i k job (record job { standing = standing }) at)
 
-pub renoted : (part : Standing → List ℕ) (notes later : List (Option ℕ)) (jobs : List Job) → AreNoted part notes jobs → ((slot : ℕ) → note_at later slot ≡ note_at notes slot) → AreNoted part later jobs
+pub renoted : (part : Stage → List ℕ) (notes later : List (Option ℕ)) (jobs : List Job) → AreNoted part notes jobs → ((slot : ℕ) → note_at later slot ≡ note_at notes slot) → AreNoted part later jobs
 renoted part notes later jobs noted same = λ slot i. ap (λ n. names n i) (same slot) ∙ noted slot i
 
-gone : (part : Standing → List ℕ) (notes later : List (Option ℕ)) (jobs : List Job) (i : ℕ) (job : Job) → AreNoted part notes jobs → slice_get jobs i ≡ Some job → part job.standing ≡ [] → i < length jobs → ((slot : ℕ) → note_at later slot ≡ option_map (λ k. cond (ltb i k) (k - 1) k) (note_at notes slot)) → AreNoted part later (remove jobs i)
+gone : (part : Stage → List ℕ) (notes later : List (Option ℕ)) (jobs : List Job) (i : ℕ) (job : Job) → AreNoted part notes jobs → slice_get jobs i ≡ Some job → part job.standing ≡ [] → i < length jobs → ((slot : ℕ) → note_at later slot ≡ option_map (λ k. cond (ltb i k) (k - 1) k) (note_at notes slot)) → AreNoted part later (remove jobs i)
 gone part notes later jobs i job noted at none within closes = λ slot k.
     ap (λ n. names n k) (closes slot)
     ∙ gap_case (note_at notes slot) i k (noted slot i ∙ passes_from (λ j. lists (part j.standing) slot) jobs i job at ∙ ap (λ s. lists s slot) none)
@@ -120,17 +120,17 @@ gone part notes later jobs i job noted at none within closes = λ slot k.
 -- ---- what is kept
 
 -- a job that is idle lists nothing
-filled-idle : (job : Job) → job.standing ≡ Standing.Idle → IsFilled job
+filled-idle : (job : Job) → job.standing ≡ Stage.Idle → IsFilled job
 filled-idle job idle = record {
   distinct = subst (λ s. AllPairs (λ a b. a ≢ b) (slots_of s)) (sym idle) (λ i j d before within. absurd (omega arith));
   enough = λ busy. absurd (busy idle);
 }
 
 -- a job that has claimed what was offered to it lists the same
-filled-settled : (job : Job) (slots : List ℕ) → job.standing ≡ Standing.Matched slots → IsFilled job → IsFilled (record job { standing = Standing.Claimed slots })
+filled-settled : (job : Job) (slots : List ℕ) → job.standing ≡ Stage.Matched slots → IsFilled job → IsFilled (record job { standing = Stage.Claimed slots })
 filled-settled job slots matched filled = record {
   distinct = subst (λ s. AllPairs (λ a b. a ≢ b) (slots_of s)) matched filled.distinct;
-  enough = λ _. sym (ap (λ s. length (slots_of s)) matched) ∙ filled.enough (λ idle. let other : Standing.Matched slots ≡ Standing.Idle = sym matched ∙ idle in absurd (cc));
+  enough = λ _. sym (ap (λ s. length (slots_of s)) matched) ∙ filled.enough (λ idle. let other : Stage.Matched slots ≡ Stage.Idle = sym matched ∙ idle in absurd (cc));
 }
 
 module _ (keys : List (Vec ℕ Global)) (jobs : List Job) (offers claims : List (Option ℕ)) (text : ℕ) (kept : IsKept keys jobs offers claims text) (i : ℕ) (job : Job) (at : slice_get jobs i ≡ Some job) where
@@ -138,57 +138,57 @@ module _ (keys : List (Vec ℕ Global)) (jobs : List Job) (offers claims : List 
       → length fewer_offers ≡ length offers → length fewer_claims ≡ length claims
       → ((slot : ℕ) → note_at fewer_offers slot ≡ cond (lists (offer_of job.standing) slot) None (note_at offers slot))
       → ((slot : ℕ) → note_at fewer_claims slot ≡ cond (lists (claim_of job.standing) slot) None (note_at claims slot))
-      → IsKept keys (slice_set jobs i (record job { standing = Standing.Idle })) fewer_offers fewer_claims text
+      → IsKept keys (slice_set jobs i (record job { standing = Stage.Idle })) fewer_offers fewer_claims text
   freed_kept fewer_offers fewer_claims same_offers same_claims clears_offers clears_claims = record {
-    named = kept.named ∙ sym (map-set_same (λ j. j.name) jobs i job (record job { standing = Standing.Idle }) at refl);
-    offered = cleared offer_of offers fewer_offers jobs i job Standing.Idle kept.offered at refl clears_offers;
-    claimed = cleared claim_of claims fewer_claims jobs i job Standing.Idle kept.claimed at refl clears_claims;
+    named = kept.named ∙ sym (map-set_same (λ j. j.name) jobs i job (record job { standing = Stage.Idle }) at refl);
+    offered = cleared offer_of offers fewer_offers jobs i job Stage.Idle kept.offered at refl clears_offers;
+    claimed = cleared claim_of claims fewer_claims jobs i job Stage.Idle kept.claimed at refl clears_claims;
     room = omega (arith, kept.room);
-    counted = kept.counted ∙ sym (sum_by-set_same (λ j. j.text_len) jobs i job (record job { standing = Standing.Idle }) at refl);
+    counted = kept.counted ∙ sym (sum_by-set_same (λ j. j.text_len) jobs i job (record job { standing = Stage.Idle }) at refl);
     within = kept.within;
-    few = omega (arith, kept.few, length-set jobs i (record job { standing = Standing.Idle }));
-    filled = All-set IsFilled jobs i (record job { standing = Standing.Idle }) (filled-idle (record job { standing = Standing.Idle }) refl) kept.filled;
+    few = omega (arith, kept.few, length-set jobs i (record job { standing = Stage.Idle }));
+    filled = All-set IsFilled jobs i (record job { standing = Stage.Idle }) (filled-idle (record job { standing = Stage.Idle }) refl) kept.filled;
   }
 
   pub offered_kept : (slots : List ℕ) (more_offers more_claims : List (Option ℕ))
-      → job.standing ≡ Standing.Idle → wanted job.request ≡ length slots → AreFree slots jobs → AllPairs (λ a b. a ≢ b) slots
+      → job.standing ≡ Stage.Idle → wanted job.request ≡ length slots → AreFree slots jobs → AllPairs (λ a b. a ≢ b) slots
       → length more_offers ≤ length more_claims
       → ((slot : ℕ) → note_at more_offers slot ≡ cond (lists slots slot) (Some i) (note_at offers slot))
       → ((slot : ℕ) → note_at more_claims slot ≡ note_at claims slot)
-      → IsKept keys (slice_set jobs i (record job { standing = Standing.Matched slots })) more_offers more_claims text
+      → IsKept keys (slice_set jobs i (record job { standing = Stage.Matched slots })) more_offers more_claims text
   offered_kept slots more_offers more_claims idle number free distinct room marks same = record {
-    named = kept.named ∙ sym (map-set_same (λ j. j.name) jobs i job (record job { standing = Standing.Matched slots }) at refl);
-    offered = marked offer_of offers more_offers jobs i job (Standing.Matched slots) kept.offered at (ap offer_of idle)
+    named = kept.named ∙ sym (map-set_same (λ j. j.name) jobs i job (record job { standing = Stage.Matched slots }) at refl);
+    offered = marked offer_of offers more_offers jobs i job (Stage.Matched slots) kept.offered at (ap offer_of idle)
         (λ slot listed. noted-position (λ j. lists (offer_of j.standing) slot) jobs (note_at offers slot) (kept.offered slot) ∙ listed_one (λ s. offered_to s jobs ≡ None) slots slot free listed) marks;
-    claimed = same_part claim_of more_claims more_claims jobs i job (Standing.Matched slots) (renoted claim_of claims more_claims jobs kept.claimed same) at (sym (ap claim_of idle));
+    claimed = same_part claim_of more_claims more_claims jobs i job (Stage.Matched slots) (renoted claim_of claims more_claims jobs kept.claimed same) at (sym (ap claim_of idle));
     room = room;
-    counted = kept.counted ∙ sym (sum_by-set_same (λ j. j.text_len) jobs i job (record job { standing = Standing.Matched slots }) at refl);
+    counted = kept.counted ∙ sym (sum_by-set_same (λ j. j.text_len) jobs i job (record job { standing = Stage.Matched slots }) at refl);
     within = kept.within;
-    few = omega (arith, kept.few, length-set jobs i (record job { standing = Standing.Matched slots }));
-    filled = All-set IsFilled jobs i (record job { standing = Standing.Matched slots }) (record { distinct = distinct; enough = λ _. sym number }) kept.filled;
+    few = omega (arith, kept.few, length-set jobs i (record job { standing = Stage.Matched slots }));
+    filled = All-set IsFilled jobs i (record job { standing = Stage.Matched slots }) (record { distinct = distinct; enough = λ _. sym number }) kept.filled;
   }
 
   pub settled_kept : (slots : List ℕ) (fewer_offers more_claims : List (Option ℕ))
-      → job.standing ≡ Standing.Matched slots → All (λ slot. claimed_by slot jobs ≡ None) slots
+      → job.standing ≡ Stage.Matched slots → All (λ slot. claimed_by slot jobs ≡ None) slots
       → length fewer_offers ≡ length offers → length more_claims ≡ length claims
       → ((slot : ℕ) → note_at fewer_offers slot ≡ cond (lists slots slot) None (note_at offers slot))
       → ((slot : ℕ) → note_at more_claims slot ≡ cond (lists slots slot) (Some i) (note_at claims slot))
-      → IsKept keys (slice_set jobs i (record job { standing = Standing.Claimed slots })) fewer_offers more_claims text
+      → IsKept keys (slice_set jobs i (record job { standing = Stage.Claimed slots })) fewer_offers more_claims text
   settled_kept slots fewer_offers more_claims matched free same_offers same_claims clears marks = record {
-    named = kept.named ∙ sym (map-set_same (λ j. j.name) jobs i job (record job { standing = Standing.Claimed slots }) at refl);
-    offered = cleared offer_of offers fewer_offers jobs i job (Standing.Claimed slots) kept.offered at refl
+    named = kept.named ∙ sym (map-set_same (λ j. j.name) jobs i job (record job { standing = Stage.Claimed slots }) at refl);
+    offered = cleared offer_of offers fewer_offers jobs i job (Stage.Claimed slots) kept.offered at refl
         (λ slot. clears slot ∙ ap (λ s. cond (lists s slot) None (note_at offers slot)) (sym (ap offer_of matched)));
-    claimed = marked claim_of claims more_claims jobs i job (Standing.Claimed slots) kept.claimed at (ap claim_of matched)
+    claimed = marked claim_of claims more_claims jobs i job (Stage.Claimed slots) kept.claimed at (ap claim_of matched)
         (λ slot listed. noted-position (λ j. lists (claim_of j.standing) slot) jobs (note_at claims slot) (kept.claimed slot) ∙ listed_one (λ s. claimed_by s jobs ≡ None) slots slot free listed) marks;
     room = omega (arith, kept.room);
-    counted = kept.counted ∙ sym (sum_by-set_same (λ j. j.text_len) jobs i job (record job { standing = Standing.Claimed slots }) at refl);
+    counted = kept.counted ∙ sym (sum_by-set_same (λ j. j.text_len) jobs i job (record job { standing = Stage.Claimed slots }) at refl);
     within = kept.within;
-    few = omega (arith, kept.few, length-set jobs i (record job { standing = Standing.Claimed slots }));
-    filled = All-set IsFilled jobs i (record job { standing = Standing.Claimed slots }) (filled-settled job slots matched (All-found IsFilled jobs i job kept.filled at)) kept.filled;
+    few = omega (arith, kept.few, length-set jobs i (record job { standing = Stage.Claimed slots }));
+    filled = All-set IsFilled jobs i (record job { standing = Stage.Claimed slots }) (filled-settled job slots matched (All-found IsFilled jobs i job kept.filled at)) kept.filled;
   }
 
   pub gone_kept : (fewer_keys : List (Vec ℕ Global)) (fewer_offers fewer_claims : List (Option ℕ))
-      → job.standing ≡ Standing.Idle → i < length jobs → fewer_keys ≡ remove keys i
+      → job.standing ≡ Stage.Idle → i < length jobs → fewer_keys ≡ remove keys i
       → length fewer_offers ≡ length offers → length fewer_claims ≡ length claims
       → ((slot : ℕ) → note_at fewer_offers slot ≡ option_map (λ k. cond (ltb i k) (k - 1) k) (note_at offers slot))
       → ((slot : ℕ) → note_at fewer_claims slot ≡ option_map (λ k. cond (ltb i k) (k - 1) k) (note_at claims slot))
@@ -221,7 +221,7 @@ widened_kept keys jobs offers claims more_offers more_claims text kept room same
 
 -- ---- a job that is taken
 
-module _ (keys later_keys : List (Vec ℕ Global)) (jobs : List Job) (offers claims : List (Option ℕ)) (text : ℕ) (kept : IsKept keys jobs offers claims text) (job : Job) (idle : job.standing ≡ Standing.Idle) where
+module _ (keys later_keys : List (Vec ℕ Global)) (jobs : List Job) (offers claims : List (Option ℕ)) (text : ℕ) (kept : IsKept keys jobs offers claims text) (job : Job) (idle : job.standing ≡ Stage.Idle) where
   pub entered_kept : map (λ key. key.items) later_keys ≡ map (λ key. key.items) keys ++ job.name ∷ [] → length jobs < 10000 → text + job.text_len ≤ 33554432 → IsKept later_keys (jobs ++ job ∷ []) offers claims (text + job.text_len)
   entered_kept last few light = record {
     named = last ∙ ap (λ l. l ++ job.name ∷ []) kept.named ∙ sym (map-push (λ j. j.name) jobs job);
@@ -271,10 +271,10 @@ module _ (keys : List (Vec ℕ Global)) (jobs : List Job) (name : List ℕ) (siz
 
 -- ---- a job that something is offered to
 
-pub matched_offer : (standing : Standing) → state_of standing ≡ JobState.Matched → standing ≡ Standing.Matched (offer_of standing)
-matched_offer Standing.Idle is = absurd (cc)
-matched_offer (Standing.Matched slots) is = refl
-matched_offer (Standing.Claimed slots) is = absurd (cc)
+pub matched_offer : (standing : Stage) → state_of standing ≡ JobState.Matched → standing ≡ Stage.Matched (offer_of standing)
+matched_offer Stage.Idle is = absurd (cc)
+matched_offer (Stage.Matched slots) is = refl
+matched_offer (Stage.Claimed slots) is = absurd (cc)
 
 -- ---- answers
 
@@ -282,7 +282,7 @@ pub ok_gives : {A E P : Type 0} (r : Result A E) → OnOk r P → is_err r ≡ f
 ok_gives (Ok x) given is = given
 ok_gives (Err e) given is = absurd (cc)
 
-pub remove-with_standing : (jobs : List Job) (i : ℕ) (standing : Standing) → remove (with_standing jobs i standing) i ≡ remove jobs i
+pub remove-with_standing : (jobs : List Job) (i : ℕ) (standing : Stage) → remove (with_standing jobs i standing) i ≡ remove jobs i
 remove-with_standing jobs i standing = by_job (slice_get jobs i)
   where
     by_job : (o : Option Job) → remove (option_map_or (λ job. slice_set jobs i (record job { standing = standing })) o jobs) i ≡ remove jobs i

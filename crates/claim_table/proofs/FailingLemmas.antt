@@ -14,6 +14,7 @@ use Rattle.bilateral_match.proofs.DockingLemmas.{dock-next}
 use Rattle.claim_table.specs.declared.job.Job.{Job}
 use Rattle.claim_table.specs.Claims.{first_failing, passes, ports_of, sum_over, world_at}
 use Rattle.claim_table.specs.Jobs.{offer_of}
+use Rattle.claim_table.specs.Priorities.{Setting}
 
 -- ---- the first of the numbers that passes a test
 
@@ -101,21 +102,21 @@ docked-some w v fs docked =
     omega (arith, long, length_push w.docked fs)
 
 -- what is checked of the offer to a job
-module _ (moment : ℕ) (stock : Stock) (jobs : List Job) (job : Job) (slots : List ℕ) (offered : slots ≡ offer_of job.standing) where
+module _ (moment : ℕ) (stock : Stock) (settings : List Setting) (jobs : List Job) (number : ℕ) (job : Job) (slots : List ℕ) (offered : slots ≡ offer_of job.standing) where
   abbrev fails-at : ℕ → Bool
-  fails-at port = not (passes moment stock jobs (slice_index slots port) (world_at moment stock job.request slots port))
+  fails-at port = not (passes moment stock settings jobs number (slice_index slots port) (world_at moment stock job.request slots port))
 
-  pub first-found : (i : ℕ) → i < length slots → ((k : ℕ) → k < i → passes moment stock jobs (slice_index slots k) (world_at moment stock job.request slots k) ≡ true)
-      → passes moment stock jobs (slice_index slots i) (world_at moment stock job.request slots i) ≡ false
-      → Some (slice_index slots i) ≡ first_failing moment stock jobs job.request (offer_of job.standing)
+  pub first-found : (i : ℕ) → i < length slots → ((k : ℕ) → k < i → passes moment stock settings jobs number (slice_index slots k) (world_at moment stock job.request slots k) ≡ true)
+      → passes moment stock settings jobs number (slice_index slots i) (world_at moment stock job.request slots i) ≡ false
+      → Some (slice_index slots i) ≡ first_failing moment stock settings jobs number job.request (offer_of job.standing)
   first-found i within before here =
-      sym (ap (first_failing moment stock jobs job.request) (sym offered)
+      sym (ap (first_failing moment stock settings jobs number job.request) (sym offered)
       ∙ ap (option_map (slice_index slots)) (found_at fails-at (length slots) i within (λ k less. ap not (before k less)) (ap not here)))
 
-  pub all-pass : (i : ℕ) → length slots ≤ i → ((k : ℕ) → k < i → passes moment stock jobs (slice_index slots k) (world_at moment stock job.request slots k) ≡ true)
-      → None ≡ first_failing moment stock jobs job.request (offer_of job.standing)
+  pub all-pass : (i : ℕ) → length slots ≤ i → ((k : ℕ) → k < i → passes moment stock settings jobs number (slice_index slots k) (world_at moment stock job.request slots k) ≡ true)
+      → None ≡ first_failing moment stock settings jobs number job.request (offer_of job.standing)
   all-pass i past before =
-      sym (ap (first_failing moment stock jobs job.request) (sym offered)
+      sym (ap (first_failing moment stock settings jobs number job.request) (sym offered)
       ∙ ap (option_map (slice_index slots)) (none_at fails-at (length slots) (λ k less. ap not (before k (omega (arith, past, less))))))
 
 -- what is counted stays within the sum over the offer

@@ -9,9 +9,10 @@ use Rattle.std.proofs.lemmas.List.Elements.{All-head, All-tail}
 use Rattle.std.proofs.lemmas.Option.{none-some, same_Some}
 use Rattle.ad_store.specs.Holdings.{Holding}
 use Rattle.claim_table.specs.declared.job.Job.{Job}
-use Rattle.claim_table.specs.declared.job.Standing.{Standing}
+use Rattle.claim_table.specs.declared.job.Stage.{Stage}
 use Rattle.claim_table.specs.Holders.{holder_of, holding_in}
 use Rattle.claim_table.specs.Jobs.{IsFilled, claim_of, claimed_by, lists, slots_of, wanted}
+use Rattle.claim_table.specs.Priorities.{Setting}
 use Rattle.claim_table.specs.Kept.{AreNoted, note_at}
 use Rattle.claim_table.proofs.NoteLemmas.{noted-passes, noted-position}
 
@@ -35,21 +36,21 @@ All-found P (first ∷ jobs) zero job all at = subst P (same_Some first job at) 
 All-found P (first ∷ jobs) (suc i) job all at = All-found P jobs i job (All-tail P first jobs all) at
 
 -- what holds of all that jobs hold holds of what the holder of a slot does
-pub holder-found : (P : Holding → Type 0) (jobs : List Job) (slot : ℕ) (h : Holding) → All (λ job. P (holding_in slot job)) jobs → holder_of jobs slot ≡ Some h → P h
-holder-found P jobs slot h all holds = by_number (claimed_by slot jobs) holds
+pub holder-found : (P : Holding → Type 0) (settings : List Setting) (jobs : List Job) (slot : ℕ) (h : Holding) → All (λ job. P (holding_in settings slot job)) jobs → holder_of settings jobs slot ≡ Some h → P h
+holder-found P settings jobs slot h all holds = by_number (claimed_by slot jobs) holds
   where
-    by_job : (i : ℕ) (o : Option Job) → slice_get jobs i ≡ o → option_map (holding_in slot) o ≡ Some h → P h
+    by_job : (i : ℕ) (o : Option Job) → slice_get jobs i ≡ o → option_map (holding_in settings slot) o ≡ Some h → P h
     by_job i None at is = absurd (none-some h is)
-    by_job i (Some job) at is = subst P (same_Some (holding_in slot job) h is) (All-found (λ j. P (holding_in slot j)) jobs i job all at)
+    by_job i (Some job) at is = subst P (same_Some (holding_in settings slot job) h is) (All-found (λ j. P (holding_in settings slot j)) jobs i job all at)
 
-    by_number : (o : Option ℕ) → option_map (holding_in slot) (option_and_then (λ i. slice_get jobs i) o) ≡ Some h → P h
+    by_number : (o : Option ℕ) → option_map (holding_in settings slot) (option_and_then (λ i. slice_get jobs i) o) ≡ Some h → P h
     by_number None is = absurd (none-some h is)
     by_number (Some i) is = by_job i (slice_get jobs i) refl is
 
-enough_at : (standing : Standing) (n slot : ℕ) → (standing ≢ Standing.Idle → length (slots_of standing) ≡ n) → lists (claim_of standing) slot ≡ true → length (claim_of standing) ≡ n
-enough_at Standing.Idle n slot enough listed = absurd (cc)
-enough_at (Standing.Matched slots) n slot enough listed = absurd (cc)
-enough_at (Standing.Claimed slots) n slot enough listed = enough (λ same. cc)
+enough_at : (standing : Stage) (n slot : ℕ) → (standing ≢ Stage.Idle → length (slots_of standing) ≡ n) → lists (claim_of standing) slot ≡ true → length (claim_of standing) ≡ n
+enough_at Stage.Idle n slot enough listed = absurd (cc)
+enough_at (Stage.Matched slots) n slot enough listed = absurd (cc)
+enough_at (Stage.Claimed slots) n slot enough listed = enough (λ same. cc)
 
 -- a job that has claimed a slot has claimed as many as it wants
 pub claims_enough : (job : Job) (slot : ℕ) → IsFilled job → lists (claim_of job.standing) slot ≡ true → length (claim_of job.standing) ≡ wanted job.request

@@ -9,3 +9,4 @@ pub mod NoteLemmas
 pub mod PassingLemmas
 pub mod SmallLemmas
 pub mod StoredLemmas
+mod PriorityLemmas

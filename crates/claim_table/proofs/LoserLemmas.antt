@@ -6,7 +6,7 @@ use Rattle.std.proofs.lemmas.Bool.Decides.{nat_tests}
 use Rattle.std.proofs.lemmas.List.Elements.{All-nil, All-push}
 use Rattle.claim_table.specs.declared.answers.JobState.{JobState}
 use Rattle.claim_table.specs.declared.job.Job.{Job}
-use Rattle.claim_table.specs.declared.job.Standing.{Standing}
+use Rattle.claim_table.specs.declared.job.Stage.{Stage}
 use Rattle.claim_table.specs.Claims.{all_idle, losers, offer_at, once}
 use Rattle.claim_table.specs.Jobs.{claim_of, claimed_by, idle_at, lists, offer_of, state_of}
 use Rattle.claim_table.specs.Kept.{AreNoted, names, note_at, passes_at}
@@ -25,9 +25,9 @@ get-set_other (job ∷ jobs) (suc k) (suc i) new apart = get-set_other jobs k i 
 get-idle : (jobs : List Job) (k i : ℕ) → eqb k i ≡ false → slice_get (idle_at (Some k) jobs) i ≡ slice_get jobs i
 get-idle jobs k i apart = by (slice_get jobs k)
   where
-    by : (o : Option Job) → slice_get (option_map_or (λ job. slice_set jobs k (record job { standing = Standing.Idle })) o jobs) i ≡ slice_get jobs i
+    by : (o : Option Job) → slice_get (option_map_or (λ job. slice_set jobs k (record job { standing = Stage.Idle })) o jobs) i ≡ slice_get jobs i
     by None = refl
-    by (Some job) = get-set_other jobs k i (record job { standing = Standing.Idle }) apart
+    by (Some job) = get-set_other jobs k i (record job { standing = Stage.Idle }) apart
 
 apart_from : (k i : ℕ) (rest : Bool) → (eqb k i || rest) ≡ false → eqb k i ≡ false
 apart_from k i rest none = by (eqb k i) none
@@ -48,7 +48,7 @@ get-all_idle jobs (k ∷ ks) i none =
     ∙ get-idle jobs k i (apart_from k i (lists ks i) none)
 
 -- tests that no idle job passes
-module _ (test : Job → Bool) (fails : (job : Job) → test (record job { standing = Standing.Idle }) ≡ false) where
+module _ (test : Job → Bool) (fails : (job : Job) → test (record job { standing = Stage.Idle }) ≡ false) where
   passes_at-idle : (jobs : List Job) (k j : ℕ) → passes_at test (idle_at (Some k) jobs) j ≡ cond (eqb k j) false (passes_at test jobs j)
   passes_at-idle jobs k j = by (slice_get jobs k) refl
     where
@@ -59,10 +59,10 @@ module _ (test : Job → Bool) (fails : (job : Job) → test (record job { stand
       here none false same = refl
 
       by : (o : Option Job) → slice_get jobs k ≡ o
-          → passes_at test (option_map_or (λ job. slice_set jobs k (record job { standing = Standing.Idle })) o jobs) j ≡ cond (eqb k j) false (passes_at test jobs j)
+          → passes_at test (option_map_or (λ job. slice_set jobs k (record job { standing = Stage.Idle })) o jobs) j ≡ cond (eqb k j) false (passes_at test jobs j)
       by None none = here none (eqb k j) refl
       by (Some job) at =
-          passes_at-set test jobs k j job (record job { standing = Standing.Idle }) at
+          passes_at-set test jobs k j job (record job { standing = Stage.Idle }) at
           ∙ ap (λ b. cond (eqb k j) b (passes_at test jobs j)) (fails job)
 
   both_fail : (a b c : Bool) → cond b false (cond a false c) ≡ cond (a || b) false c
@@ -190,10 +190,10 @@ module _ (claims : List (Option ℕ)) (jobs : List Job) (noted : AreNoted claim_
   matched_wins : (slots : List ℕ) (i : ℕ) → option_map (λ job. state_of job.standing) (slice_get jobs i) ≡ Some JobState.Matched → lists (losers jobs slots) i ≡ false
   matched_wins slots i matched = by (lists (losers jobs slots) i) refl
     where
-      claims_none : (standing : Standing) (slot : ℕ) → state_of standing ≡ JobState.Matched → lists (claim_of standing) slot ≡ false
-      claims_none Standing.Idle slot is = absurd (cc)
-      claims_none (Standing.Matched offered) slot is = refl
-      claims_none (Standing.Claimed claimed) slot is = absurd (cc)
+      claims_none : (standing : Stage) (slot : ℕ) → state_of standing ≡ JobState.Matched → lists (claim_of standing) slot ≡ false
+      claims_none Stage.Idle slot is = absurd (cc)
+      claims_none (Stage.Matched offered) slot is = refl
+      claims_none (Stage.Claimed claimed) slot is = absurd (cc)
 
       idle_hands : (slot : ℕ) (o : Option Job) → option_map (λ job. state_of job.standing) o ≡ Some JobState.Matched → option_map_or (λ job. lists (claim_of job.standing) slot) o false ≡ false
       idle_hands slot None is = refl

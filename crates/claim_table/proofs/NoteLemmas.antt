@@ -8,7 +8,7 @@ use Rattle.std.proofs.lemmas.Bool.Decides.{nat_tests}
 use Rattle.std.proofs.lemmas.List.{get_or_past}
 use Rattle.std.proofs.lemmas.List.Elements.{All-head, All-tail}
 use Rattle.claim_table.specs.declared.job.Job.{Job}
-use Rattle.claim_table.specs.declared.job.Standing.{Standing}
+use Rattle.claim_table.specs.declared.job.Stage.{Stage}
 use Rattle.claim_table.specs.Jobs.{AreExclusive, lists}
 use Rattle.claim_table.specs.Kept.{AreNoted, names, note_at, passes_at}
 
@@ -102,7 +102,7 @@ passes_from test jobs i job at = ap (λ o. option_map_or test o false) at
 pub noted-passes : (test : Job → Bool) (jobs : List Job) (note : Option ℕ) (i : ℕ) (job : Job) → ((k : ℕ) → names note k ≡ passes_at test jobs k) → note ≡ Some i → slice_get jobs i ≡ Some job → test job ≡ true
 noted-passes test jobs _ i job noted is at = sym (passes_from test jobs i job at) ∙ sym (noted i) ∙ ap (λ n. names n i) is ∙ same_number i
 
-pub noted-exclusive : (part : Standing → List ℕ) (notes : List (Option ℕ)) (jobs : List Job) → AreNoted part notes jobs → AreExclusive part jobs
+pub noted-exclusive : (part : Stage → List ℕ) (notes : List (Option ℕ)) (jobs : List Job) → AreNoted part notes jobs → AreExclusive part jobs
 noted-exclusive part notes jobs noted = λ slot i j a b at_i at_j in_a in_b.
     one_named (note_at notes slot) i j
     (noted slot i ∙ passes_from (λ job. lists (part job.standing) slot) jobs i a at_i ∙ in_a)
@@ -143,7 +143,7 @@ listed_at (s ∷ slots) (suc k) d within = by (eqb s (get_or slots k d)) (listed
     by false listed = listed
 
 -- there are notes at all the slots that a job lists
-pub noted-reach : (part : Standing → List ℕ) (notes : List (Option ℕ)) (jobs : List Job) (i : ℕ) (job : Job) → AreNoted part notes jobs → slice_get jobs i ≡ Some job → All (λ slot. slot < length notes) (part job.standing)
+pub noted-reach : (part : Stage → List ℕ) (notes : List (Option ℕ)) (jobs : List Job) (i : ℕ) (job : Job) → AreNoted part notes jobs → slice_get jobs i ≡ Some job → All (λ slot. slot < length notes) (part job.standing)
 noted-reach part notes jobs i job noted at = λ k d within. by (get_or (part job.standing) k d) (listed_at (part job.standing) k d within) (cases_lt (get_or (part job.standing) k d) (length notes))
   where
     by : (slot : ℕ) → lists (part job.standing) slot ≡ true → (slot < length notes) ⊎ (length notes ≤ slot) → slot < length notes

@@ -7,7 +7,7 @@ use Rattle.claim_table.specs.declared.answers.JobState.{JobState}
 use Rattle.claim_table.specs.declared.answers.NoJob.{NoJob}
 use Rattle.claim_table.specs.declared.answers.SubmitFault.{SubmitFault}
 use Rattle.claim_table.specs.declared.job.Job.{Job}
-use Rattle.claim_table.specs.declared.job.Standing.{Standing}
+use Rattle.claim_table.specs.declared.job.Stage.{Stage}
 use Rattle.claim_table.specs.Jobs.{claimed_by, job_named, offered_to, slots_of}
 
 -- the fault is the refusal; memory is asked for only where there is none
@@ -20,10 +20,10 @@ abbrev pub no_job : NoJob
 no_job = record {}
 
 -- the list that a job gives back
-abbrev pub given_back : Standing → Result (List ℕ) JobFault
-given_back Standing.Idle = Err (JobFault.WrongState JobState.Idle)
-given_back (Standing.Matched slots) = Ok slots
-given_back (Standing.Claimed slots) = Ok slots
+abbrev pub given_back : Stage → Result (List ℕ) JobFault
+given_back Stage.Idle = Err (JobFault.WrongState JobState.Idle)
+given_back (Stage.Matched slots) = Ok slots
+given_back (Stage.Claimed slots) = Ok slots
 
 -- the answer of `release`
 abbrev pub release_answer : List ℕ → List Job → Result (List ℕ) JobFault

@@ -6,30 +6,30 @@ use Rattle.ad_tree.specs.declared.request.Request.{Request}
 use Rattle.claim_table.specs.declared.answers.JobState.{JobState}
 use Rattle.claim_table.specs.declared.answers.SubmitFault.{SubmitFault}
 use Rattle.claim_table.specs.declared.job.Job.{Job}
-use Rattle.claim_table.specs.declared.job.Standing.{Standing}
+use Rattle.claim_table.specs.declared.job.Stage.{Stage}
 
--- ---- standings
+-- ---- how a job stands
 
 -- the slots that are offered to a job
-abbrev pub offer_of : Standing → List ℕ
-offer_of (Standing.Matched slots) = slots
+abbrev pub offer_of : Stage → List ℕ
+offer_of (Stage.Matched slots) = slots
 offer_of other = []
 
 -- the slots that a job has claimed
-abbrev pub claim_of : Standing → List ℕ
-claim_of (Standing.Claimed slots) = slots
+abbrev pub claim_of : Stage → List ℕ
+claim_of (Stage.Claimed slots) = slots
 claim_of other = []
 
 -- the slots of a job, offered or claimed
-abbrev pub slots_of : Standing → List ℕ
-slots_of (Standing.Matched slots) = slots
-slots_of (Standing.Claimed slots) = slots
-slots_of Standing.Idle = []
+abbrev pub slots_of : Stage → List ℕ
+slots_of (Stage.Matched slots) = slots
+slots_of (Stage.Claimed slots) = slots
+slots_of Stage.Idle = []
 
-abbrev pub state_of : Standing → JobState
-state_of Standing.Idle = JobState.Idle
-state_of (Standing.Matched slots) = JobState.Matched
-state_of (Standing.Claimed slots) = JobState.Claimed
+abbrev pub state_of : Stage → JobState
+state_of Stage.Idle = JobState.Idle
+state_of (Stage.Matched slots) = JobState.Matched
+state_of (Stage.Claimed slots) = JobState.Claimed
 
 -- how many resources a request wants: one for each port, or one where it has none
 abbrev pub wanted : Request → ℕ
@@ -38,7 +38,7 @@ wanted request = max 1 (length request.ports)
 -- a job lists no resource twice, and has as many as it wants unless it is idle
 pub record IsFilled (job : Job) : Type 0 where
   pub distinct : AllPairs (λ a b. a ≢ b) (slots_of job.standing)
-  pub enough : job.standing ≢ Standing.Idle → length (slots_of job.standing) ≡ wanted job.request
+  pub enough : job.standing ≢ Stage.Idle → length (slots_of job.standing) ≡ wanted job.request
 
 -- ---- who lists a slot
 
@@ -54,7 +54,7 @@ abbrev pub claimed_by : ℕ → List Job → Option ℕ
 claimed_by slot jobs = position (λ job. lists (claim_of job.standing) slot) jobs
 
 -- no two jobs list one slot in this part of their standings
-abbrev pub AreExclusive : (Standing → List ℕ) → List Job → Type 0
+abbrev pub AreExclusive : (Stage → List ℕ) → List Job → Type 0
 AreExclusive part jobs = (slot i j : ℕ) (a b : Job) → slice_get jobs i ≡ Some a → slice_get jobs j ≡ Some b → lists (part a.standing) slot ≡ true → lists (part b.standing) slot ≡ true → i ≡ j
 
 -- none of the slots is offered to a job
@@ -81,13 +81,13 @@ AreNamedApart jobs = (i : ℕ) (job : Job) → slice_get jobs i ≡ Some job →
 -- ---- changes
 
 -- the jobs with another standing at a number
-abbrev pub with_standing : List Job → ℕ → Standing → List Job
+abbrev pub with_standing : List Job → ℕ → Stage → List Job
 with_standing jobs i standing = option_map_or (λ job. slice_set jobs i (record job { standing = standing })) (slice_get jobs i) jobs
 
 -- the jobs with the one of a number made idle
 abbrev pub idle_at : Option ℕ → List Job → List Job
 idle_at None jobs = jobs
-idle_at (Some i) jobs = with_standing jobs i Standing.Idle
+idle_at (Some i) jobs = with_standing jobs i Stage.Idle
 
 -- the jobs when a resource has left: the one that had claimed it and the one that it was offered to are idle
 abbrev pub lost : ℕ → List Job → List Job

@@ -3,7 +3,7 @@ use Rattle.std.specs.Prelude.{◌≡◌, ℕ, ◌≤◌, Bool, false, ◌==◌, 
 use Rattle.std.specs.declared.alloc.Global.{Global}
 use Rattle.std.specs.Option.{option_map_or}
 use Rattle.claim_table.specs.declared.job.Job.{Job}
-use Rattle.claim_table.specs.declared.job.Standing.{Standing}
+use Rattle.claim_table.specs.declared.job.Stage.{Stage}
 use Rattle.claim_table.specs.Jobs.{IsFilled, claim_of, jobs_limit, lists, offer_of, text_limit, text_of}
 
 -- the note at a slot
@@ -19,7 +19,7 @@ abbrev pub passes_at : (Job → Bool) → List Job → ℕ → Bool
 passes_at test jobs i = option_map_or test (slice_get jobs i) false
 
 -- the note at a slot names exactly the jobs that list it
-abbrev pub AreNoted : (Standing → List ℕ) → List (Option ℕ) → List Job → Type 0
+abbrev pub AreNoted : (Stage → List ℕ) → List (Option ℕ) → List Job → Type 0
 AreNoted part notes jobs = (slot i : ℕ) → names (note_at notes slot) i ≡ passes_at (λ job. lists (part job.standing) slot) jobs i
 
 pub record IsKept (keys : List (Vec ℕ Global)) (jobs : List Job) (offers claims : List (Option ℕ)) (text : ℕ) : Type 0 where

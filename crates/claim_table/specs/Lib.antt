@@ -1,7 +1,10 @@
 pub mod Answers
+pub mod Causes
 pub mod Claims
 pub mod Holders
 pub mod Jobs
 pub mod Kept
+pub mod Priorities
+pub mod Settings
 pub mod Small
 pub mod Table

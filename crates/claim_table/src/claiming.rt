@@ -11,19 +11,20 @@ ghost use Rattle.bilateral_match.specs.Docks.{is_last_decided, last_ad};
 ghost use Rattle.bilateral_match.specs.Pool.{holder_world};
 ghost use Rattle.bilateral_match.specs.Small.{AreSmallAds};
 ghost use Rattle.claim_table.specs.declared.answers.JobState.{JobState};
-ghost use Rattle.claim_table.specs.declared.job.Standing.{Standing};
+ghost use Rattle.claim_table.specs.declared.job.Stage.{Stage};
 ghost use Rattle.claim_table.specs.Claims as claims;
 ghost use Rattle.claim_table.specs.Holders.{holder_of};
 ghost use Rattle.claim_table.specs.Jobs.{claimed_by, offer_of, slots_of, state_of, with_standing};
+ghost use Rattle.claim_table.specs.Settings.{settings_of};
 ghost use Rattle.claim_table.specs.Small.{AreSmallJobs};
 ghost use Rattle.claim_table.specs.Table.{jobs_of};
 
 use crate::notes::put;
-use crate::{ClaimFault, ClaimTable, FreedList, Job, JobState};
+use crate::{ClaimFault, ClaimTable, FreedList, Job, JobState, Priorities, Standing};
 use ad_eval::rank;
 use ad_store::{Holdings, Store};
 use ad_tree::{Ad, Request};
-use bilateral_match::{is_won, open_sides};
+use bilateral_match::{open_sides, won_from};
 use eval_scope::World;
 use pool_steps::Steps;
 use pool_text::{OutOfMemory, Slots};
@@ -32,8 +33,10 @@ use std::sync::ledger::Ledger;
 
 impl ClaimTable {
     /// Claims for the job of a name what is offered to it. Each resource of the offer is checked anew, in order: it passes
-    /// where its dock is true now, with those before it docked too, and where it is unclaimed or ranks its holder strictly
-    /// lower than this job. (A match is checked again by the claiming protocol: Raman, Livny and Solomon 1998.)
+    /// where its dock is true now, with those before it docked too, and where one of three holds: it is unclaimed; it ranks
+    /// its holder strictly lower than this job; or it ranks both alike, and the priority of the holder's user is now at
+    /// least twice that of this job's user. (A match is checked again by the claiming protocol: Raman, Livny and Solomon
+    /// 1998.)
     ///
     /// Where all pass the job has claimed them. The jobs that held one of them become idle with all their resources freed;
     /// they are told in the order of the offer, each once, with what they had. `Stale` exactly where one fails, with the
@@ -45,6 +48,7 @@ impl ClaimTable {
     pub fn claim<F: Ledger, E: Ledger, T: Ledger>(
         &mut self,
         store: &Store,
+        priorities: &Priorities,
         name: &[u8],
         moment: u64,
         tops: &mut Steps<F>,
@@ -52,9 +56,9 @@ impl ClaimTable {
         touch: &mut Steps<T>,
     ) -> Result<FreedList, ClaimFault>
         requires { All (λ job. All (Contains (stock_of store.now).slots) (slots_of job.standing)) (jobs_of self.old) }
-        ensures claim { claims.IsClaimed result (jobs_of self.old) (jobs_of self.new) (claims.claimed moment (stock_of store.now) name.now (jobs_of self.old)) }
+        ensures claim { claims.IsClaimed result (jobs_of self.old) (jobs_of self.new) (claims.claimed moment (stock_of store.now) (settings_of priorities.now) name.now (jobs_of self.old)) }
         ensures evaluations { tops.new ≤ tops.old + 4 * claims.undecided_for moment (stock_of store.now) name.now (jobs_of self.old) }
-        ensures entries { entry.new ≤ entry.old + claims.entered_for moment (stock_of store.now) name.now (jobs_of self.old) }
+        ensures entries { entry.new ≤ entry.old + claims.entered_for moment (stock_of store.now) (settings_of priorities.now) name.now (jobs_of self.old) }
         ensures ratio { AreSmallAds (stock_of store.now).ads → AreSmallJobs (jobs_of self.old) → entry.new + 9216 * tops.old ≤ entry.old + 9216 * tops.new }
         ensures looks { touch.new ≤ touch.old + 9 * length (claims.offer_named name.now (jobs_of self.old)) }
     {
@@ -66,7 +70,10 @@ impl ClaimTable {
         if state != JobState::Matched {
             return Err(ClaimFault::WrongState(state));
         }
-        let Ok(failing) = self.first_failing(store, job, moment, tops, entry, touch) else {
+        let number = priorities.get(job.user.bytes());
+        let Ok(failing) = self.first_failing(
+            store, priorities, job, number, moment, tops, entry, touch,
+        ) else {
             return Err(ClaimFault::OutOfMemory);
         };
         if let Some(slot) = failing {
@@ -83,7 +90,9 @@ impl ClaimTable {
     fn first_failing<F: Ledger, E: Ledger, T: Ledger>(
         &self,
         store: &Store,
+        priorities: &Priorities,
         job: &Job,
+        number: u64,
         moment: u64,
         tops: &mut Steps<F>,
         entry: &mut Steps<E>,
@@ -92,9 +101,9 @@ impl ClaimTable {
         requires stored { All (λ j. All (Contains (stock_of store.now).slots) (slots_of j.standing)) (jobs_of self.now) }
         requires offered { All (Contains (stock_of store.now).slots) (offer_of job.now.standing) }
         requires few { length (offer_of job.now.standing) ≤ 8 }
-        ensures failing { IfOk result (λ slot. slot ≡ claims.first_failing moment (stock_of store.now) (jobs_of self.now) job.now.request (offer_of job.now.standing)) }
+        ensures failing { IfOk result (λ slot. slot ≡ claims.first_failing moment (stock_of store.now) (settings_of priorities.now) (jobs_of self.now) number job.now.request (offer_of job.now.standing)) }
         ensures evaluations { tops.new ≤ tops.old + 4 * claims.sum_over (λ slot world. if is_last_decided world then 0 else 1) moment (stock_of store.now) job.now }
-        ensures entries { entry.new ≤ entry.old + claims.sum_over (claims.entered_in moment (stock_of store.now) (jobs_of self.now)) moment (stock_of store.now) job.now }
+        ensures entries { entry.new ≤ entry.old + claims.sum_over (claims.entered_in moment (stock_of store.now) (settings_of priorities.now) (jobs_of self.now)) moment (stock_of store.now) job.now }
         ensures ratio { IsSmall (ad_frames job.now.request.ad) → AreSmallAds (stock_of store.now).ads → AreSmallJobs (jobs_of self.now) → entry.new + 9216 * tops.old ≤ entry.old + 9216 * tops.new }
         ensures looks { touch.new ≤ touch.old + 9 * length (offer_of job.now.standing) }
     {
@@ -105,7 +114,7 @@ impl ClaimTable {
             let ad = store.look(*slot, touch);
             world.dock(ad);
             if !self.passes(
-                store, request, *slot, ad, &world, moment, tops, entry, touch,
+                store, priorities, request, number, *slot, ad, &world, moment, tops, entry, touch,
             )? {
                 return Ok(Some(*slot));
             }
@@ -117,7 +126,9 @@ impl ClaimTable {
     fn passes<F: Ledger, E: Ledger, T: Ledger>(
         &self,
         store: &Store,
+        priorities: &Priorities,
         request: &Request,
+        number: u64,
         slot: usize,
         ad: &Ad,
         world: &World<'_>,
@@ -131,9 +142,9 @@ impl ClaimTable {
         requires ports { (world_of world.now).ports ≡ request.now.ports }
         requires docked { 0 < length (world_of world.now).docked }
         requires last { last_ad (world_of world.now) ≡ ad_frames ad.now }
-        ensures passes { IfOk result (λ b. b ≡ claims.passes moment (stock_of store.now) (jobs_of self.now) slot (world_of world.now)) }
+        ensures passes { IfOk result (λ b. b ≡ claims.passes moment (stock_of store.now) (settings_of priorities.now) (jobs_of self.now) number slot (world_of world.now)) }
         ensures evaluations { tops.new ≤ tops.old + 4 * (if is_last_decided (world_of world.now) then 0 else 1) }
-        ensures entries { entry.new ≤ entry.old + claims.entered_in moment (stock_of store.now) (jobs_of self.now) slot (world_of world.now) }
+        ensures entries { entry.new ≤ entry.old + claims.entered_in moment (stock_of store.now) (settings_of priorities.now) (jobs_of self.now) slot (world_of world.now) }
         ensures ratio { AreSmall (world_of world.now) → AreSmallAds (stock_of store.now).ads → AreSmallJobs (jobs_of self.now) → entry.new + 9216 * tops.old ≤ entry.old + 9216 * tops.new }
         ensures looks { touch.new ≤ touch.old + 8 }
     {
@@ -143,13 +154,17 @@ impl ClaimTable {
         if !sides.dock(self.alloc, world, tops, entry)? {
             return Ok(false);
         }
-        self.wins(store, slot, world, moment, tops, entry, touch)
+        self.wins(
+            store, priorities, number, slot, world, moment, tops, entry, touch,
+        )
     }
 
-    // Whether the resource in a slot, which was docked last, is unclaimed, or ranks its holder strictly lower than the job.
+    // Whether the resource in a slot, which was docked last, is taken for the job, whose user has this number.
     fn wins<F: Ledger, E: Ledger, T: Ledger>(
         &self,
         store: &Store,
+        priorities: &Priorities,
+        number: u64,
         slot: usize,
         world: &World<'_>,
         moment: u64,
@@ -158,21 +173,26 @@ impl ClaimTable {
         touch: &mut Steps<T>,
     ) -> Result<bool, OutOfMemory>
         requires { All (λ j. All (Contains (stock_of store.now).slots) (slots_of j.standing)) (jobs_of self.now) }
-        ensures won { IfOk result (λ b. b ≡ claims.is_won moment (stock_of store.now) (jobs_of self.now) slot (world_of world.now)) }
+        ensures won { IfOk result (λ b. b ≡ claims.is_won moment (stock_of store.now) (settings_of priorities.now) (jobs_of self.now) number slot (world_of world.now)) }
         ensures evaluations { tops.new ≤ tops.old + 2 }
         ensures entries { entry.new ≤ entry.old + attribute_count (world_of world.now)
-            + option_map_or (λ holding. attribute_count (holder_world moment (stock_of store.now) holding)) (holder_of (jobs_of self.now) slot) 0 }
+            + option_map_or (λ holding. attribute_count (holder_world moment (stock_of store.now) holding)) (holder_of (settings_of priorities.now) (jobs_of self.now) slot) 0 }
         ensures ratio { AreSmall (world_of world.now) → AreSmallAds (stock_of store.now).ads → AreSmallJobs (jobs_of self.now) → entry.new + 9216 * tops.old ≤ entry.old + 9216 * tops.new }
         ensures looks { touch.new ≤ touch.old + 8 }
     {
-        let holder = self.holder(slot);
+        let standing = Standing {
+            claims: self,
+            priorities,
+        };
+        let holder = standing.holder(slot);
         if holder.is_none() {
             return Ok(true);
         }
         let regard = rank(self.alloc, world, world.resource_place(), tops, entry)?;
-        is_won(
-            self.alloc, store, holder, regard, moment, tops, entry, touch,
-        )
+        let won = won_from(
+            self.alloc, store, holder, regard, number, moment, tops, entry, touch,
+        )?;
+        Ok(won.is_some())
     }
 
     // Job `i` claims what is offered to it, also from the jobs that have claimed it. Memory is taken first.
@@ -226,7 +246,7 @@ impl ClaimTable {
     fn settle(&mut self, i: usize)
         requires matched { option_map (λ job. state_of job.standing) (slice_get (jobs_of self.old) i) ≡ Some JobState.Matched }
         requires free { All (λ slot. claimed_by slot (jobs_of self.old) ≡ None) (claims.offer_at i (jobs_of self.old)) }
-        ensures { jobs_of self.new ≡ with_standing (jobs_of self.old) i (Standing.Claimed (claims.offer_at i (jobs_of self.old))) }
+        ensures { jobs_of self.new ≡ with_standing (jobs_of self.old) i (Stage.Claimed (claims.offer_at i (jobs_of self.old))) }
     {
         let slots = self.jobs[i].standing.offer();
         put(&mut self.offers, slots, None);

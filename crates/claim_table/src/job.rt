@@ -1,6 +1,6 @@
 // A job, and how it stands.
 ghost use Rattle.std.specs.Prelude.{◌≡◌};
-ghost use Rattle.claim_table.specs.declared.job.Standing.{Standing};
+ghost use Rattle.claim_table.specs.declared.job.Stage.{Stage};
 ghost use Rattle.claim_table.specs.Jobs.{claim_of, offer_of, slots_of, state_of};
 
 use crate::JobState;
@@ -17,25 +17,25 @@ pub struct Job {
     pub user: Text,
     pub text_len: u64,
     pub request: Request,
-    pub standing: Standing,
+    pub standing: Stage,
 }
 
 /// How a job stands, with the slots that are offered to it or that it has claimed.
 #[derive(Drop)]
-pub enum Standing {
+pub enum Stage {
     Idle,
     Matched(Slots),
     Claimed(Slots),
 }
 
-impl Standing {
+impl Stage {
     pub(crate) fn state(&self) -> JobState
         ensures { result ≡ state_of self.now }
     {
         match self {
-            Standing::Idle => JobState::Idle,
-            Standing::Matched(_) => JobState::Matched,
-            Standing::Claimed(_) => JobState::Claimed,
+            Stage::Idle => JobState::Idle,
+            Stage::Matched(_) => JobState::Matched,
+            Stage::Claimed(_) => JobState::Claimed,
         }
     }
 
@@ -44,7 +44,7 @@ impl Standing {
         ensures { result.now ≡ offer_of self.now }
     {
         match self {
-            Standing::Matched(slots) => slots.as_slice(),
+            Stage::Matched(slots) => slots.as_slice(),
             _ => &[],
         }
     }
@@ -54,7 +54,7 @@ impl Standing {
         ensures { result.now ≡ claim_of self.now }
     {
         match self {
-            Standing::Claimed(slots) => slots.as_slice(),
+            Stage::Claimed(slots) => slots.as_slice(),
             _ => &[],
         }
     }
@@ -64,9 +64,9 @@ impl Standing {
         ensures { result.now ≡ slots_of self.now }
     {
         match self {
-            Standing::Idle => &[],
-            Standing::Matched(slots) => slots.as_slice(),
-            Standing::Claimed(slots) => slots.as_slice(),
+            Stage::Idle => &[],
+            Stage::Matched(slots) => slots.as_slice(),
+            Stage::Claimed(slots) => slots.as_slice(),
         }
     }
 
@@ -75,17 +75,17 @@ impl Standing {
         ensures { result ≡ slots_of self }
     {
         match self {
-            Standing::Idle => Slots::new(alloc),
-            Standing::Matched(slots) => slots,
-            Standing::Claimed(slots) => slots,
+            Stage::Idle => Slots::new(alloc),
+            Stage::Matched(slots) => slots,
+            Stage::Claimed(slots) => slots,
         }
     }
 
     /// What was offered is claimed.
     pub(crate) fn settle(&mut self, alloc: Global)
-        ensures { self.new ≡ Standing.Claimed (slots_of self.old) }
+        ensures { self.new ≡ Stage.Claimed (slots_of self.old) }
     {
-        let was = replace(self, Standing::Idle);
-        let _idle = replace(self, Standing::Claimed(was.into_slots(alloc)));
+        let was = replace(self, Stage::Idle);
+        let _idle = replace(self, Stage::Claimed(was.into_slots(alloc)));
     }
 }

@@ -1,13 +1,12 @@
 // The table of jobs.
 ghost use Rattle.std.specs.Prelude.{◌≡◌, ◌≢◌, ◌==◌, ◌<◌, ◌≤◌, ◌+◌, ◌++◌, ◌∷◌, ℕ, [], All, AllPairs, false, bytes_eq, length, map, max, option_map, remove, slice_get, vec_capacity, vec_len, Err, IfNone, IfSome, IfErr, IfOk, None, Ok, OnErr, OnOk, Some};
 ghost use Rattle.std.specs.List.{list_any, position_or_len};
-ghost use Rattle.claim_table.specs.declared.job.Standing.{Standing};
+ghost use Rattle.claim_table.specs.declared.job.Stage.{Stage};
 ghost use Rattle.claim_table.specs.Answers.{IsCause, freed_at, freed_by, freed_of, no_job, release_answer, without_at};
 ghost use Rattle.claim_table.specs.Kept.{IsKept};
 
 use crate::notes::{close_gap, note, put, widen};
-use crate::{Freed, FreedList, Job, JobFault, JobState, NoJob, Standing, SubmitFault};
-use ad_store::{Held, Holdings};
+use crate::{Freed, FreedList, Job, JobFault, JobState, NoJob, Stage, SubmitFault};
 use ad_tree::Request;
 use indexmap::IndexSet;
 use pool_text::{OutOfMemory, Slots, Text};
@@ -81,7 +80,7 @@ impl ClaimTable {
         request: Request,
         text_len: u64,
     ) -> Result<(), SubmitFault>
-        ensures ok { OnOk result (jobs_of self.new ≡ jobs_of self.old ++ (record { name = name.now; user = user.now; text_len = text_len; request = request; standing = Standing.Idle }) ∷ []) }
+        ensures ok { OnOk result (jobs_of self.new ≡ jobs_of self.old ++ (record { name = name.now; user = user.now; text_len = text_len; request = request; standing = Stage.Idle }) ∷ []) }
         ensures none { OnOk result (refusal name.now text_len (jobs_of self.old) ≡ None) }
         ensures cause { IfErr result (λ fault. IsCause fault (refusal name.now text_len (jobs_of self.old))) }
         ensures err { OnErr result (jobs_of self.new ≡ jobs_of self.old) }
@@ -97,7 +96,7 @@ impl ClaimTable {
             user: titles.user,
             text_len,
             request,
-            standing: Standing::Idle,
+            standing: Stage::Idle,
         });
         self.text += text_len;
         Ok(())
@@ -185,16 +184,16 @@ impl ClaimTable {
     /// Offers slots to job `i`, which is idle; they are as many as it wants, no two of them are one, and none is offered.
     /// Memory is taken first.
     pub fn offer(&mut self, i: usize, slots: Slots) -> Result<(), OutOfMemory>
-        requires idle { option_map (λ job. job.standing) (slice_get (jobs_of self.old) i) ≡ Some Standing.Idle }
+        requires idle { option_map (λ job. job.standing) (slice_get (jobs_of self.old) i) ≡ Some Stage.Idle }
         requires free { AreFree slots (jobs_of self.old) }
         requires distinct { AllPairs (λ a b. a ≢ b) slots }
         requires wanted { option_map (λ job. wanted job.request) (slice_get (jobs_of self.old) i) ≡ Some (length slots) }
-        ensures ok { OnOk result (jobs_of self.new ≡ with_standing (jobs_of self.old) i (Standing.Matched slots)) }
+        ensures ok { OnOk result (jobs_of self.new ≡ with_standing (jobs_of self.old) i (Stage.Matched slots)) }
         ensures err { OnErr result (jobs_of self.new ≡ jobs_of self.old) }
     {
         widen(&mut self.offers, &mut self.claims, slots.as_slice())?;
         put(&mut self.offers, slots.as_slice(), Some(i));
-        let _idle = replace(&mut self.jobs[i].standing, Standing::Matched(slots));
+        let _idle = replace(&mut self.jobs[i].standing, Stage::Matched(slots));
         Ok(())
     }
 
@@ -202,9 +201,9 @@ impl ClaimTable {
     pub(crate) fn free(&mut self, i: usize) -> Slots
         requires { i < length (jobs_of self.old) }
         ensures slots { option_map (λ job. slots_of job.standing) (slice_get (jobs_of self.old) i) ≡ Some result }
-        ensures jobs { jobs_of self.new ≡ with_standing (jobs_of self.old) i Standing.Idle }
+        ensures jobs { jobs_of self.new ≡ with_standing (jobs_of self.old) i Stage.Idle }
     {
-        let was = replace(&mut self.jobs[i].standing, Standing::Idle);
+        let was = replace(&mut self.jobs[i].standing, Stage::Idle);
         put(&mut self.offers, was.offer(), None);
         put(&mut self.claims, was.claim(), None);
         was.into_slots(self.alloc)
@@ -212,7 +211,7 @@ impl ClaimTable {
 
     // Takes out job `i`, which is idle.
     fn take_out(&mut self, i: usize)
-        requires { option_map (λ job. job.standing) (slice_get (jobs_of self.old) i) ≡ Some Standing.Idle }
+        requires { option_map (λ job. job.standing) (slice_get (jobs_of self.old) i) ≡ Some Stage.Idle }
         ensures { jobs_of self.new ≡ remove (jobs_of self.old) i }
     {
         self.names.shift_remove_index(i);
@@ -317,49 +316,6 @@ impl ClaimTable {
     {
         &self.jobs[i].request
     }
-}
-
-impl Holdings for ClaimTable {
-    ghost use Rattle.std.specs.Prelude.{is_some};
-    ghost use Rattle.claim_table.specs.Holders.{holder_of};
-    ghost use Rattle.claim_table.specs.Jobs.{offered_to};
-    ghost use Rattle.claim_table.specs.Table.{jobs_of};
-
-    ghost is_offered = { λ table slot. is_some (offered_to slot (jobs_of table)) };
-
-    ghost holding = { λ table slot. holder_of (jobs_of table) slot };
-
-    fn offered(&self, slot: usize) -> bool {
-        self.offered_to(slot).is_some()
-    }
-
-    fn holder(&self, slot: usize) -> Option<Held<'_>> {
-        let Some(i) = self.claimed_by(slot) else {
-            return None;
-        };
-        let job = &self.jobs[i];
-        let slots = job.standing.claim();
-        Some(Held {
-            request: &job.request,
-            slots,
-            port: port_of(slots, slot),
-        })
-    }
-}
-
-// The first place of a slot among those of a job.
-fn port_of(slots: &[usize], slot: usize) -> u32
-    requires { length slots.now ≤ 8 }
-    ensures { result ≡ position_or_len (λ s. s == slot) slots.now }
-{
-    let mut port = 0;
-    for other in slots {
-        if *other == slot {
-            return port;
-        }
-        port += 1;
-    }
-    port
 }
 
 // A job that loses its slots, with those that it has.

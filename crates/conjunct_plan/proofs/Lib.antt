@@ -1,3 +1,4 @@
+mod ChainLemmas
 mod EnclosedLemmas
 mod TestLemmas
 mod VerdictLemmas

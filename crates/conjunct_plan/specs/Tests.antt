@@ -89,6 +89,10 @@ labels_of ports = map (λ port. port.label) ports
 abbrev pub requirement_expr : List Frame → ℕ → Option Tree
 requirement_expr fs f = option_and_then (λ k. expr_at fs f k) (requirement_of fs f)
 
+-- the conjuncts of the requirement of frame f, none where it has no requirement
+abbrev pub conjuncts_at : List Frame → ℕ → List Tree
+conjuncts_at fs f = option_map_or conjuncts (requirement_expr fs f) []
+
 -- the tests of the requirement of frame f, in the order of the conjuncts
 abbrev pub tests_of : List Frame → ℕ → List (List ℕ) → List Test
 tests_of fs f labels = option_map_or (λ t. filter_map (test_of fs f labels) (conjuncts t)) (requirement_expr fs f) []

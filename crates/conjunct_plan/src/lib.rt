@@ -1,8 +1,11 @@
-//! Tests: conjuncts of a requirement that compare one attribute of the other side with a literal, and what decides them
-//! without an evaluation.
+//! The conjuncts of requirements, and tests: those that compare one attribute of the other side with a literal, and what
+//! decides them without an evaluation.
 #![tactic(auto)]
 
+mod counting;
 mod enclosed;
+mod gathering;
+mod picking;
 mod planning;
 mod probe;
 mod ruling;
@@ -10,7 +13,10 @@ mod side;
 mod test;
 mod verdict;
 
-pub use planning::plan;
+pub use counting::conjunct_count;
+pub use gathering::conjuncts_of;
+pub use picking::conjunct;
+pub use planning::{plan, requirement};
 pub use ruling::{decided, rules_out, verdict_of};
 pub use test::{Test, Tests};
 pub use verdict::Verdict;

@@ -27,7 +27,7 @@ pub fn plan(alloc: Global, ad: &Ad, frame: u32, ports: &Ports) -> Result<Tests, 
 }
 
 /// The expression of a frame's requirement: its `Requirements`, or its `Constraint` where it has none.
-pub(crate) fn requirement<'a>(ad: &'a Ad, frame: u32) -> Option<&'a Expr>
+pub fn requirement<'a>(ad: &'a Ad, frame: u32) -> Option<&'a Expr>
     requires { frame < length (ad_frames ad.now) }
     ensures { option_map (λ e. tree e.now) result ≡ requirement_expr (ad_frames ad.now) frame }
 {

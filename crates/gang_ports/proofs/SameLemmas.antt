@@ -5,8 +5,8 @@ use Rattle.std.specs.Option.{option_map_or}
 use Rattle.ad_tree.specs.Frames.{Frame}
 use Rattle.ad_tree.specs.declared.request.Port.{Port}
 use Rattle.ad_store.specs.Stock.{Advert, is_live}
-use Rattle.bilateral_match.specs.Pool.{Pool}
-use Rattle.eval_scope.specs.World.{PlainWorld, port_frame}
+use Rattle.bilateral_match.specs.Pool.{Hold, Pool}
+use Rattle.eval_scope.specs.World.{port_frame}
 use Rattle.gang_ports.specs.Choice.{Choice, first_of, is_among, over_prefixes, tuples}
 use Rattle.gang_ports.specs.FreePorts.{is_free_port}
 use Rattle.gang_ports.specs.Gangs.{choice_of, docks_open, docks_weighed, free_places, gang, is_free, is_open, open_docks, open_places, weighed_at}
@@ -22,7 +22,7 @@ filter-within p q k (suc n) m fits same =
 
 -- ---- pools that say the same
 
-module _ (moment : ℕ) (ads : List Advert) (off_a off_b : ℕ → Bool) (held_a held_b : ℕ → Option PlainWorld) where
+module _ (moment : ℕ) (ads : List Advert) (off_a off_b : ℕ → Bool) (held_a held_b : ℕ → Option Hold) where
   abbrev pub one : Pool
   one = record { moment = moment; ads = ads; is_offered = off_a; held_in = held_a }
 

@@ -15,7 +15,7 @@ use Rattle.negotiator.specs.declared.queues.Queue.{Queue}
 use Rattle.negotiator.specs.Budget.{is_idle_at}
 use Rattle.negotiator.specs.Cycle.{Market, Waiting, all_users, is_of, places, user_order, users_of, waits}
 use Rattle.negotiator.specs.Markets.{is_free, market_of}
-use Rattle.negotiator.specs.Priorities.{Setting, priority_of}
+use Rattle.claim_table.specs.Priorities.{Setting, priority_of}
 use Rattle.negotiator.specs.Queues.{AreQueues}
 use Rattle.negotiator.specs.Scenes.{users_at}
 use Rattle.negotiator.proofs.AlikeLemmas.{any-same}

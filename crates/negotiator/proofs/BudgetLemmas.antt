@@ -11,8 +11,9 @@ use Rattle.ad_tree.specs.declared.request.Request.{Request}
 use Rattle.ad_store.specs.Stock.{Advert, Stock}
 use Rattle.bilateral_match.specs.Pool.{Pool}
 use Rattle.claim_table.specs.declared.job.Job.{Job}
-use Rattle.claim_table.specs.declared.job.Standing.{Standing}
+use Rattle.claim_table.specs.declared.job.Stage.{Stage}
 use Rattle.claim_table.specs.Jobs.{with_standing}
+use Rattle.claim_table.specs.Priorities.{Setting}
 use Rattle.gang_ports.specs.Gangs.{docks_open, looks_most}
 use Rattle.negotiator.specs.Budget.{ArePaid, AreWithin, Counts, IsSearched, budget, due, entries_for, evaluations_by, evaluations_for, is_idle_at, is_marked, left_for, looks_by, looks_for, narrowed_by, open_by, open_for, over_idle, price_at}
 use Rattle.negotiator.specs.Markets.{is_idle, pool_for}
@@ -116,51 +117,51 @@ module _ (price : List Job → Request → ℕ) where
 
 -- ---- the three counts
 
-module _ (moment : ℕ) (stock : Stock) where
-  pub paid-none : (jobs : List Job) (failed : List Bool) (counts : Counts) → ArePaid moment stock jobs jobs failed failed counts counts
+module _ (moment : ℕ) (stock : Stock) (settings : List Setting) where
+  pub paid-none : (jobs : List Job) (failed : List Bool) (counts : Counts) → ArePaid moment stock settings jobs jobs failed failed counts counts
   paid-none jobs failed counts = record { tops = omega arith; entry = omega arith; touch = omega arith }
 
-  pub paid-on : (a b c : List Job) (f g h : List Bool) (x y z : Counts) → ArePaid moment stock a b f g x y → ArePaid moment stock b c g h y z → ArePaid moment stock a c f h x z
+  pub paid-on : (a b c : List Job) (f g h : List Bool) (x y z : Counts) → ArePaid moment stock settings a b f g x y → ArePaid moment stock settings b c g h y z → ArePaid moment stock settings a c f h x z
   paid-on a b c f g h x y z p q =
       let p0 = p.tops in let q0 = q.tops in let p1 = p.entry in let q1 = q.entry in let p2 = p.touch in let q2 = q.touch in
       record { tops = omega (arith, p0, q0); entry = omega (arith, p1, q1); touch = omega (arith, p2, q2) }
 
-  pub paid-within : (a b : List Job) (f g : List Bool) (x y : Counts) → ArePaid moment stock a b f g x y → AreWithin moment stock a f x y
+  pub paid-within : (a b : List Job) (f g : List Bool) (x y : Counts) → ArePaid moment stock settings a b f g x y → AreWithin moment stock settings a f x y
   paid-within a b f g x y p = let p0 = p.tops in let p1 = p.entry in let p2 = p.touch in record { tops = omega (arith, p0); entry = omega (arith, p1); touch = omega (arith, p2) }
 
-  pub within-none : (jobs : List Job) (failed : List Bool) (counts : Counts) → AreWithin moment stock jobs failed counts counts
+  pub within-none : (jobs : List Job) (failed : List Bool) (counts : Counts) → AreWithin moment stock settings jobs failed counts counts
   within-none jobs failed counts = record { tops = omega arith; entry = omega arith; touch = omega arith }
 
-  pub within-on : (a b : List Job) (f g : List Bool) (x y z : Counts) → ArePaid moment stock a b f g x y → AreWithin moment stock b g y z → AreWithin moment stock a f x z
+  pub within-on : (a b : List Job) (f g : List Bool) (x y z : Counts) → ArePaid moment stock settings a b f g x y → AreWithin moment stock settings b g y z → AreWithin moment stock settings a f x z
   within-on a b f g x y z p q =
       let p0 = p.tops in let q0 = q.tops in let p1 = p.entry in let q1 = q.entry in let p2 = p.touch in let q2 = q.touch in
       record { tops = omega (arith, p0, q0); entry = omega (arith, p1, q1); touch = omega (arith, p2, q2) }
 
-module _ (moment : ℕ) (stock : Stock) (jobs : List Job) (failed : List Bool) (i : ℕ) (idle : is_idle_at jobs i ≡ true) (free : is_marked failed i ≡ false) (within : i < length failed) (before after : Counts) (searched : IsSearched moment stock jobs i before after) where
+module _ (moment : ℕ) (stock : Stock) (settings : List Setting) (jobs : List Job) (failed : List Bool) (i : ℕ) (idle : is_idle_at jobs i ≡ true) (free : is_marked failed i ≡ false) (within : i < length failed) (before after : Counts) (searched : IsSearched moment stock settings jobs i before after) where
   place : i < length jobs
   place = idle-within jobs i idle
 
-  pub search-within : AreWithin moment stock jobs failed before after
+  pub search-within : AreWithin moment stock settings jobs failed before after
   search-within =
       let t = searched.tops in let e = searched.entry in let l = searched.touch in
-      let dt = due-is (evaluations_for moment stock) jobs failed i idle free in let wt = due-within (evaluations_for moment stock) jobs failed i place within in
-      let de = due-is (entries_for moment stock) jobs failed i idle free in let we = due-within (entries_for moment stock) jobs failed i place within in
+      let dt = due-is (evaluations_for moment stock settings) jobs failed i idle free in let wt = due-within (evaluations_for moment stock settings) jobs failed i place within in
+      let de = due-is (entries_for moment stock settings) jobs failed i idle free in let we = due-within (entries_for moment stock settings) jobs failed i place within in
       let dl = due-is (looks_for stock) jobs failed i idle free in let wl = due-within (looks_for stock) jobs failed i place within in
       record { tops = omega (arith, t, dt, wt); entry = omega (arith, e, de, we); touch = omega (arith, l, dl, wl) }
 
-  pub fail-paid : ArePaid moment stock jobs jobs failed (set failed i true) before after
+  pub fail-paid : ArePaid moment stock settings jobs jobs failed (set failed i true) before after
   fail-paid =
       let t = searched.tops in let e = searched.entry in let l = searched.touch in
-      let dt = due-is (evaluations_for moment stock) jobs failed i idle free in let wt = mark-pays (evaluations_for moment stock) jobs failed i place within in
-      let de = due-is (entries_for moment stock) jobs failed i idle free in let we = mark-pays (entries_for moment stock) jobs failed i place within in
+      let dt = due-is (evaluations_for moment stock settings) jobs failed i idle free in let wt = mark-pays (evaluations_for moment stock settings) jobs failed i place within in
+      let de = due-is (entries_for moment stock settings) jobs failed i idle free in let we = mark-pays (entries_for moment stock settings) jobs failed i place within in
       let dl = due-is (looks_for stock) jobs failed i idle free in let wl = mark-pays (looks_for stock) jobs failed i place within in
       record { tops = omega (arith, t, dt, wt); entry = omega (arith, e, de, we); touch = omega (arith, l, dl, wl) }
 
-  pub offer-paid : (slots : List ℕ) → ArePaid moment stock jobs (with_standing jobs i (Standing.Matched slots)) failed failed before after
+  pub offer-paid : (slots : List ℕ) → ArePaid moment stock settings jobs (with_standing jobs i (Stage.Matched slots)) failed failed before after
   offer-paid slots =
       let t = searched.tops in let e = searched.entry in let l = searched.touch in
-      let dt = due-is (evaluations_for moment stock) jobs failed i idle free in let wt = offer-pays (evaluations_for moment stock) jobs failed i slots idle (evaluations-later jobs i slots idle moment stock) in
-      let de = due-is (entries_for moment stock) jobs failed i idle free in let we = offer-pays (entries_for moment stock) jobs failed i slots idle (entries-later jobs i slots idle moment stock) in
+      let dt = due-is (evaluations_for moment stock settings) jobs failed i idle free in let wt = offer-pays (evaluations_for moment stock settings) jobs failed i slots idle (evaluations-later jobs i slots idle moment stock settings) in
+      let de = due-is (entries_for moment stock settings) jobs failed i idle free in let we = offer-pays (entries_for moment stock settings) jobs failed i slots idle (entries-later jobs i slots idle moment stock settings) in
       let dl = due-is (looks_for stock) jobs failed i idle free in let wl = offer-pays (looks_for stock) jobs failed i slots idle (λ request. omega arith) in
       record { tops = omega (arith, t, dt, wt); entry = omega (arith, e, de, we); touch = omega (arith, l, dl, wl) }
 
@@ -228,19 +229,19 @@ looks-nine ads request (port ∷ ports) = by (looks_most ads request (port ∷ p
     by : (n : ℕ) → n ≤ 9 * n
     by n = omega arith
 
-module _ (moment : ℕ) (stock : Stock) (jobs : List Job) (failed : List Bool) (none : (k : ℕ) → is_marked failed k ≡ false) (before after : Counts) (within : AreWithin moment stock jobs failed before after) where
-  pub evaluations-start : after.tops ≤ before.tops + 5 * over_idle (open_for moment stock) jobs
+module _ (moment : ℕ) (stock : Stock) (settings : List Setting) (jobs : List Job) (failed : List Bool) (none : (k : ℕ) → is_marked failed k ≡ false) (before after : Counts) (within : AreWithin moment stock settings jobs failed before after) where
+  pub evaluations-start : after.tops ≤ before.tops + 5 * over_idle (open_for moment stock settings) jobs
   evaluations-start =
       let rise = within.tops in
-      let start = budget-start (evaluations_for moment stock) jobs failed none in
+      let start = budget-start (evaluations_for moment stock settings) jobs failed none in
       let idle = filter (λ (job : Job). is_idle job.standing) jobs in
-      let most = sum_by-le-sum_by (λ (job : Job). evaluations_for moment stock jobs job.request) (λ (job : Job). 5 * open_for moment stock jobs job.request) idle
-      (λ job. evaluations-five (pool_for moment stock jobs) (ad_frames job.request.ad) job.request.ports) in
-      let five = sum-times 5 (λ (job : Job). open_for moment stock jobs job.request) idle in
+      let most = sum_by-le-sum_by (λ (job : Job). evaluations_for moment stock settings jobs job.request) (λ (job : Job). 5 * open_for moment stock settings jobs job.request) idle
+      (λ job. evaluations-five (pool_for moment stock settings jobs) (ad_frames job.request.ad) job.request.ports) in
+      let five = sum-times 5 (λ (job : Job). open_for moment stock settings jobs job.request) idle in
       omega (arith, rise, start, most, five)
 
-  pub entries-start : after.entry ≤ before.entry + over_idle (entries_for moment stock) jobs
-  entries-start = let rise = within.entry in let start = budget-start (entries_for moment stock) jobs failed none in omega (arith, rise, start)
+  pub entries-start : after.entry ≤ before.entry + over_idle (entries_for moment stock settings) jobs
+  entries-start = let rise = within.entry in let start = budget-start (entries_for moment stock settings) jobs failed none in omega (arith, rise, start)
 
   pub looks-start : after.touch ≤ before.touch + 9 * over_idle (left_for stock) jobs
   looks-start =

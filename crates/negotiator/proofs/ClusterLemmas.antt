@@ -17,16 +17,17 @@ use Rattle.bilateral_match.specs.Pool.{pool_of}
 use Rattle.bilateral_match.specs.Shortlists.{IsShortlist, first_left}
 use Rattle.bilateral_match.proofs.AlikeLemmas.{best-same}
 use Rattle.claim_table.specs.declared.job.Job.{Job}
-use Rattle.claim_table.specs.declared.job.Standing.{Standing}
+use Rattle.claim_table.specs.declared.job.Stage.{Stage}
 use Rattle.claim_table.specs.Holders.{holder_of}
 use Rattle.claim_table.specs.Jobs.{offered_to, with_standing}
+use Rattle.claim_table.specs.Priorities.{Setting}
 use Rattle.negotiator.specs.declared.clusters.Cluster.{Cluster}
 use Rattle.negotiator.specs.declared.clusters.Clusters.{Clusters}
 use Rattle.negotiator.specs.declared.scene.Scene.{Scene}
 use Rattle.negotiator.specs.Budget.{is_idle_at}
 use Rattle.negotiator.specs.Clusters.{AreClusters, IsCluster, ad_at, is_offered}
 use Rattle.negotiator.specs.Markets.{pool_for}
-use Rattle.negotiator.specs.Scenes.{stock_in}
+use Rattle.negotiator.specs.Scenes.{settings_in, stock_in}
 use Rattle.negotiator.proofs.JobLemmas.{get-map, holder-later, length-later, offered-later, requests-later}
 
 -- ---- the first that isn't offered
@@ -92,66 +93,68 @@ ad-by jobs i = by (slice_get jobs i) ∙ sym (ap (λ o. option_map_or (λ (r : R
 
 -- ---- a cluster
 
-module _ (moment : ℕ) (stock : Stock) (jobs : List Job) where
-  module _ (cluster : Cluster) (is : IsCluster moment stock jobs cluster) where
-    pub left-best : (slot : Option ℕ) → slot ≡ first_left (is_offered jobs) cluster.slots → slot ≡ best_slot stock (pool_for moment stock jobs) (ad_at jobs cluster.place)
+module _ (moment : ℕ) (stock : Stock) (settings : List Setting) (jobs : List Job) where
+  module _ (cluster : Cluster) (is : IsCluster moment stock settings jobs cluster) where
+    pub left-best : (slot : Option ℕ) → slot ≡ first_left (is_offered jobs) cluster.slots → slot ≡ best_slot stock (pool_for moment stock settings jobs) (ad_at jobs cluster.place) cluster.number
     left-best slot first = first ∙ sym (is.list (is_offered jobs) (λ s e. e))
 
-    pub further : (n : ℕ) → All (λ slot. is_offered jobs slot ≡ true) (take n cluster.slots) → IsCluster moment stock jobs (record { place = cluster.place; slots = cluster.slots; passed = n })
+    pub further : (n : ℕ) → All (λ slot. is_offered jobs slot ≡ true) (take n cluster.slots) → IsCluster moment stock settings jobs (record { place = cluster.place; number = cluster.number; slots = cluster.slots; passed = n })
     further n passed = record { place = is.place; list = is.list; passed = passed }
 
-  pub first-cluster : (i : ℕ) (request : Request) (slots : List ℕ) → option_map (λ (job : Job). job.request) (slice_get jobs i) ≡ Some request → IsShortlist moment stock (is_offered jobs) (holder_of jobs) (ad_frames request.ad) slots → IsCluster moment stock jobs (record { place = i; slots = slots; passed = 0 })
-  first-cluster i request slots at list = record {
+  pub first-cluster : (i : ℕ) (request : Request) (number : ℕ) (slots : List ℕ) → option_map (λ (job : Job). job.request) (slice_get jobs i) ≡ Some request → IsShortlist moment stock (is_offered jobs) (holder_of settings jobs) (ad_frames request.ad) number slots → IsCluster moment stock settings jobs (record { place = i; number = number; slots = slots; passed = 0 })
+  first-cluster i request number slots at list = record {
     place = job-within jobs i request at;
-    list = subst (λ (frames : List Frame). IsShortlist moment stock (is_offered jobs) (holder_of jobs) frames slots) (sym (ad-is jobs i request at)) list;
+    list = subst (λ (frames : List Frame). IsShortlist moment stock (is_offered jobs) (holder_of settings jobs) frames number slots) (sym (ad-is jobs i request at)) list;
     passed = All-nil (λ slot. is_offered jobs slot ≡ true);
   }
 
-  -- what is best for the jobs of a cluster is best for a job of the same ad
-  pub best-alike : (slot : Option ℕ) (a b : List Frame) → slot ≡ best_slot stock (pool_for moment stock jobs) a → AreAlike a b → slot ≡ best_slot stock (pool_for moment stock jobs) b
-  best-alike slot a b best alike = best ∙ best-same (pool_for moment stock jobs) a b alike stock
+  -- what is best for the jobs of a cluster is best for a job of the same ad, of a user with the same number
+  pub best-alike : (slot : Option ℕ) (a b : List Frame) (n m : ℕ) → slot ≡ best_slot stock (pool_for moment stock settings jobs) a n → AreAlike a b → n ≡ m → slot ≡ best_slot stock (pool_for moment stock settings jobs) b m
+  best-alike slot a b n m best alike same = best ∙ best-same (pool_for moment stock settings jobs) n a b alike stock ∙ ap (best_slot stock (pool_for moment stock settings jobs) b) same
 
-  pub best-here : (slot : Option ℕ) (place i : ℕ) (request : Request) → slot ≡ best_slot stock (pool_for moment stock jobs) (ad_at jobs place) → place ≡ i → option_map (λ (job : Job). job.request) (slice_get jobs i) ≡ Some request → slot ≡ best_slot stock (pool_for moment stock jobs) (ad_frames request.ad)
-  best-here slot place i request best same at =
+  pub best-here : (slot : Option ℕ) (place i n m : ℕ) (request : Request) → slot ≡ best_slot stock (pool_for moment stock settings jobs) (ad_at jobs place) n → place ≡ i → n ≡ m
+      → option_map (λ (job : Job). job.request) (slice_get jobs i) ≡ Some request → slot ≡ best_slot stock (pool_for moment stock settings jobs) (ad_frames request.ad) m
+  best-here slot place i n m request best same mine at =
       best
-      ∙ ap (λ (n : ℕ). best_slot stock (pool_for moment stock jobs) (ad_at jobs n)) same
-      ∙ ap (best_slot stock (pool_for moment stock jobs)) (ad-is jobs i request at)
+      ∙ ap (λ (k : ℕ). best_slot stock (pool_for moment stock settings jobs) (ad_at jobs k) n) same
+      ∙ ap (best_slot stock (pool_for moment stock settings jobs) (ad_at jobs i)) mine
+      ∙ ap (λ (frames : List Frame). best_slot stock (pool_for moment stock settings jobs) frames m) (ad-is jobs i request at)
 
-  pub no-clusters : (clusters : Clusters) → clusters.seen.items ≡ [] → clusters.ranked.items ≡ [] → AreKnown moment stock.ads clusters.known → AreClusters moment stock jobs clusters
+  pub no-clusters : (clusters : Clusters) → clusters.seen.items ≡ [] → clusters.ranked.items ≡ [] → AreKnown moment stock.ads clusters.known → AreClusters moment stock settings jobs clusters
   no-clusters clusters seen ranked known = record {
     seen = subst (All (λ place. place < length jobs)) (sym seen) (All-nil (λ place. place < length jobs));
-    ranked = subst (All (IsCluster moment stock jobs)) (sym ranked) (All-nil (IsCluster moment stock jobs));
+    ranked = subst (All (IsCluster moment stock settings jobs)) (sym ranked) (All-nil (IsCluster moment stock settings jobs));
     known = known;
   }
 
 -- ---- clusters that change
 
-module _ (moment : ℕ) (stock : Stock) (jobs : List Job) (clusters : Clusters) (are : AreClusters moment stock jobs clusters) where
-  pub one-changed : (after : Clusters) (k : ℕ) (cluster : Cluster) → after.seen.items ≡ clusters.seen.items → after.ranked.items ≡ set clusters.ranked.items k cluster → after.known ≡ clusters.known → IsCluster moment stock jobs cluster → AreClusters moment stock jobs after
+module _ (moment : ℕ) (stock : Stock) (settings : List Setting) (jobs : List Job) (clusters : Clusters) (are : AreClusters moment stock settings jobs clusters) where
+  pub one-changed : (after : Clusters) (k : ℕ) (cluster : Cluster) → after.seen.items ≡ clusters.seen.items → after.ranked.items ≡ set clusters.ranked.items k cluster → after.known ≡ clusters.known → IsCluster moment stock settings jobs cluster → AreClusters moment stock settings jobs after
   one-changed after k cluster seen ranked known is = record {
     seen = subst (All (λ place. place < length jobs)) (sym seen) are.seen;
-    ranked = subst (All (IsCluster moment stock jobs)) (sym ranked) (All-set (IsCluster moment stock jobs) clusters.ranked.items k cluster is are.ranked);
+    ranked = subst (All (IsCluster moment stock settings jobs)) (sym ranked) (All-set (IsCluster moment stock settings jobs) clusters.ranked.items k cluster is are.ranked);
     known = subst (AreKnown moment stock.ads) (sym known) are.known;
   }
 
-  pub one-ranked : (after : Clusters) (cluster : Cluster) → after.seen.items ≡ clusters.seen.items → after.ranked.items ≡ clusters.ranked.items ++ cluster ∷ [] → after.known ≡ clusters.known → IsCluster moment stock jobs cluster → AreClusters moment stock jobs after
+  pub one-ranked : (after : Clusters) (cluster : Cluster) → after.seen.items ≡ clusters.seen.items → after.ranked.items ≡ clusters.ranked.items ++ cluster ∷ [] → after.known ≡ clusters.known → IsCluster moment stock settings jobs cluster → AreClusters moment stock settings jobs after
   one-ranked after cluster seen ranked known is = record {
     seen = subst (All (λ place. place < length jobs)) (sym seen) are.seen;
-    ranked = subst (All (IsCluster moment stock jobs)) (sym ranked) (All-push (IsCluster moment stock jobs) clusters.ranked.items cluster are.ranked is);
+    ranked = subst (All (IsCluster moment stock settings jobs)) (sym ranked) (All-push (IsCluster moment stock settings jobs) clusters.ranked.items cluster are.ranked is);
     known = subst (AreKnown moment stock.ads) (sym known) are.known;
   }
 
-  pub one-seen : (after : Clusters) → All (λ place. place < length jobs) after.seen.items → after.ranked.items ≡ clusters.ranked.items → AreKnown moment stock.ads after.known → AreClusters moment stock jobs after
-  one-seen after seen ranked known = record { seen = seen; ranked = subst (All (IsCluster moment stock jobs)) (sym ranked) are.ranked; known = known }
+  pub one-seen : (after : Clusters) → All (λ place. place < length jobs) after.seen.items → after.ranked.items ≡ clusters.ranked.items → AreKnown moment stock.ads after.known → AreClusters moment stock settings jobs after
+  one-seen after seen ranked known = record { seen = seen; ranked = subst (All (IsCluster moment stock settings jobs)) (sym ranked) are.ranked; known = known }
 
-pub same-clusters : (scene : Scene) {jobs later : List Job} {clusters after : Clusters} → later ≡ jobs → after ≡ clusters → AreClusters scene.moment (stock_in scene) jobs clusters → AreClusters scene.moment (stock_in scene) later after
+pub same-clusters : (scene : Scene) {jobs later : List Job} {clusters after : Clusters} → later ≡ jobs → after ≡ clusters → AreClusters scene.moment (stock_in scene) (settings_in scene) jobs clusters → AreClusters scene.moment (stock_in scene) (settings_in scene) later after
 same-clusters scene jobs_are clusters_are are = rw (jobs_are, clusters_are) are
 
 -- ---- one more offer
 
-module _ (moment : ℕ) (stock : Stock) (jobs : List Job) (i : ℕ) (slots : List ℕ) (idle : is_idle_at jobs i ≡ true) where
+module _ (moment : ℕ) (stock : Stock) (settings : List Setting) (jobs : List Job) (i : ℕ) (slots : List ℕ) (idle : is_idle_at jobs i ≡ true) where
   abbrev later : List Job
-  later = with_standing jobs i (Standing.Matched slots)
+  later = with_standing jobs i (Stage.Matched slots)
 
   ad-later : (place : ℕ) → ad_at later place ≡ ad_at jobs place
   ad-later place =
@@ -159,17 +162,17 @@ module _ (moment : ℕ) (stock : Stock) (jobs : List Job) (i : ℕ) (slots : Lis
       ∙ ap (λ rs. option_map_or (λ (r : Request). ad_frames r.ad) (slice_get rs place) []) (requests-later jobs i slots idle)
       ∙ sym (ad-by jobs place)
 
-  cluster-later : (cluster : Cluster) → IsCluster moment stock jobs cluster → IsCluster moment stock later cluster
+  cluster-later : (cluster : Cluster) → IsCluster moment stock settings jobs cluster → IsCluster moment stock settings later cluster
   cluster-later cluster is = record {
     place = subst (λ (n : ℕ). cluster.place < n) (sym (length-later jobs i slots idle)) is.place;
     list = λ more grows.
-        ap (λ holding. best_slot stock (pool_of moment stock more holding) (ad_at later cluster.place)) (fun_ext (holder-later jobs i slots idle))
-        ∙ ap (best_slot stock (pool_of moment stock more (holder_of jobs))) (ad-later cluster.place)
+        ap (λ holding. best_slot stock (pool_of moment stock more holding) (ad_at later cluster.place) cluster.number) (fun_ext (holder-later jobs i slots idle settings))
+        ∙ ap (λ (frames : List Frame). best_slot stock (pool_of moment stock more (holder_of settings jobs)) frames cluster.number) (ad-later cluster.place)
         ∙ is.list more (λ slot some. grows slot (offered-later jobs i slots idle slot some));
     passed = λ k d within. offered-later jobs i slots idle (get_or (take cluster.passed cluster.slots) k d) (is.passed k d within);
   }
 
-  pub clusters-later : (clusters : Clusters) → AreClusters moment stock jobs clusters → AreClusters moment stock later clusters
+  pub clusters-later : (clusters : Clusters) → AreClusters moment stock settings jobs clusters → AreClusters moment stock settings later clusters
   clusters-later clusters are = record {
     seen = λ k d within. subst (λ (n : ℕ). get_or clusters.seen.items k d < n) (sym (length-later jobs i slots idle)) (are.seen k d within);
     ranked = λ k d within. cluster-later (get_or clusters.ranked.items k d) (are.ranked k d within);

@@ -13,6 +13,7 @@ use Rattle.ad_store.specs.Stock.{Advert, Stock, is_live}
 use Rattle.bilateral_match.specs.Pool.{Pool, slot_at}
 use Rattle.claim_table.specs.declared.job.Job.{Job}
 use Rattle.claim_table.specs.Jobs.{AreFree, offered_to}
+use Rattle.claim_table.specs.Priorities.{Setting}
 use Rattle.gang_ports.specs.Choice.{Choice, IsFirst, IsFirstOf, fits, is_among, next, tuples}
 use Rattle.gang_ports.specs.Gangs.{choice_of, free_places, gang, is_free}
 use Rattle.gang_ports.proofs.LawLemmas.{all-tuples, first-are}
@@ -127,9 +128,9 @@ not-some (Some a) e = absurd (cc)
 
 -- ---- the gang by its slots
 
-module _ (moment : ℕ) (stock : Stock) (jobs : List Job) (request : List Frame) (ports : List Port) where
+module _ (moment : ℕ) (stock : Stock) (settings : List Setting) (jobs : List Job) (request : List Frame) (ports : List Port) where
   abbrev pool : Pool
-  pool = pool_for moment stock jobs
+  pool = pool_for moment stock settings jobs
 
   -- what holds of the slots of the gang holds of what a search for it finds
   pub gang-all : (P : List ℕ → Type 0) → ((places : List ℕ) → gang pool request ports ≡ Some places → P (map (slot_at stock) places))

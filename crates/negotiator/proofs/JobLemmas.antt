@@ -18,10 +18,11 @@ use Rattle.bilateral_match.specs.Pool.{AreStored, Pool, pool_of, slot_at}
 use Rattle.bilateral_match.specs.declared.member.Member.{Member}
 use Rattle.bilateral_match.proofs.OfferLemmas.{fewer-entered, fewer-open, none-later}
 use Rattle.claim_table.specs.declared.job.Job.{Job}
-use Rattle.claim_table.specs.declared.job.Standing.{Standing}
+use Rattle.claim_table.specs.declared.job.Stage.{Stage}
 use Rattle.claim_table.specs.Holders.{holder_of, holding_in}
 use Rattle.claim_table.specs.Jobs.{claim_of, claimed_by, lists, offer_of, offered_to, with_standing}
 use Rattle.claim_table.proofs.ListLemmas.{map-set_same, position-map}
+use Rattle.claim_table.specs.Priorities.{Setting, priority_of}
 use Rattle.gang_ports.specs.Gangs.{gang}
 use Rattle.gang_ports.proofs.PoolLemmas.{attributes-later, docks-later, gang-later}
 use Rattle.negotiator.specs.Budget.{entries_by, entries_for, evaluations_by, evaluations_for, is_idle_at}
@@ -32,15 +33,15 @@ use Rattle.negotiator.specs.Markets.{found, found_by, found_for, is_idle, pool_f
 pub record IdleJob (jobs : List Job) (i : ℕ) : Type 0 where
   pub job : Job
   pub at : slice_get jobs i ≡ Some job
-  pub idle : job.standing ≡ Standing.Idle
+  pub idle : job.standing ≡ Stage.Idle
 
 pub idle-job : (jobs : List Job) (i : ℕ) → is_idle_at jobs i ≡ true → IdleJob jobs i
 idle-job jobs i e = by (slice_get jobs i) refl e
   where
-    standing : (s : Standing) → is_idle s ≡ true → s ≡ Standing.Idle
-    standing Standing.Idle e = refl
-    standing (Standing.Matched slots) e = absurd (cc)
-    standing (Standing.Claimed slots) e = absurd (cc)
+    standing : (s : Stage) → is_idle s ≡ true → s ≡ Stage.Idle
+    standing Stage.Idle e = refl
+    standing (Stage.Matched slots) e = absurd (cc)
+    standing (Stage.Claimed slots) e = absurd (cc)
 
     by : (o : Option Job) → slice_get jobs i ≡ o → option_map_or (λ (job : Job). is_idle job.standing) o false ≡ true → IdleJob jobs i
     by None at e = absurd (cc)
@@ -118,16 +119,16 @@ all-same P jobs others same all = All-unmap others (subst (All P) (sym same) (Al
 
 module _ (jobs : List Job) (i : ℕ) (slots : List ℕ) (idle : is_idle_at jobs i ≡ true) where
   abbrev pub later : List Job
-  later = with_standing jobs i (Standing.Matched slots)
+  later = with_standing jobs i (Stage.Matched slots)
 
   abbrev pub one : IdleJob jobs i
   one = idle-job jobs i idle
 
   abbrev changed : Job
-  changed = record one.job { standing = Standing.Matched slots }
+  changed = record one.job { standing = Stage.Matched slots }
 
   pub later-is : later ≡ slice_set jobs i changed
-  later-is = ap (λ o. option_map_or (λ (job : Job). slice_set jobs i (record job { standing = Standing.Matched slots })) o jobs) one.at
+  later-is = ap (λ o. option_map_or (λ (job : Job). slice_set jobs i (record job { standing = Stage.Matched slots })) o jobs) one.at
 
   pub map-later : {A : Type 0} (f : Job → A) → f changed ≡ f one.job → map f later ≡ map f jobs
   map-later f same = ap (map f) later-is ∙ map-set_same f jobs i one.job changed one.at same
@@ -155,22 +156,24 @@ module _ (jobs : List Job) (i : ℕ) (slots : List ℕ) (idle : is_idle_at jobs 
       ∙ ap (position (λ (b : Bool). b)) (map-later (claims slot) (no-claim slot))
       ∙ position-map (λ (b : Bool). b) (claims slot) jobs
 
-  holding-in : (js : List Job) (slot : ℕ) (o : Option ℕ) → option_map (holding_in slot) (option_and_then (λ k. slice_get js k) o) ≡ option_and_then (λ k. slice_get (map (holding_in slot) js) k) o
-  holding-in js slot None = refl
-  holding-in js slot (Some k) = sym (get-map (holding_in slot) js k)
+  module _ (settings : List Setting) where
+    holding-at : (js : List Job) (slot : ℕ) (o : Option ℕ) → option_map (holding_in settings slot) (option_and_then (λ k. slice_get js k) o) ≡ option_and_then (λ k. slice_get (map (holding_in settings slot) js) k) o
+    holding-at js slot None = refl
+    holding-at js slot (Some k) = sym (get-map (holding_in settings slot) js k)
 
-  no-holding : (slot : ℕ) → holding_in slot changed ≡ holding_in slot one.job
-  no-holding slot = sym (ap (λ (s : Standing). let h : Holding = record { request = one.job.request; slots = claim_of s; port = position_or_len (λ t. t == slot) (claim_of s) } in h) one.idle)
+    no-holding : (slot : ℕ) → holding_in settings slot changed ≡ holding_in settings slot one.job
+    no-holding slot =
+        sym (ap (λ (s : Stage). let h : Holding = record { request = one.job.request; slots = claim_of s; port = position_or_len (λ t. t == slot) (claim_of s); number = priority_of one.job.user settings } in h) one.idle)
 
-  pub holder-later : (slot : ℕ) → holder_of later slot ≡ holder_of jobs slot
-  holder-later slot =
-      holding-in later slot (claimed_by slot later)
-      ∙ ap (option_and_then (λ k. slice_get (map (holding_in slot) later) k)) (claimed-later slot)
-      ∙ ap (λ hs. option_and_then (λ k. slice_get hs k) (claimed_by slot jobs)) (map-later (holding_in slot) (no-holding slot))
-      ∙ sym (holding-in jobs slot (claimed_by slot jobs))
+    pub holder-later : (slot : ℕ) → holder_of settings later slot ≡ holder_of settings jobs slot
+    holder-later slot =
+        holding-at later slot (claimed_by slot later)
+        ∙ ap (option_and_then (λ k. slice_get (map (holding_in settings slot) later) k)) (claimed-later slot)
+        ∙ ap (λ hs. option_and_then (λ k. slice_get hs k) (claimed_by slot jobs)) (map-later (holding_in settings slot) (no-holding slot))
+        ∙ sym (holding-at jobs slot (claimed_by slot jobs))
 
-  pub stored-later : (stock : Stock) → AreStored stock (holder_of jobs) → AreStored stock (holder_of later)
-  stored-later stock stored slot h is = stored slot h (sym (holder-later slot) ∙ is)
+    pub stored-later : (stock : Stock) → AreStored stock (holder_of settings jobs) → AreStored stock (holder_of settings later)
+    stored-later stock stored slot h is = stored slot h (sym (holder-later slot) ∙ is)
 
   -- what holds of all requests holds of them still
   pub all-later : (P : Request → Type 0) → All (λ (job : Job). P job.request) jobs → All (λ (job : Job). P job.request) later
@@ -193,66 +196,71 @@ module _ (jobs : List Job) (i : ℕ) (slots : List ℕ) (idle : is_idle_at jobs 
 
   -- ---- the pool
 
-  module _ (moment : ℕ) (stock : Stock) where
+  module _ (moment : ℕ) (stock : Stock) (settings : List Setting) where
     abbrev before : Pool
-    before = pool_for moment stock jobs
+    before = pool_for moment stock settings jobs
 
     abbrev offered : ℕ → Bool
     offered place = is_some (offered_to (slot_at stock place) later)
 
-    pub pool-later : pool_for moment stock later ≡ record before { is_offered = offered }
-    pool-later = ap (pool_of moment stock (λ slot. is_some (offered_to slot later))) (λ j slot. holder-later slot j)
+    pub pool-later : pool_for moment stock settings later ≡ record before { is_offered = offered }
+    pool-later = ap (pool_of moment stock (λ slot. is_some (offered_to slot later))) (λ j slot. holder-later settings slot j)
 
     more : (place : ℕ) → before.is_offered place ≡ true → offered place ≡ true
     more place some = offered-later (slot_at stock place) some
 
-    fails-by : (request : List Frame) (ports : List Port) → found_by stock before request ports ≡ None → found_by stock (record before { is_offered = offered }) request ports ≡ None
-    fails-by request [] none =
-        ap (λ o. option_map (λ slot. slot ∷ []) (option_map (λ (m : Member). slot_at stock m.place) o)) (none-later before request offered more (no-member (best before request) none))
+    fails-by : (number : ℕ) (request : List Frame) (ports : List Port) → found_by stock before number request ports ≡ None → found_by stock (record before { is_offered = offered }) number request ports ≡ None
+    fails-by number request [] none =
+        ap (λ o. option_map (λ slot. slot ∷ []) (option_map (λ (m : Member). slot_at stock m.place) o)) (none-later before request offered more number (no-member (best before request number) none))
       where
         no-member : (o : Option Member) → option_map (λ slot. slot ∷ []) (option_map (λ (m : Member). slot_at stock m.place) o) ≡ None → o ≡ None
         no-member None e = refl
         no-member (Some m) e = absurd (cc)
-    fails-by request (port ∷ ports) none =
+    fails-by number request (port ∷ ports) none =
         ap (option_map (map (slot_at stock))) (gang-later before request (port ∷ ports) offered more (no-gang (gang before request (port ∷ ports)) none))
       where
         no-gang : (o : Option (List ℕ)) → option_map (map (slot_at stock)) o ≡ None → o ≡ None
         no-gang None e = refl
         no-gang (Some places) e = absurd (cc)
 
-    pub fails-later : (request : Request) → found_for moment stock jobs request ≡ None → found_for moment stock later request ≡ None
-    fails-later request none = ap (λ pool. found_by stock pool (ad_frames request.ad) request.ports) pool-later ∙ fails-by (ad_frames request.ad) request.ports none
+    pub fails-later : (number : ℕ) (request : Request) → found_for moment stock settings jobs number request ≡ None → found_for moment stock settings later number request ≡ None
+    fails-later number request none = ap (λ pool. found_by stock pool number (ad_frames request.ad) request.ports) pool-later ∙ fails-by number (ad_frames request.ad) request.ports none
 
     evaluations-fewer : (request : List Frame) (ports : List Port) → evaluations_by (record before { is_offered = offered }) request ports ≤ evaluations_by before request ports
     evaluations-fewer request [] = let fewer = fewer-open before request offered more in omega (arith, fewer)
     evaluations-fewer request (port ∷ ports) = let fewer = docks-later before request (port ∷ ports) offered more in omega (arith, fewer)
 
-    pub evaluations-later : (request : Request) → evaluations_for moment stock later request ≤ evaluations_for moment stock jobs request
+    pub evaluations-later : (request : Request) → evaluations_for moment stock settings later request ≤ evaluations_for moment stock settings jobs request
     evaluations-later request =
-        subst (λ pool. evaluations_by pool (ad_frames request.ad) request.ports ≤ evaluations_for moment stock jobs request) (sym pool-later) (evaluations-fewer (ad_frames request.ad) request.ports)
+        subst (λ pool. evaluations_by pool (ad_frames request.ad) request.ports ≤ evaluations_for moment stock settings jobs request) (sym pool-later) (evaluations-fewer (ad_frames request.ad) request.ports)
 
     entries-fewer : (request : List Frame) (ports : List Port) → entries_by (record before { is_offered = offered }) request ports ≤ entries_by before request ports
     entries-fewer request [] = fewer-entered before request offered more
     entries-fewer request (port ∷ ports) = attributes-later before request (port ∷ ports) offered more
 
-    pub entries-later : (request : Request) → entries_for moment stock later request ≤ entries_for moment stock jobs request
+    pub entries-later : (request : Request) → entries_for moment stock settings later request ≤ entries_for moment stock settings jobs request
     entries-later request =
-        subst (λ pool. entries_by pool (ad_frames request.ad) request.ports ≤ entries_for moment stock jobs request) (sym pool-later) (entries-fewer (ad_frames request.ad) request.ports)
+        subst (λ pool. entries_by pool (ad_frames request.ad) request.ports ≤ entries_for moment stock settings jobs request) (sym pool-later) (entries-fewer (ad_frames request.ad) request.ports)
 
-    found-at : (js : List Job) (k : ℕ) → found moment stock js k ≡ option_and_then (found_for moment stock js) (slice_get (map (λ (job : Job). job.request) js) k)
-    found-at js k = by js k (λ r. found_for moment stock js r)
+    -- the number of a job's user, and what the job asks for
+    abbrev asked_by : Job → ℕ × Request
+    asked_by job = (priority_of job.user settings, job.request)
+
+    found-at : (js : List Job) (k : ℕ) → found moment stock settings js k ≡ option_and_then (λ (a : ℕ × Request). found_for moment stock settings js a.0 a.1) (slice_get (map asked_by js) k)
+    found-at js k = by js k (λ n r. found_for moment stock settings js n r)
       where
-        by : (js : List Job) (k : ℕ) (h : Request → Option (List ℕ)) → option_and_then (λ (job : Job). h job.request) (slice_get js k) ≡ option_and_then h (slice_get (map (λ (job : Job). job.request) js) k)
+        by : (js : List Job) (k : ℕ) (h : ℕ → Request → Option (List ℕ))
+            → option_and_then (λ (job : Job). h (priority_of job.user settings) job.request) (slice_get js k) ≡ option_and_then (λ (a : ℕ × Request). h a.0 a.1) (slice_get (map asked_by js) k)
         by [] k h = refl
         by (j ∷ js) zero h = refl
         by (j ∷ js) (suc k) h = by js k h
 
-    pub found-later : (k : ℕ) → found moment stock jobs k ≡ None → found moment stock later k ≡ None
+    pub found-later : (k : ℕ) → found moment stock settings jobs k ≡ None → found moment stock settings later k ≡ None
     found-later k none =
         found-at later k
-        ∙ ap (λ rs. option_and_then (found_for moment stock later) (slice_get rs k)) requests-later
-        ∙ by (slice_get (map (λ (job : Job). job.request) jobs) k) (sym (found-at jobs k) ∙ none)
+        ∙ ap (λ asked. option_and_then (λ (a : ℕ × Request). found_for moment stock settings later a.0 a.1) (slice_get asked k)) (map-later asked_by refl)
+        ∙ by (slice_get (map asked_by jobs) k) (sym (found-at jobs k) ∙ none)
       where
-        by : (o : Option Request) → option_and_then (found_for moment stock jobs) o ≡ None → option_and_then (found_for moment stock later) o ≡ None
+        by : (o : Option (ℕ × Request)) → option_and_then (λ (a : ℕ × Request). found_for moment stock settings jobs a.0 a.1) o ≡ None → option_and_then (λ (a : ℕ × Request). found_for moment stock settings later a.0 a.1) o ≡ None
         by None e = refl
-        by (Some r) e = fails-later r e
+        by (Some a) e = fails-later a.0 a.1 e

@@ -5,7 +5,6 @@ mod ClusterLemmas
 pub mod CycleLemmas
 pub mod GangLemmas
 pub mod JobLemmas
-mod PriorityLemmas
 mod QueueLemmas
 mod ReadyLemmas
 mod ShiftLemmas

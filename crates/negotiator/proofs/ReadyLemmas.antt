@@ -7,18 +7,18 @@ use Rattle.ad_tree.specs.declared.request.Request.{Request}
 use Rattle.bilateral_match.specs.Pool.{AreStored}
 use Rattle.bilateral_match.specs.Rows.{rows_of}
 use Rattle.claim_table.specs.declared.job.Job.{Job}
-use Rattle.claim_table.specs.declared.job.Standing.{Standing}
+use Rattle.claim_table.specs.declared.job.Stage.{Stage}
 use Rattle.claim_table.specs.Holders.{holder_of}
 use Rattle.claim_table.specs.Jobs.{jobs_limit, with_standing}
 use Rattle.literal_index.specs.Shown.{IsIndex}
 use Rattle.negotiator.specs.declared.scene.Scene.{Scene}
 use Rattle.negotiator.specs.Budget.{is_idle_at, is_marked}
 use Rattle.negotiator.specs.Markets.{AreOwn, found}
-use Rattle.negotiator.specs.Scenes.{IsReady, stock_in}
+use Rattle.negotiator.specs.Scenes.{IsReady, settings_in, stock_in}
 use Rattle.negotiator.proofs.BudgetLemmas.{none-marked}
 use Rattle.negotiator.proofs.JobLemmas.{all-later, found-later, length-later, stored-later}
 
-pub ready-start : (scene : Scene) (jobs : List Job) (failed : List Bool) → IsIndex scene.index.now (rows_of (stock_in scene)) → AreStored (stock_in scene) (holder_of jobs)
+pub ready-start : (scene : Scene) (jobs : List Job) (failed : List Bool) → IsIndex scene.index.now (rows_of (stock_in scene)) → AreStored (stock_in scene) (holder_of (settings_in scene) jobs)
     → All (λ (job : Job). AreOwn (ad_frames job.request.ad) job.request.ports) jobs → length jobs ≤ jobs_limit → failed ≡ replicate (length jobs) false → IsReady scene jobs failed
 ready-start scene jobs failed index stored own few none = record {
   index = index;
@@ -30,17 +30,17 @@ ready-start scene jobs failed index stored own few none = record {
 }
 
 module _ (scene : Scene) (jobs : List Job) (failed : List Bool) (ready : IsReady scene jobs failed) (i : ℕ) where
-  pub ready-given : (slots : List ℕ) → is_idle_at jobs i ≡ true → IsReady scene (with_standing jobs i (Standing.Matched slots)) failed
+  pub ready-given : (slots : List ℕ) → is_idle_at jobs i ≡ true → IsReady scene (with_standing jobs i (Stage.Matched slots)) failed
   ready-given slots idle = record {
     index = ready.index;
-    stored = stored-later jobs i slots idle (stock_in scene) ready.stored;
+    stored = stored-later jobs i slots idle (settings_in scene) (stock_in scene) ready.stored;
     ports = all-later jobs i slots idle (λ (request : Request). AreOwn (ad_frames request.ad) request.ports) ready.ports;
     few = subst (λ (n : ℕ). n ≤ 10000) (sym (length-later jobs i slots idle)) ready.few;
     marks = ready.marks ∙ sym (length-later jobs i slots idle);
-    known = λ k marked. found-later jobs i slots idle scene.moment (stock_in scene) k (ready.known k marked);
+    known = λ k marked. found-later jobs i slots idle scene.moment (stock_in scene) (settings_in scene) k (ready.known k marked);
   }
 
-  pub ready-marked : found scene.moment (stock_in scene) jobs i ≡ None → IsReady scene jobs (set failed i true)
+  pub ready-marked : found scene.moment (stock_in scene) (settings_in scene) jobs i ≡ None → IsReady scene jobs (set failed i true)
   ready-marked none = record {
     index = ready.index;
     stored = ready.stored;
@@ -50,6 +50,6 @@ module _ (scene : Scene) (jobs : List Job) (failed : List Bool) (ready : IsReady
     known = λ k marked. by k marked (cases_eq k i);
   }
     where
-      by : (k : ℕ) → is_marked (set failed i true) k ≡ true → (k ≡ i) ⊎ (k ≡ i → ⊥) → found scene.moment (stock_in scene) jobs k ≡ None
-      by k marked (inl e) = ap (found scene.moment (stock_in scene) jobs) e ∙ none
+      by : (k : ℕ) → is_marked (set failed i true) k ≡ true → (k ≡ i) ⊎ (k ≡ i → ⊥) → found scene.moment (stock_in scene) (settings_in scene) jobs k ≡ None
+      by k marked (inl e) = ap (found scene.moment (stock_in scene) (settings_in scene) jobs) e ∙ none
       by k marked (inr ne) = ready.known k (sym (get_or-set_other failed i k true false ne) ∙ marked)

@@ -15,8 +15,9 @@ use Rattle.bilateral_match.specs.Members.{best_slot}
 use Rattle.bilateral_match.specs.Pool.{Pool, slot_at}
 use Rattle.claim_table.specs.declared.answers.JobState.{JobState}
 use Rattle.claim_table.specs.declared.job.Job.{Job}
-use Rattle.claim_table.specs.declared.job.Standing.{Standing}
+use Rattle.claim_table.specs.declared.job.Stage.{Stage}
 use Rattle.claim_table.specs.Jobs.{AreFree, AreNamedApart, job_named, numbered, offered_to, state_of, wanted}
+use Rattle.claim_table.specs.Priorities.{Setting, priority_of}
 use Rattle.conjunct_plan.specs.Tests.{tests_of}
 use Rattle.gang_ports.specs.Gangs.{attributes_open, docks_open, gang, looks_most}
 use Rattle.negotiator.specs.declared.answers.Offered.{Offered}
@@ -47,10 +48,10 @@ is_idle_state (Some other) = false
 pub idle-state : (jobs : List Job) (i : ℕ) → is_idle_at jobs i ≡ is_idle_state (state_at jobs i)
 idle-state jobs i = by (slice_get jobs i)
   where
-    standing : (s : Standing) → is_idle s ≡ is_idle_state (Some (state_of s))
-    standing Standing.Idle = refl
-    standing (Standing.Matched slots) = refl
-    standing (Standing.Claimed slots) = refl
+    standing : (s : Stage) → is_idle s ≡ is_idle_state (Some (state_of s))
+    standing Stage.Idle = refl
+    standing (Stage.Matched slots) = refl
+    standing (Stage.Claimed slots) = refl
 
     by : (o : Option Job) → option_map_or (λ (job : Job). is_idle job.standing) o false ≡ is_idle_state (option_map (λ (job : Job). state_of job.standing) o)
     by None = refl
@@ -58,18 +59,18 @@ idle-state jobs i = by (slice_get jobs i)
 
 -- ---- without ports
 
-module _ (moment : ℕ) (stock : Stock) (jobs : List Job) (request : Request) (none : request.ports ≡ []) where
-  pub evaluations-one : (start now : ℕ) → now ≤ start + 5 * open_count (pool_for moment stock jobs) (ad_frames request.ad) → now ≤ start + evaluations_for moment stock jobs request
-  evaluations-one start now rise = subst (λ ports. now ≤ start + evaluations_by (pool_for moment stock jobs) (ad_frames request.ad) ports) (sym none) rise
+module _ (moment : ℕ) (stock : Stock) (settings : List Setting) (jobs : List Job) (request : Request) (none : request.ports ≡ []) where
+  pub evaluations-one : (start now : ℕ) → now ≤ start + 5 * open_count (pool_for moment stock settings jobs) (ad_frames request.ad) → now ≤ start + evaluations_for moment stock settings jobs request
+  evaluations-one start now rise = subst (λ ports. now ≤ start + evaluations_by (pool_for moment stock settings jobs) (ad_frames request.ad) ports) (sym none) rise
 
-  pub entries-one : (start now : ℕ) → now ≤ start + entered_for (pool_for moment stock jobs) (ad_frames request.ad) → now ≤ start + entries_for moment stock jobs request
-  entries-one start now rise = subst (λ ports. now ≤ start + entries_by (pool_for moment stock jobs) (ad_frames request.ad) ports) (sym none) rise
+  pub entries-one : (start now : ℕ) → now ≤ start + entered_for (pool_for moment stock settings jobs) (ad_frames request.ad) → now ≤ start + entries_for moment stock settings jobs request
+  entries-one start now rise = subst (λ ports. now ≤ start + entries_by (pool_for moment stock settings jobs) (ad_frames request.ad) ports) (sym none) rise
 
   pub looks-one : (start now : ℕ) → now ≤ start + 9 * least_left stock.ads (tests_of (ad_frames request.ad) 0 []) → now ≤ start + looks_for stock jobs request
   looks-one start now rise = subst (λ ports. now ≤ start + looks_by stock.ads (ad_frames request.ad) ports) (sym none) rise
 
-  pub found-one : (slot : Option ℕ) → slot ≡ best_slot stock (pool_for moment stock jobs) (ad_frames request.ad) → option_map (λ s. s ∷ []) slot ≡ found_for moment stock jobs request
-  found-one slot is = ap (option_map (λ s. s ∷ [])) is ∙ sym (ap (found_by stock (pool_for moment stock jobs) (ad_frames request.ad)) none)
+  pub found-one : (number : ℕ) (slot : Option ℕ) → slot ≡ best_slot stock (pool_for moment stock settings jobs) (ad_frames request.ad) number → option_map (λ s. s ∷ []) slot ≡ found_for moment stock settings jobs number request
+  found-one number slot is = ap (option_map (λ s. s ∷ [])) is ∙ sym (ap (found_by stock (pool_for moment stock settings jobs) number (ad_frames request.ad)) none)
 
 -- what holds of the slot in a list, where there is one
 pub one-all : (P : List ℕ → Type 0) (slot : Option ℕ) → IfSome slot (λ s. P (s ∷ [])) → (o : Option (List ℕ)) → o ≡ option_map (λ s. s ∷ []) slot → IfSome o P
@@ -99,18 +100,18 @@ with-some : (P : List Port → Type 0) → ((port : Port) (ports : List Port) �
 with-some P each [] some = absurd (omega (arith, some))
 with-some P each (port ∷ ports) some = each port ports
 
-module _ (moment : ℕ) (stock : Stock) (jobs : List Job) (request : Request) (some : 0 < length request.ports) where
+module _ (moment : ℕ) (stock : Stock) (settings : List Setting) (jobs : List Job) (request : Request) (some : 0 < length request.ports) where
   abbrev pool : Pool
-  pool = pool_for moment stock jobs
+  pool = pool_for moment stock settings jobs
 
   abbrev frames : List Frame
   frames = ad_frames request.ad
 
-  pub evaluations-gang : (start now : ℕ) → now ≤ start + 3 * docks_open pool frames request.ports → now ≤ start + evaluations_for moment stock jobs request
+  pub evaluations-gang : (start now : ℕ) → now ≤ start + 3 * docks_open pool frames request.ports → now ≤ start + evaluations_for moment stock settings jobs request
   evaluations-gang start now rise =
       subst (λ (n : ℕ). now ≤ start + n) (sym (with-some (λ ports. evaluations_by pool frames ports ≡ 3 * docks_open pool frames ports) (λ port ports. refl) request.ports some)) rise
 
-  pub entries-gang : (start now : ℕ) → now ≤ start + attributes_open pool frames request.ports → now ≤ start + entries_for moment stock jobs request
+  pub entries-gang : (start now : ℕ) → now ≤ start + attributes_open pool frames request.ports → now ≤ start + entries_for moment stock settings jobs request
   entries-gang start now rise =
       subst (λ (n : ℕ). now ≤ start + n) (sym (with-some (λ ports. entries_by pool frames ports ≡ attributes_open pool frames ports) (λ port ports. refl) request.ports some)) rise
 
@@ -118,21 +119,36 @@ module _ (moment : ℕ) (stock : Stock) (jobs : List Job) (request : Request) (s
   looks-gang start now rise =
       subst (λ (n : ℕ). now ≤ start + n) (sym (with-some (λ ports. looks_by stock.ads frames ports ≡ looks_most stock.ads frames ports) (λ port ports. refl) request.ports some)) rise
 
-  pub found-gang : found_for moment stock jobs request ≡ option_map (map (slot_at stock)) (gang pool frames request.ports)
-  found-gang = with-some (λ ports. found_by stock pool frames ports ≡ option_map (map (slot_at stock)) (gang pool frames ports)) (λ port ports. refl) request.ports some
+  pub found-gang : (number : ℕ) → found_for moment stock settings jobs number request ≡ option_map (map (slot_at stock)) (gang pool frames request.ports)
+  found-gang number = with-some (λ ports. found_by stock pool number frames ports ≡ option_map (map (slot_at stock)) (gang pool frames ports)) (λ port ports. refl) request.ports some
 
 pub gang-wanted : (request : Request) → 0 < length request.ports → wanted request ≡ length request.ports
 gang-wanted request some = max-eq_right some
 
 -- ---- the request of a job
 
-module _ (moment : ℕ) (stock : Stock) (jobs : List Job) (i : ℕ) (request : Request) (at : option_map (λ (job : Job). job.request) (slice_get jobs i) ≡ Some request) where
-  pub request-found : found moment stock jobs i ≡ found_for moment stock jobs request
-  request-found = by (slice_get jobs i) at
+module _ (moment : ℕ) (stock : Stock) (settings : List Setting) (jobs : List Job) (i : ℕ) (request : Request) (at : option_map (λ (job : Job). job.request) (slice_get jobs i) ≡ Some request) where
+  -- it is found with the number of the job's user
+  pub request-found : (user : List ℕ) (number : ℕ) → option_map (λ (job : Job). job.user) (slice_get jobs i) ≡ Some user → number ≡ priority_of user settings
+      → found moment stock settings jobs i ≡ found_for moment stock settings jobs number request
+  request-found user number whose mine = by (slice_get jobs i) at whose
     where
-      by : (o : Option Job) → option_map (λ (job : Job). job.request) o ≡ Some request → option_and_then (λ (job : Job). found_for moment stock jobs job.request) o ≡ found_for moment stock jobs request
+      by : (o : Option Job) → option_map (λ (job : Job). job.request) o ≡ Some request → option_map (λ (job : Job). job.user) o ≡ Some user
+          → option_and_then (λ (job : Job). found_for moment stock settings jobs (priority_of job.user settings) job.request) o ≡ found_for moment stock settings jobs number request
+      by None e f = absurd (none-some request e)
+      by (Some job) e f =
+          ap (λ (u : List ℕ). found_for moment stock settings jobs (priority_of u settings) job.request) (same_Some job.user user f)
+          ∙ ap (λ (n : ℕ). found_for moment stock settings jobs n job.request) (sym mine)
+          ∙ ap (found_for moment stock settings jobs number) (same_Some job.request request e)
+
+  -- what is found with each number is found
+  pub request-found-by-all : (slots : Option (List ℕ)) → ((number : ℕ) → slots ≡ found_for moment stock settings jobs number request) → slots ≡ found moment stock settings jobs i
+  request-found-by-all slots each = by (slice_get jobs i) at
+    where
+      by : (o : Option Job) → option_map (λ (job : Job). job.request) o ≡ Some request
+          → slots ≡ option_and_then (λ (job : Job). found_for moment stock settings jobs (priority_of job.user settings) job.request) o
       by None e = absurd (none-some request e)
-      by (Some job) e = ap (found_for moment stock jobs) (same_Some job.request request e)
+      by (Some job) e = each (priority_of job.user settings) ∙ ap (found_for moment stock settings jobs (priority_of job.user settings)) (sym (same_Some job.request request e))
 
   pub request-price : (price : List Job → Request → ℕ) → price_at price jobs i ≡ price jobs request
   request-price price = by (slice_get jobs i) at

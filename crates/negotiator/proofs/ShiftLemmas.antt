@@ -10,7 +10,7 @@ use Rattle.std.proofs.lemmas.List.Elements.{All-cons, All-head, All-nil, All-tai
 use Rattle.std.proofs.lemmas.Option.{none-some, same_Some}
 use Rattle.ad_store.specs.Stock.{Stock}
 use Rattle.claim_table.specs.declared.job.Job.{Job}
-use Rattle.claim_table.specs.declared.job.Standing.{Standing}
+use Rattle.claim_table.specs.declared.job.Stage.{Stage}
 use Rattle.claim_table.specs.Jobs.{wanted, with_standing}
 use Rattle.claim_table.proofs.ListLemmas.{map-set_same}
 use Rattle.negotiator.specs.declared.queues.Queue.{Queue}
@@ -18,7 +18,7 @@ use Rattle.negotiator.specs.Budget.{is_idle_at}
 use Rattle.negotiator.specs.Cycle.{Market, Offer, PlainSpin, PlainTurn, Waiting, all_users, is_given, is_of, is_waiting, places, spin, turn, user_order, waiting_count, wants_of}
 use Rattle.negotiator.specs.Mapped.{offer_mapped, turn_mapped}
 use Rattle.negotiator.specs.Markets.{found, free_among, is_idle, market_of, waiting_of, with_offers}
-use Rattle.negotiator.specs.Priorities.{Setting, priority_of}
+use Rattle.claim_table.specs.Priorities.{Setting, priority_of}
 use Rattle.negotiator.specs.Queues.{AreQueues}
 use Rattle.negotiator.proofs.AlikeLemmas.{IsAlike, count-same, filter-same, spin-alike, turn-alike}
 use Rattle.negotiator.proofs.CycleLemmas.{any-append}
@@ -26,8 +26,8 @@ use Rattle.negotiator.proofs.JobLemmas.{idle-set}
 
 -- ---- what offers keep
 
-module _ {A : Type 0} (f : Job → A) (same : (job : Job) (s : Standing) → f (record job { standing = s }) ≡ f job) where
-  pub kept-one : (jobs : List Job) (i : ℕ) (s : Standing) → map f (with_standing jobs i s) ≡ map f jobs
+module _ {A : Type 0} (f : Job → A) (same : (job : Job) (s : Stage) → f (record job { standing = s }) ≡ f job) where
+  pub kept-one : (jobs : List Job) (i : ℕ) (s : Stage) → map f (with_standing jobs i s) ≡ map f jobs
   kept-one jobs i s = by (slice_get jobs i) refl
     where
       by : (o : Option Job) → slice_get jobs i ≡ o → map f (option_map_or (λ (job : Job). slice_set jobs i (record job { standing = s })) o jobs) ≡ map f jobs
@@ -36,16 +36,16 @@ module _ {A : Type 0} (f : Job → A) (same : (job : Job) (s : Standing) → f (
 
   pub kept-all : (made : List (Offer ℕ)) (jobs : List Job) → map f (with_offers made jobs) ≡ map f jobs
   kept-all [] jobs = refl
-  kept-all (o ∷ os) jobs = kept-all os (with_standing jobs o.job (Standing.Matched o.resources)) ∙ kept-one jobs o.job (Standing.Matched o.resources)
+  kept-all (o ∷ os) jobs = kept-all os (with_standing jobs o.job (Stage.Matched o.resources)) ∙ kept-one jobs o.job (Stage.Matched o.resources)
 
 pub offers-ahead : (front rest : List (Offer ℕ)) (jobs : List Job) → with_offers (front ++ rest) jobs ≡ with_offers rest (with_offers front jobs)
 offers-ahead [] rest jobs = refl
-offers-ahead (o ∷ os) rest jobs = offers-ahead os rest (with_standing jobs o.job (Standing.Matched o.resources))
+offers-ahead (o ∷ os) rest jobs = offers-ahead os rest (with_standing jobs o.job (Stage.Matched o.resources))
 
 out-of-range : (jobs : List Job) (i : ℕ) → slice_get jobs i ≡ None → is_idle_at jobs i ≡ false
 out-of-range jobs i e = ap (λ o. option_map_or (λ (job : Job). is_idle job.standing) o false) e
 
-idle-one : (jobs : List Job) (i : ℕ) (slots : List ℕ) (k : ℕ) → is_idle_at (with_standing jobs i (Standing.Matched slots)) k ≡ (is_idle_at jobs k && not (i == k))
+idle-one : (jobs : List Job) (i : ℕ) (slots : List ℕ) (k : ℕ) → is_idle_at (with_standing jobs i (Stage.Matched slots)) k ≡ (is_idle_at jobs k && not (i == k))
 idle-one jobs i slots k = by (slice_get jobs i) refl
   where
     none : (b : Bool) → i == k ≡ b → is_idle_at jobs i ≡ false → is_idle_at jobs k ≡ (is_idle_at jobs k && not b)
@@ -59,9 +59,9 @@ idle-one jobs i slots k = by (slice_get jobs i) refl
         by_bool true = refl
         by_bool false = refl
 
-    by : (o : Option Job) → slice_get jobs i ≡ o → is_idle_at (option_map_or (λ (job : Job). slice_set jobs i (record job { standing = Standing.Matched slots })) o jobs) k ≡ (is_idle_at jobs k && not (i == k))
+    by : (o : Option Job) → slice_get jobs i ≡ o → is_idle_at (option_map_or (λ (job : Job). slice_set jobs i (record job { standing = Stage.Matched slots })) o jobs) k ≡ (is_idle_at jobs k && not (i == k))
     by None at = none (i == k) refl (out-of-range jobs i at)
-    by (Some job) at = idle-set jobs i k job (record job { standing = Standing.Matched slots }) at refl
+    by (Some job) at = idle-set jobs i k job (record job { standing = Stage.Matched slots }) at refl
 
 pub idle-all : (made : List (Offer ℕ)) (jobs : List Job) (k : ℕ) → is_idle_at (with_offers made jobs) k ≡ (is_idle_at jobs k && not (is_given made k))
 idle-all [] jobs k = by (is_idle_at jobs k)
@@ -70,7 +70,7 @@ idle-all [] jobs k = by (is_idle_at jobs k)
     by true = refl
     by false = refl
 idle-all (o ∷ os) jobs k =
-    idle-all os (with_standing jobs o.job (Standing.Matched o.resources)) k
+    idle-all os (with_standing jobs o.job (Stage.Matched o.resources)) k
     ∙ ap (λ b. b && not (is_given os k)) (idle-one jobs o.job o.resources k)
     ∙ both (is_idle_at jobs k) (o.job == k) (is_given os k)
   where
@@ -163,7 +163,7 @@ module _ (moment : ℕ) (stock : Stock) (settings : List Setting) where
       users = same-users;
       priority = λ user. refl;
       free = λ made p. ap (free_among stock) (offers-ahead base made jobs);
-      find = λ made k p. ap (λ js. found moment stock js k) (offers-ahead base made jobs) ∙ same-resources (found moment stock (with_offers made behind) k);
+      find = λ made k p. ap (λ js. found moment stock settings js k) (offers-ahead base made jobs) ∙ same-resources (found moment stock settings (with_offers made behind) k);
       step = λ user made k slots p w f. tt;
     }
       where

@@ -13,10 +13,10 @@ use Rattle.negotiator.specs.declared.queues.Queue.{Queue}
 use Rattle.negotiator.specs.Budget.{ArePaid, Counts}
 use Rattle.negotiator.specs.Cycle.{Market, Offer, PlainSpin, PlainTurn, cycle_from, cycle_of, has_offer, is_empty, is_of, offers_in, offers_of, places, shares_of, spin, turn, turns, users_of, waiting_count}
 use Rattle.negotiator.specs.Markets.{IsPart, free_among, offer_named, spin_named, turn_named, waiting_of, with_offers}
-use Rattle.negotiator.specs.Priorities.{priority_of}
-use Rattle.negotiator.specs.Scenes.{IsReady, market_in, stock_in, users_at}
+use Rattle.claim_table.specs.Priorities.{priority_of}
+use Rattle.negotiator.specs.Scenes.{IsReady, market_in, settings_in, stock_in, users_at}
 use Rattle.negotiator.specs.Queues.{AreQueues}
-use Rattle.negotiator.specs.Settings.{settings_of}
+use Rattle.claim_table.specs.Settings.{settings_of}
 use Rattle.negotiator.proofs.ActiveLemmas.{few-users}
 use Rattle.negotiator.proofs.CycleLemmas.{cycle-step, offers-append, offers-kept, spin-fewer}
 use Rattle.negotiator.proofs.ShiftLemmas.{offers-ahead, shift-count, shift-own, shift-places, shift-queues, shift-spin, shift-turn}
@@ -73,9 +73,9 @@ module _ (scene : Scene) (began : List Job) where
     pub shown : list ≡ map (turn_named began) (filter has_offer done)
     pub table : jobs ≡ with_offers (offers_in done) began
     pub ready : IsReady scene jobs failed
-    pub paid : ArePaid scene.moment (stock_in scene) began jobs marks failed before now
+    pub paid : ArePaid scene.moment (stock_in scene) (settings_in scene) began jobs marks failed before now
 
-  pub turns-start : (users : List (List ℕ)) (slices : List ℕ) (marks : List Bool) (before : Counts) → IsReady scene began marks → ArePaid scene.moment (stock_in scene) began began marks marks before before
+  pub turns-start : (users : List (List ℕ)) (slices : List ℕ) (marks : List Bool) (before : Counts) → IsReady scene began marks → ArePaid scene.moment (stock_in scene) (settings_in scene) began began marks marks before before
       → TurnsLoop users slices marks before 0 [] began marks before
   turns-start users slices marks before ready paid = record { done = []; whole = refl; shown = refl; table = refl; ready = ready; paid = paid }
 
@@ -148,7 +148,7 @@ module _ (scene : Scene) (began : List Job) where
       pub turns-more : (offers : List Offered) → offers ≡ map (offer_named jobs) (turn (market_in scene jobs) user (places (market_in scene jobs).jobs) slice false [])
           → (later_list : List Turn) → later_list ≡ list ++ (if is_empty offers then [] else (record { user = user; slice = slice; offers = offers }) ∷ [])
           → (later : List Job) → later ≡ with_offers (turn (market_in scene jobs) user (places (market_in scene jobs).jobs) slice false []) jobs
-          → (later_failed : List Bool) (after : Counts) → IsReady scene later later_failed → ArePaid scene.moment (stock_in scene) began later marks later_failed before after
+          → (later_failed : List Bool) (after : Counts) → IsReady scene later later_failed → ArePaid scene.moment (stock_in scene) (settings_in scene) began later marks later_failed before after
           → TurnsLoop users slices marks before (k + 1) later_list later later_failed after
       turns-more offers offers_are later_list pushed later is later_failed after ready paid = record {
         done = loop.done ++ t ∷ [];
@@ -234,9 +234,9 @@ module _ (scene : Scene) (began : List Job) where
     pub shown : list ≡ map (spin_named began) done
     pub table : jobs ≡ with_offers (offers_of done) began
     pub ready : IsReady scene jobs failed
-    pub paid : ArePaid scene.moment (stock_in scene) began jobs marks failed before now
+    pub paid : ArePaid scene.moment (stock_in scene) (settings_in scene) began jobs marks failed before now
 
-  pub spins-start : (marks : List Bool) (before : Counts) → IsReady scene began marks → ArePaid scene.moment (stock_in scene) began began marks marks before before → SpinsLoop marks before [] began marks before
+  pub spins-start : (marks : List Bool) (before : Counts) → IsReady scene began marks → ArePaid scene.moment (stock_in scene) (settings_in scene) began began marks marks before before → SpinsLoop marks before [] began marks before
   spins-start marks before ready paid = record { done = []; whole = refl; shown = refl; table = refl; ready = ready; paid = paid }
 
   spins-append : (ss rs : List (PlainSpin ℕ)) → offers_of (ss ++ rs) ≡ offers_of ss ++ offers_of rs
@@ -326,7 +326,7 @@ module _ (scene : Scene) (began : List Job) where
           subst (λ n. n < waiting_count (market_in scene jobs) []) (sym count) (spin-fewer (market_in scene jobs) [] (some-from ran.turns (omega (arith, same, some))))
 
       -- a spin that isn't the last
-      pub spins-more : 0 < length one.turns → (later_failed : List Bool) (after : Counts) → IsReady scene later later_failed → ArePaid scene.moment (stock_in scene) began later marks later_failed before after
+      pub spins-more : 0 < length one.turns → (later_failed : List Bool) (after : Counts) → IsReady scene later later_failed → ArePaid scene.moment (stock_in scene) (settings_in scene) began later marks later_failed before after
           → SpinsLoop marks before later_list later later_failed after
       spins-more some later_failed after ready paid = record {
         done = loop.done ++ here ∷ [];

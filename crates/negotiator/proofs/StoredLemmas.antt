@@ -18,7 +18,7 @@ use Rattle.bilateral_match.specs.Pool.{Pool, slot_at}
 use Rattle.claim_table.specs.declared.job.Job.{Job}
 use Rattle.negotiator.specs.Cycle.{Market, Offer, cycle_of, is_empty, offers_in, offers_of, places, shares_of, spin, spins_within, turn, turns, users_of, waiting_count}
 use Rattle.negotiator.specs.Markets.{found, found_by, found_for, market_of, pool_for, with_offers}
-use Rattle.negotiator.specs.Priorities.{Setting}
+use Rattle.claim_table.specs.Priorities.{Setting, priority_of}
 use Rattle.negotiator.proofs.CycleLemmas.{offer, offers-kept, turn-by}
 use Rattle.negotiator.proofs.GangLemmas.{gang-all, slots-stored}
 
@@ -77,43 +77,43 @@ first-all P (m ∷ ms) h = by (first_of ms) (first-all P ms (All-tail P m ms h))
     by None p = head
     by (Some a) p = choose a (is_lt (member_order a m)) p
 
-module _ (pool : Pool) (request : List Frame) where
+module _ (pool : Pool) (request : List Frame) (number : ℕ) where
   abbrev Below : ℕ → Member → Type 0
   Below n m = m.place < n
 
-  members-below : (n k : ℕ) (ads : List Advert) → k + length ads ≤ n → All (Below n) (members_from pool request k ads)
+  members-below : (n k : ℕ) (ads : List Advert) → k + length ads ≤ n → All (Below n) (members_from pool request number k ads)
   members-below n k [] fits = All-nil (Below n)
-  members-below n k (a ∷ ads) fits = by (is_member pool request k a) (members-below n (suc k) ads (omega (arith, fits)))
+  members-below n k (a ∷ ads) fits = by (is_member pool request number k a) (members-below n (suc k) ads (omega (arith, fits)))
     where
-      by : (b : Bool) → All (Below n) (members_from pool request (suc k) ads) → All (Below n) (cons_option (if b then Some (as_member pool request k a) else None) (members_from pool request (suc k) ads))
-      by true rest = All-cons (Below n) (as_member pool request k a) (members_from pool request (suc k) ads) (omega (arith, fits)) rest
+      by : (b : Bool) → All (Below n) (members_from pool request number (suc k) ads) → All (Below n) (cons_option (if b then Some (as_member pool request k a) else None) (members_from pool request number (suc k) ads))
+      by true rest = All-cons (Below n) (as_member pool request k a) (members_from pool request number (suc k) ads) (omega (arith, fits)) rest
       by false rest = rest
 
-  best-below : (n : ℕ) → length pool.ads ≤ n → IfSome (best pool request) (Below n)
-  best-below n fits = first-all (Below n) (members pool request) (members-below n 0 pool.ads (omega (arith, fits)))
+  best-below : (n : ℕ) → length pool.ads ≤ n → IfSome (best pool request number) (Below n)
+  best-below n fits = first-all (Below n) (members pool request number) (members-below n 0 pool.ads (omega (arith, fits)))
 
-module _ (moment : ℕ) (stock : Stock) (beside : length stock.ads ≤ length stock.slots) where
+module _ (moment : ℕ) (stock : Stock) (settings : List Setting) (beside : length stock.ads ≤ length stock.slots) where
   at-place : (place : ℕ) → place < length stock.slots → Contains stock.slots (slot_at stock place)
   at-place place within = (place, within, get_or_default stock.slots place (slot_at stock place) 0 within)
 
-  found-by : (jobs : List Job) (request : List Frame) (ports : List Port) (slots : List ℕ) → found_by stock (pool_for moment stock jobs) request ports ≡ Some slots → All (Contains stock.slots) slots
-  found-by jobs request [] slots e = by (best (pool_for moment stock jobs) request) (best-below (pool_for moment stock jobs) request (length stock.slots) beside) e
+  found-by : (jobs : List Job) (number : ℕ) (request : List Frame) (ports : List Port) (slots : List ℕ) → found_by stock (pool_for moment stock settings jobs) number request ports ≡ Some slots → All (Contains stock.slots) slots
+  found-by jobs number request [] slots e = by (best (pool_for moment stock settings jobs) request number) (best-below (pool_for moment stock settings jobs) request number (length stock.slots) beside) e
     where
       by : (o : Option Member) → IfSome o (λ m. m.place < length stock.slots) → option_map (λ slot. slot ∷ []) (option_map (λ (m : Member). slot_at stock m.place) o) ≡ Some slots → All (Contains stock.slots) slots
       by None h e = absurd (none-some slots e)
       by (Some m) h e =
           subst (All (Contains stock.slots)) (same_Some (slot_at stock m.place ∷ []) slots e) (All-cons (Contains stock.slots) (slot_at stock m.place) [] (at-place m.place h) (All-nil (Contains stock.slots)))
-  found-by jobs request (port ∷ ports) slots e =
+  found-by jobs number request (port ∷ ports) slots e =
       subst (λ o. IfSome o (All (Contains stock.slots))) e
-      (gang-all moment stock jobs request (port ∷ ports) (All (Contains stock.slots)) (λ places is. slots-stored moment stock jobs request (port ∷ ports) places is beside)
-      (found_by stock (pool_for moment stock jobs) request (port ∷ ports)) refl)
+      (gang-all moment stock settings jobs request (port ∷ ports) (All (Contains stock.slots)) (λ places is. slots-stored moment stock settings jobs request (port ∷ ports) places is beside)
+      (found_by stock (pool_for moment stock settings jobs) number request (port ∷ ports)) refl)
 
-  pub found-stored : (jobs : List Job) (i : ℕ) (slots : List ℕ) → found moment stock jobs i ≡ Some slots → All (Contains stock.slots) slots
+  pub found-stored : (jobs : List Job) (i : ℕ) (slots : List ℕ) → found moment stock settings jobs i ≡ Some slots → All (Contains stock.slots) slots
   found-stored jobs i slots e = by (slice_get jobs i) e
     where
-      by : (o : Option Job) → option_and_then (λ (job : Job). found_for moment stock jobs job.request) o ≡ Some slots → All (Contains stock.slots) slots
+      by : (o : Option Job) → option_and_then (λ (job : Job). found_for moment stock settings jobs (priority_of job.user settings) job.request) o ≡ Some slots → All (Contains stock.slots) slots
       by None e = absurd (none-some slots e)
-      by (Some job) e = found-by jobs (ad_frames job.request.ad) job.request.ports slots e
+      by (Some job) e = found-by jobs (priority_of job.user settings) (ad_frames job.request.ad) job.request.ports slots e
 
 -- ---- a store
 
@@ -125,4 +125,4 @@ module _ (store : Store) where
       → All (λ (o : Offer ℕ). All (Contains (stock_of store).slots) o.resources) (offers_of (cycle_of (market_of moment (stock_of store) settings jobs)))
   cycle-stored moment settings jobs =
       cycle-all (market_of moment (stock_of store) settings jobs) (All (Contains (stock_of store).slots))
-      (λ made i slots e. found-stored moment (stock_of store) beside (with_offers made jobs) i slots e)
+      (λ made i slots e. found-stored moment (stock_of store) settings beside (with_offers made jobs) i slots e)

@@ -6,15 +6,15 @@ use Rattle.std.proofs.lemmas.Bool.Decides.{nat_tests}
 use Rattle.std.proofs.lemmas.List.{append-nil, drop_all, drop_more, length-map, map-append}
 use Rattle.std.proofs.lemmas.Option.{none-some, same_Some}
 use Rattle.claim_table.specs.declared.job.Job.{Job}
-use Rattle.claim_table.specs.declared.job.Standing.{Standing}
+use Rattle.claim_table.specs.declared.job.Stage.{Stage}
 use Rattle.claim_table.specs.Jobs.{wanted, with_standing}
 use Rattle.negotiator.specs.declared.answers.Offered.{Offered}
 use Rattle.negotiator.specs.declared.scene.Scene.{Scene}
 use Rattle.negotiator.specs.Budget.{ArePaid, Counts, counts, is_idle_at}
 use Rattle.negotiator.specs.Cycle.{Market, Offer, is_of, is_waiting, places, turn, waits, wants_of}
 use Rattle.negotiator.specs.Markets.{IsPart, found, name_at, offer_named, waiting_of, with_offers}
-use Rattle.negotiator.specs.Scenes.{IsReady, market_in, stock_in}
-use Rattle.negotiator.specs.Settings.{settings_of}
+use Rattle.negotiator.specs.Scenes.{IsReady, market_in, settings_in, stock_in}
+use Rattle.claim_table.specs.Settings.{settings_of}
 use Rattle.negotiator.proofs.BudgetLemmas.{paid-on}
 use Rattle.negotiator.proofs.CycleLemmas.{offer, turn-ends, turn-fails, turn-finds, turn-own, turn-skips, within-from}
 use Rattle.negotiator.proofs.ShiftLemmas.{idle-all, kept-all, offers-ahead, waiting-is, wants-is}
@@ -75,9 +75,9 @@ module _ (scene : Scene) (began : List Job) where
     pub table : jobs ≡ with_offers made began
     pub whole : turn m user is slice false [] ≡ made ++ turn m user (drop k is) left given made
     pub ready : IsReady scene jobs failed
-    pub paid : ArePaid scene.moment (stock_in scene) began jobs marks failed before now
+    pub paid : ArePaid scene.moment (stock_in scene) (settings_in scene) began jobs marks failed before now
 
-  pub turn-start : (user : List ℕ) (is : List ℕ) (slice : ℕ) (marks : List Bool) (before : Counts) → IsReady scene began marks → ArePaid scene.moment (stock_in scene) began began marks marks before before
+  pub turn-start : (user : List ℕ) (is : List ℕ) (slice : ℕ) (marks : List Bool) (before : Counts) → IsReady scene began marks → ArePaid scene.moment (stock_in scene) (settings_in scene) began began marks marks before before
       → TurnLoop user is slice marks before 0 slice false [] began marks before
   turn-start user is slice marks before ready paid = record { made = []; shown = refl; table = refl; whole = refl; ready = ready; paid = paid }
 
@@ -148,11 +148,11 @@ module _ (scene : Scene) (began : List Job) where
         turn-stops over = loop.whole ∙ ap (λ os. loop.made ++ os) (next ∙ turn-ends m user i (drop (k + 1) is) left given loop.made waiting over) ∙ append-nil loop.made
 
         module _ (in_slice : (given && nat_lt left (wants_of m i)) ≡ false) where
-          found-here : m.find loop.made i ≡ found scene.moment (stock_in scene) jobs i
-          found-here = ap (λ js. found scene.moment (stock_in scene) js i) (sym loop.table)
+          found-here : m.find loop.made i ≡ found scene.moment (stock_in scene) (settings_in scene) jobs i
+          found-here = ap (λ js. found scene.moment (stock_in scene) (settings_in scene) js i) (sym loop.table)
 
-          pub turn-none : (later_failed : List Bool) (later : List Job) (after : Counts) → found scene.moment (stock_in scene) jobs i ≡ None → later ≡ jobs → IsReady scene later later_failed
-              → ArePaid scene.moment (stock_in scene) began later marks later_failed before after → TurnLoop user is slice marks before (k + 1) left given offers later later_failed after
+          pub turn-none : (later_failed : List Bool) (later : List Job) (after : Counts) → found scene.moment (stock_in scene) (settings_in scene) jobs i ≡ None → later ≡ jobs → IsReady scene later later_failed
+              → ArePaid scene.moment (stock_in scene) (settings_in scene) began later marks later_failed before after → TurnLoop user is slice marks before (k + 1) left given offers later later_failed after
           turn-none later_failed later after none same ready paid = record {
             made = loop.made;
             shown = loop.shown;
@@ -162,18 +162,18 @@ module _ (scene : Scene) (began : List Job) where
             paid = paid;
           }
 
-          module _ (slots : List ℕ) (is_found : found scene.moment (stock_in scene) jobs i ≡ Some slots) where
+          module _ (slots : List ℕ) (is_found : found scene.moment (stock_in scene) (settings_in scene) jobs i ≡ Some slots) where
             more : turn m user is slice false [] ≡ (loop.made ++ offer i slots ∷ []) ++ turn m user (drop (k + 1) is) (left - wants_of m i) true (loop.made ++ offer i slots ∷ [])
             more =
                 loop.whole
                 ∙ ap (λ os. loop.made ++ os) (next ∙ turn-finds m user i (drop (k + 1) is) left given loop.made slots waiting in_slice (found-here ∙ is_found))
                 ∙ sym (append_assoc loop.made (offer i slots ∷ []) (turn m user (drop (k + 1) is) (left - wants_of m i) true (loop.made ++ offer i slots ∷ [])))
 
-            table-more : (later : List Job) → later ≡ with_standing jobs i (Standing.Matched slots) → later ≡ with_offers (loop.made ++ offer i slots ∷ []) began
-            table-more later is_later = is_later ∙ ap (λ js. with_standing js i (Standing.Matched slots)) loop.table ∙ sym (offers-ahead loop.made (offer i slots ∷ []) began)
+            table-more : (later : List Job) → later ≡ with_standing jobs i (Stage.Matched slots) → later ≡ with_offers (loop.made ++ offer i slots ∷ []) began
+            table-more later is_later = is_later ∙ ap (λ js. with_standing js i (Stage.Matched slots)) loop.table ∙ sym (offers-ahead loop.made (offer i slots ∷ []) began)
 
             -- want of memory where the offer is made
-            pub stopped-behind : (later : List Job) → later ≡ with_standing jobs i (Standing.Matched slots) → IsPart (turn m user is slice false []) began later
+            pub stopped-behind : (later : List Job) → later ≡ with_standing jobs i (Stage.Matched slots) → IsPart (turn m user is slice false []) began later
             stopped-behind later is_later = record {
               front = loop.made ++ offer i slots ∷ [];
               rest = turn m user (drop (k + 1) is) (left - wants_of m i) true (loop.made ++ offer i slots ∷ []);
@@ -182,8 +182,8 @@ module _ (scene : Scene) (began : List Job) where
             }
 
             pub turn-some : (wants : ℕ) → wants ≡ wants_of m i → (answer : Offered) → answer ≡ offer_named jobs (offer i slots) → (later_offers : List Offered) → later_offers ≡ offers ++ answer ∷ []
-                → (later_failed : List Bool) (later : List Job) (after : Counts) → later ≡ with_standing jobs i (Standing.Matched slots) → IsReady scene later later_failed
-                → ArePaid scene.moment (stock_in scene) began later marks later_failed before after → TurnLoop user is slice marks before (k + 1) (left - wants) true later_offers later later_failed after
+                → (later_failed : List Bool) (later : List Job) (after : Counts) → later ≡ with_standing jobs i (Stage.Matched slots) → IsReady scene later later_failed
+                → ArePaid scene.moment (stock_in scene) (settings_in scene) began later marks later_failed before after → TurnLoop user is slice marks before (k + 1) (left - wants) true later_offers later later_failed after
             turn-some wants wants_is answer answer_is later_offers pushed later_failed later after is_later ready paid = record {
               made = loop.made ++ offer i slots ∷ [];
               shown =
@@ -198,32 +198,32 @@ module _ (scene : Scene) (began : List Job) where
             }
 
           -- what the try of the job answers
-          module _ (o : Option Offered) (told : o ≡ option_map (λ slots. offer_named jobs (offer i slots)) (found scene.moment (stock_in scene) jobs i)) (later : List Job)
-              (table_is : later ≡ option_map_or (λ slots. with_standing jobs i (Standing.Matched slots)) (found scene.moment (stock_in scene) jobs i) jobs) where
-            table-of : (f : Option (List ℕ)) → found scene.moment (stock_in scene) jobs i ≡ f → later ≡ option_map_or (λ slots. with_standing jobs i (Standing.Matched slots)) f jobs
-            table-of f is = table_is ∙ ap (λ f. option_map_or (λ slots. with_standing jobs i (Standing.Matched slots)) f jobs) is
+          module _ (o : Option Offered) (told : o ≡ option_map (λ slots. offer_named jobs (offer i slots)) (found scene.moment (stock_in scene) (settings_in scene) jobs i)) (later : List Job)
+              (table_is : later ≡ option_map_or (λ slots. with_standing jobs i (Stage.Matched slots)) (found scene.moment (stock_in scene) (settings_in scene) jobs i) jobs) where
+            table-of : (f : Option (List ℕ)) → found scene.moment (stock_in scene) (settings_in scene) jobs i ≡ f → later ≡ option_map_or (λ slots. with_standing jobs i (Stage.Matched slots)) f jobs
+            table-of f is = table_is ∙ ap (λ f. option_map_or (λ slots. with_standing jobs i (Stage.Matched slots)) f jobs) is
 
-            pub tried-none : o ≡ None → (later_failed : List Bool) (after : Counts) → IsReady scene later later_failed → ArePaid scene.moment (stock_in scene) jobs later failed later_failed now after
+            pub tried-none : o ≡ None → (later_failed : List Bool) (after : Counts) → IsReady scene later later_failed → ArePaid scene.moment (stock_in scene) (settings_in scene) jobs later failed later_failed now after
                 → TurnLoop user is slice marks before (k + 1) left given offers later later_failed after
             tried-none is_none later_failed after ready paid =
-                let none = none-from jobs i (found scene.moment (stock_in scene) jobs i) (sym told ∙ is_none) in
-                turn-none later_failed later after none (table-of None none) ready (paid-on scene.moment (stock_in scene) began jobs later marks failed later_failed before now after loop.paid paid)
+                let none = none-from jobs i (found scene.moment (stock_in scene) (settings_in scene) jobs i) (sym told ∙ is_none) in
+                turn-none later_failed later after none (table-of None none) ready (paid-on scene.moment (stock_in scene) (settings_in scene) began jobs later marks failed later_failed before now after loop.paid paid)
 
             module _ (answer : Offered) (yes : o ≡ Some answer) where
-              is_it : (found scene.moment (stock_in scene) jobs i ≡ Some answer.slots) × (answer ≡ offer_named jobs (offer i answer.slots))
-              is_it = found-from jobs i (found scene.moment (stock_in scene) jobs i) answer (sym told ∙ yes)
+              is_it : (found scene.moment (stock_in scene) (settings_in scene) jobs i ≡ Some answer.slots) × (answer ≡ offer_named jobs (offer i answer.slots))
+              is_it = found-from jobs i (found scene.moment (stock_in scene) (settings_in scene) jobs i) answer (sym told ∙ yes)
 
               -- want of memory behind the offer
               pub tried-stopped : IsPart (turn m user is slice false []) began later
               tried-stopped = stopped-behind answer.slots is_it.0 later (table-of (Some answer.slots) is_it.0)
 
               pub tried-some : (wants : ℕ) → wants ≡ wants_of m i → (later_offers : List Offered) → later_offers ≡ offers ++ answer ∷ [] → (later_left : ℕ) → later_left ≡ left - wants
-                  → (later_failed : List Bool) (after : Counts) → IsReady scene later later_failed → ArePaid scene.moment (stock_in scene) jobs later failed later_failed now after
+                  → (later_failed : List Bool) (after : Counts) → IsReady scene later later_failed → ArePaid scene.moment (stock_in scene) (settings_in scene) jobs later failed later_failed now after
                   → TurnLoop user is slice marks before (k + 1) later_left true later_offers later later_failed after
               tried-some wants wants_is later_offers pushed later_left less later_failed after ready paid =
                   subst (λ (n : ℕ). TurnLoop user is slice marks before (k + 1) n true later_offers later later_failed after) (sym less)
                   (turn-some answer.slots is_it.0 wants wants_is answer is_it.1 later_offers pushed later_failed later after (table-of (Some answer.slots) is_it.0) ready
-                  (paid-on scene.moment (stock_in scene) began jobs later marks failed later_failed before now after loop.paid paid))
+                  (paid-on scene.moment (stock_in scene) (settings_in scene) began jobs later marks failed later_failed before now after loop.paid paid))
 
   -- over the user's own places
   pub own-turn : (user : List ℕ) (is : List ℕ) (slice : ℕ) → is ≡ filter (is_of m user) (places m.jobs) → turn m user is slice false [] ≡ turn m user (places m.jobs) slice false []

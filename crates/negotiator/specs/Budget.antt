@@ -10,6 +10,7 @@ use Rattle.ad_store.specs.Stock.{Advert, Stock}
 use Rattle.bilateral_match.specs.Counts.{entered_for, least_left, open_count}
 use Rattle.bilateral_match.specs.Pool.{Pool}
 use Rattle.claim_table.specs.declared.job.Job.{Job}
+use Rattle.claim_table.specs.Priorities.{Setting}
 use Rattle.conjunct_plan.specs.Tests.{tests_of}
 use Rattle.gang_ports.specs.Gangs.{attributes_open, docks_open, looks_most}
 use Rattle.negotiator.specs.Markets.{found, is_idle, pool_for}
@@ -40,17 +41,17 @@ looks_by ads request [] = 9 * least_left ads (tests_of request 0 [])
 looks_by ads request (port ∷ ports) = looks_most ads request (port ∷ ports)
 
 -- the same for a job among others
-abbrev pub open_for : ℕ → Stock → List Job → Request → ℕ
-open_for moment stock jobs request = open_by (pool_for moment stock jobs) (ad_frames request.ad) request.ports
+abbrev pub open_for : ℕ → Stock → List Setting → List Job → Request → ℕ
+open_for moment stock settings jobs request = open_by (pool_for moment stock settings jobs) (ad_frames request.ad) request.ports
 
 abbrev pub left_for : Stock → List Job → Request → ℕ
 left_for stock jobs request = narrowed_by stock.ads (ad_frames request.ad) request.ports
 
-abbrev pub evaluations_for : ℕ → Stock → List Job → Request → ℕ
-evaluations_for moment stock jobs request = evaluations_by (pool_for moment stock jobs) (ad_frames request.ad) request.ports
+abbrev pub evaluations_for : ℕ → Stock → List Setting → List Job → Request → ℕ
+evaluations_for moment stock settings jobs request = evaluations_by (pool_for moment stock settings jobs) (ad_frames request.ad) request.ports
 
-abbrev pub entries_for : ℕ → Stock → List Job → Request → ℕ
-entries_for moment stock jobs request = entries_by (pool_for moment stock jobs) (ad_frames request.ad) request.ports
+abbrev pub entries_for : ℕ → Stock → List Setting → List Job → Request → ℕ
+entries_for moment stock settings jobs request = entries_by (pool_for moment stock settings jobs) (ad_frames request.ad) request.ports
 
 abbrev pub looks_for : Stock → List Job → Request → ℕ
 looks_for stock jobs request = looks_by stock.ads (ad_frames request.ad) request.ports
@@ -70,8 +71,8 @@ abbrev pub is_marked : List Bool → ℕ → Bool
 is_marked failed i = slice_index_or failed i false
 
 -- each job that is marked finds nothing
-abbrev pub AreFailing : ℕ → Stock → List Job → List Bool → Type 0
-AreFailing moment stock jobs failed = (i : ℕ) → is_marked failed i ≡ true → found moment stock jobs i ≡ None
+abbrev pub AreFailing : ℕ → Stock → List Setting → List Job → List Bool → Type 0
+AreFailing moment stock settings jobs failed = (i : ℕ) → is_marked failed i ≡ true → found moment stock settings jobs i ≡ None
 
 abbrev pub price_at : (List Job → Request → ℕ) → List Job → ℕ → ℕ
 price_at price jobs i = option_map_or (λ job. price jobs job.request) (slice_get jobs i) 0
@@ -93,19 +94,19 @@ abbrev pub counts : ℕ → ℕ → ℕ → Counts
 counts tops entry touch = record { tops = tops; entry = entry; touch = touch }
 
 -- the counts rose by no more than one search for the job at a place may count
-pub record IsSearched (moment : ℕ) (stock : Stock) (jobs : List Job) (i : ℕ) (before after : Counts) : Type 0 where
-  pub tops : after.tops ≤ before.tops + price_at (evaluations_for moment stock) jobs i
-  pub entry : after.entry ≤ before.entry + price_at (entries_for moment stock) jobs i
+pub record IsSearched (moment : ℕ) (stock : Stock) (settings : List Setting) (jobs : List Job) (i : ℕ) (before after : Counts) : Type 0 where
+  pub tops : after.tops ≤ before.tops + price_at (evaluations_for moment stock settings) jobs i
+  pub entry : after.entry ≤ before.entry + price_at (entries_for moment stock settings) jobs i
   pub touch : after.touch ≤ before.touch + price_at (looks_for stock) jobs i
 
 -- the counts rose by no more than what was due and isn't due any more
-pub record ArePaid (moment : ℕ) (stock : Stock) (jobs later : List Job) (failed marked : List Bool) (before after : Counts) : Type 0 where
-  pub tops : after.tops + budget (evaluations_for moment stock) later marked ≤ before.tops + budget (evaluations_for moment stock) jobs failed
-  pub entry : after.entry + budget (entries_for moment stock) later marked ≤ before.entry + budget (entries_for moment stock) jobs failed
+pub record ArePaid (moment : ℕ) (stock : Stock) (settings : List Setting) (jobs later : List Job) (failed marked : List Bool) (before after : Counts) : Type 0 where
+  pub tops : after.tops + budget (evaluations_for moment stock settings) later marked ≤ before.tops + budget (evaluations_for moment stock settings) jobs failed
+  pub entry : after.entry + budget (entries_for moment stock settings) later marked ≤ before.entry + budget (entries_for moment stock settings) jobs failed
   pub touch : after.touch + budget (looks_for stock) later marked ≤ before.touch + budget (looks_for stock) jobs failed
 
 -- the counts rose by no more than what was due
-pub record AreWithin (moment : ℕ) (stock : Stock) (jobs : List Job) (failed : List Bool) (before after : Counts) : Type 0 where
-  pub tops : after.tops ≤ before.tops + budget (evaluations_for moment stock) jobs failed
-  pub entry : after.entry ≤ before.entry + budget (entries_for moment stock) jobs failed
+pub record AreWithin (moment : ℕ) (stock : Stock) (settings : List Setting) (jobs : List Job) (failed : List Bool) (before after : Counts) : Type 0 where
+  pub tops : after.tops ≤ before.tops + budget (evaluations_for moment stock settings) jobs failed
+  pub entry : after.entry ≤ before.entry + budget (entries_for moment stock settings) jobs failed
   pub touch : after.touch ≤ before.touch + budget (looks_for stock) jobs failed

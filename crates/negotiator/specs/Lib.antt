@@ -1,10 +1,7 @@
 pub mod Budget
-pub mod Causes
 pub mod Clusters
 pub mod Cycle
 pub mod Mapped
 pub mod Markets
-pub mod Priorities
 pub mod Queues
 pub mod Scenes
-pub mod Settings

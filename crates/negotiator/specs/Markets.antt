@@ -9,7 +9,7 @@ use Rattle.ad_store.specs.Stock.{Stock}
 use Rattle.bilateral_match.specs.Members.{best_slot}
 use Rattle.bilateral_match.specs.Pool.{Pool, pool_of, slot_at}
 use Rattle.claim_table.specs.declared.job.Job.{Job}
-use Rattle.claim_table.specs.declared.job.Standing.{Standing}
+use Rattle.claim_table.specs.declared.job.Stage.{Stage}
 use Rattle.claim_table.specs.Holders.{holder_of}
 use Rattle.claim_table.specs.Jobs.{claimed_by, offered_to, wanted, with_standing}
 use Rattle.gang_ports.specs.Gangs.{gang}
@@ -18,12 +18,12 @@ use Rattle.negotiator.specs.declared.answers.Offered.{Offered}
 use Rattle.negotiator.specs.declared.answers.Spin.{Spin}
 use Rattle.negotiator.specs.declared.answers.Turn.{Turn}
 use Rattle.negotiator.specs.Cycle.{Market, Offer, PlainSpin, PlainTurn, Waiting}
-use Rattle.negotiator.specs.Priorities.{Setting, priority_of}
+use Rattle.claim_table.specs.Priorities.{Setting, priority_of}
 
 -- ---- jobs
 
-abbrev pub is_idle : Standing → Bool
-is_idle Standing.Idle = true
+abbrev pub is_idle : Stage → Bool
+is_idle Stage.Idle = true
 is_idle other = false
 
 abbrev pub waiting_of : Job → Waiting
@@ -37,7 +37,7 @@ AreOwn frames (port ∷ ports) = ports_of frames ≡ Some (port ∷ ports)
 -- the jobs once offers are made: each stands as matched
 abbrev pub with_offers : List (Offer ℕ) → List Job → List Job
 with_offers [] jobs = jobs
-with_offers (offer ∷ offers) jobs = with_offers offers (with_standing jobs offer.job (Standing.Matched offer.resources))
+with_offers (offer ∷ offers) jobs = with_offers offers (with_standing jobs offer.job (Stage.Matched offer.resources))
 
 -- these jobs are the others once some first of the offers are made
 pub record IsPart (offers : List (Offer ℕ)) (jobs later : List Job) : Type 0 where
@@ -49,19 +49,19 @@ pub record IsPart (offers : List (Offer ℕ)) (jobs later : List Job) : Type 0 w
 -- ---- the market
 
 -- the resources as the jobs hold them
-abbrev pub pool_for : ℕ → Stock → List Job → Pool
-pool_for moment stock jobs = pool_of moment stock (λ slot. is_some (offered_to slot jobs)) (holder_of jobs)
+abbrev pub pool_for : ℕ → Stock → List Setting → List Job → Pool
+pool_for moment stock settings jobs = pool_of moment stock (λ slot. is_some (offered_to slot jobs)) (holder_of settings jobs)
 
--- without ports a request finds the one resource that is best for it, and with ports its gang
-abbrev pub found_by : Stock → Pool → List Frame → List Port → Option (List ℕ)
-found_by stock pool request [] = option_map (λ slot. slot ∷ []) (best_slot stock pool request)
-found_by stock pool request (port ∷ ports) = option_map (map (slot_at stock)) (gang pool request (port ∷ ports))
+-- without ports a request finds the one resource that is best for it and for its user's number, and with ports its gang
+abbrev pub found_by : Stock → Pool → ℕ → List Frame → List Port → Option (List ℕ)
+found_by stock pool number request [] = option_map (λ slot. slot ∷ []) (best_slot stock pool request number)
+found_by stock pool number request (port ∷ ports) = option_map (map (slot_at stock)) (gang pool request (port ∷ ports))
 
-abbrev pub found_for : ℕ → Stock → List Job → Request → Option (List ℕ)
-found_for moment stock jobs request = found_by stock (pool_for moment stock jobs) (ad_frames request.ad) request.ports
+abbrev pub found_for : ℕ → Stock → List Setting → List Job → ℕ → Request → Option (List ℕ)
+found_for moment stock settings jobs number request = found_by stock (pool_for moment stock settings jobs) number (ad_frames request.ad) request.ports
 
-abbrev pub found : ℕ → Stock → List Job → ℕ → Option (List ℕ)
-found moment stock jobs i = option_and_then (λ job. found_for moment stock jobs job.request) (slice_get jobs i)
+abbrev pub found : ℕ → Stock → List Setting → List Job → ℕ → Option (List ℕ)
+found moment stock settings jobs i = option_and_then (λ job. found_for moment stock settings jobs (priority_of job.user settings) job.request) (slice_get jobs i)
 
 -- a resource is free that is neither offered nor claimed
 abbrev pub is_free : List Job → ℕ → Bool
@@ -73,7 +73,7 @@ free_among stock jobs = count_by (is_free jobs) stock.slots
 abbrev pub market_of : ℕ → Stock → List Setting → List Job → Market ℕ
 market_of moment stock settings jobs = record {
   jobs = map waiting_of jobs;
-  find = λ made i. found moment stock (with_offers made jobs) i;
+  find = λ made i. found moment stock settings (with_offers made jobs) i;
   free = λ made. free_among stock (with_offers made jobs);
   priority = λ user. priority_of user settings;
 }

@@ -9,28 +9,32 @@ use Rattle.bilateral_match.specs.Rows.{rows_of}
 use Rattle.claim_table.specs.declared.job.Job.{Job}
 use Rattle.claim_table.specs.Holders.{holder_of}
 use Rattle.claim_table.specs.Jobs.{jobs_limit}
+use Rattle.claim_table.specs.Priorities.{Setting}
 use Rattle.literal_index.specs.Shown.{IsIndex}
 use Rattle.negotiator.specs.declared.queues.Queue.{Queue}
 use Rattle.negotiator.specs.declared.scene.Scene.{Scene}
 use Rattle.negotiator.specs.Budget.{AreFailing}
 use Rattle.negotiator.specs.Cycle.{Market}
 use Rattle.negotiator.specs.Markets.{AreOwn, market_of}
-use Rattle.negotiator.specs.Settings.{settings_of}
+use Rattle.claim_table.specs.Settings.{settings_of}
 
 abbrev pub stock_in : Scene → Stock
 stock_in scene = stock_of scene.store.now
 
+abbrev pub settings_in : Scene → List Setting
+settings_in scene = settings_of scene.priorities.now
+
 abbrev pub market_in : Scene → List Job → Market ℕ
-market_in scene jobs = market_of scene.moment (stock_in scene) (settings_of scene.priorities.now) jobs
+market_in scene jobs = market_of scene.moment (stock_in scene) (settings_in scene) jobs
 
 -- the index is that of the store, what is claimed is in the store, each job has no ports or those that its ad lists, and jobs that are marked find nothing
 pub record IsReady (scene : Scene) (jobs : List Job) (failed : List Bool) : Type 0 where
   pub index : IsIndex scene.index.now (rows_of (stock_in scene))
-  pub stored : AreStored (stock_in scene) (holder_of jobs)
+  pub stored : AreStored (stock_in scene) (holder_of (settings_in scene) jobs)
   pub ports : All (λ job. AreOwn (ad_frames job.request.ad) job.request.ports) jobs
   pub few : length jobs ≤ jobs_limit
   pub marks : length failed ≡ length jobs
-  pub known : AreFailing scene.moment (stock_in scene) jobs failed
+  pub known : AreFailing scene.moment (stock_in scene) (settings_in scene) jobs failed
 
 -- the users of the queues of these numbers
 abbrev pub users_at : List Queue → List ℕ → List (List ℕ)

@@ -1,5 +1,5 @@
-// Clusters of jobs: jobs without ports that have the same ad share one list of resources, so that each resource is weighed
-// once for all of them.
+// Clusters of jobs: jobs without ports that have the same ad, and whose users have the same number, share one list of resources,
+// so that each resource is weighed once for all of them.
 ghost use Rattle.std.specs.Prelude.{◌≡◌, ◌<◌, ◌≤◌, ◌+◌, ◌*◌, ℕ, List, [], false, true, All, IfOk, IfSome, IsTrue, Some, length, option_map, slice_get, take};
 ghost use Rattle.ad_tree.specs.Ad.{ad_frames};
 ghost use Rattle.ad_store.specs.Stock.{Advert};
@@ -18,12 +18,12 @@ ghost use Rattle.conjunct_plan.specs.Tests.{tests_of};
 ghost use Rattle.literal_index.specs.Shown.{IsIndex};
 ghost use Rattle.negotiator.specs.Clusters.{AreClusters, IsCluster, ad_at, is_offered};
 ghost use Rattle.negotiator.specs.Markets.{pool_for};
-ghost use Rattle.negotiator.specs.Scenes.{stock_in};
+ghost use Rattle.negotiator.specs.Scenes.{settings_in, stock_in};
 
 use crate::Scene;
 use ad_tree::Request;
 use bilateral_match::{Known, are_alike, best_knowing, shortlist};
-use claim_table::ClaimTable;
+use claim_table::{ClaimTable, Standing};
 use pool_steps::Steps;
 use pool_text::{OutOfMemory, Slots};
 use std::alloc::Global;
@@ -34,17 +34,18 @@ use std::sync::ledger::Ledger;
 // in which all ads differ costs no more than this many comparisons a job.
 const ADS_LIMIT: usize = 64;
 
-/// The jobs of one ad: the place of one of them, the resources that they may be given, the best one first, and how many of
-/// these are known to be offered, from the front.
+/// The jobs of one ad and of users with one number: the place of one of them, that number, the resources that they may be given,
+/// the best one first, and how many of these are known to be offered, from the front.
 #[derive(Drop)]
 pub struct Cluster {
     pub place: usize,
+    pub number: u64,
     pub slots: Slots,
     pub passed: usize,
 }
 
-/// The ads of the jobs without ports that were tried in a cycle, each by the place of the first job that has it, the clusters of
-/// those that were tried again, and what is known of the ranks that jobs give resources.
+/// The ads of the jobs without ports that were tried in a cycle, each beside the number of the job's user and by the place of the
+/// first job that has both, the clusters of those that were tried again, and what is known of the ranks that jobs give resources.
 #[derive(Drop)]
 pub struct Clusters {
     pub seen: Vec<usize>,
@@ -70,10 +71,10 @@ impl Clusters {
 impl Cluster {
     // The best resource for the jobs: the first that isn't offered.
     fn first(&mut self, scene: &Scene<'_>, claims: &ClaimTable) -> Option<usize>
-        requires { IsCluster scene.now.moment (stock_in scene.now) (jobs_of claims.now) self.old }
-        ensures best { result ≡ best_slot (stock_in scene.now) (pool_for scene.now.moment (stock_in scene.now) (jobs_of claims.now)) (ad_at (jobs_of claims.now) self.old.place) }
+        requires { IsCluster scene.now.moment (stock_in scene.now) (settings_in scene.now) (jobs_of claims.now) self.old }
+        ensures best { result ≡ best_slot (stock_in scene.now) (pool_for scene.now.moment (stock_in scene.now) (settings_in scene.now) (jobs_of claims.now)) (ad_at (jobs_of claims.now) self.old.place) self.old.number }
         ensures free { IfSome result (λ slot. is_offered (jobs_of claims.now) slot ≡ false) }
-        ensures kept { IsCluster scene.now.moment (stock_in scene.now) (jobs_of claims.now) self.new }
+        ensures kept { IsCluster scene.now.moment (stock_in scene.now) (settings_in scene.now) (jobs_of claims.now) self.new }
     {
         self.passed = first_left(claims, self.slots.as_slice(), self.passed);
         self.slots.as_slice().get(self.passed).copied()
@@ -94,47 +95,54 @@ fn first_left(claims: &ClaimTable, slots: &[usize], passed: usize) -> usize
     slots.len()
 }
 
-// The best resource for job `i`, whose request has no ports. Its ad is remembered; where a job of the same ad was tried
-// before, the resources for all of them are put in order once, and from then on the first that isn't offered is taken.
+// The best resource for job `i`, whose request has no ports, and whose user has this number. Its ad is remembered beside the
+// number; where a job with both was tried before, the resources for all of them are put in order once, and from then on the first
+// that isn't offered is taken.
 pub(crate) fn choose<F: Ledger, E: Ledger, T: Ledger>(
     scene: &Scene<'_>,
     claims: &ClaimTable,
     i: usize,
     request: &Request,
+    number: u64,
     clusters: &mut Clusters,
     tops: &mut Steps<F>,
     entry: &mut Steps<E>,
     touch: &mut Steps<T>,
 ) -> Result<Option<usize>, OutOfMemory>
     requires index { IsIndex scene.now.index.now (rows_of (stock_in scene.now)) }
-    requires stored { AreStored (stock_in scene.now) (holder_of (jobs_of claims.now)) }
+    requires stored { AreStored (stock_in scene.now) (holder_of (settings_in scene.now) (jobs_of claims.now)) }
     requires job { option_map (λ job. job.request) (slice_get (jobs_of claims.now) i) ≡ Some request.now }
     requires single { request.now.ports ≡ [] }
-    requires clusters { AreClusters scene.now.moment (stock_in scene.now) (jobs_of claims.now) clusters.old }
-    ensures best { IfOk result (λ slot. slot ≡ best_slot (stock_in scene.now) (pool_for scene.now.moment (stock_in scene.now) (jobs_of claims.now)) (ad_frames request.now.ad)) }
+    requires clusters { AreClusters scene.now.moment (stock_in scene.now) (settings_in scene.now) (jobs_of claims.now) clusters.old }
+    ensures best { IfOk result (λ slot. slot ≡ best_slot (stock_in scene.now) (pool_for scene.now.moment (stock_in scene.now) (settings_in scene.now) (jobs_of claims.now)) (ad_frames request.now.ad) number) }
     ensures free { IfOk result (λ slot. IfSome slot (λ s. is_offered (jobs_of claims.now) s ≡ false)) }
-    ensures clusters { AreClusters scene.now.moment (stock_in scene.now) (jobs_of claims.now) clusters.new }
-    ensures evaluations { tops.new ≤ tops.old + 5 * open_count (pool_for scene.now.moment (stock_in scene.now) (jobs_of claims.now)) (ad_frames request.now.ad) }
-    ensures entries { entry.new ≤ entry.old + entered_for (pool_for scene.now.moment (stock_in scene.now) (jobs_of claims.now)) (ad_frames request.now.ad) }
+    ensures clusters { AreClusters scene.now.moment (stock_in scene.now) (settings_in scene.now) (jobs_of claims.now) clusters.new }
+    ensures evaluations { tops.new ≤ tops.old + 5 * open_count (pool_for scene.now.moment (stock_in scene.now) (settings_in scene.now) (jobs_of claims.now)) (ad_frames request.now.ad) }
+    ensures entries { entry.new ≤ entry.old + entered_for (pool_for scene.now.moment (stock_in scene.now) (settings_in scene.now) (jobs_of claims.now)) (ad_frames request.now.ad) }
     ensures ratio { AreSmallAds (stock_in scene.now).ads → AreSmallJobs (jobs_of claims.now) → entry.new + 9216 * tops.old ≤ entry.old + 9216 * tops.new }
     ensures looks { touch.new ≤ touch.old + 9 * least_left (stock_in scene.now).ads (tests_of (ad_frames request.now.ad) 0 []) }
 {
-    if let Some(k) = cluster_of(scene, claims, clusters.ranked.as_slice(), request) {
+    if let Some(k) = cluster_of(scene, claims, clusters.ranked.as_slice(), request, number) {
         return Ok(clusters.ranked[k].first(scene, claims));
     }
-    if was_seen(claims, clusters.seen.as_slice(), request) {
-        let mut cluster = rank(scene, claims, i, request, tops, entry, touch)?;
+    if was_seen(scene, claims, clusters.seen.as_slice(), request, number) {
+        let mut cluster = rank(scene, claims, i, request, number, tops, entry, touch)?;
         let slot = cluster.first(scene, claims);
         clusters.ranked.push(cluster)?;
         return Ok(slot);
     }
     note(claims, &mut clusters.seen, i)?;
+    let standing = Standing {
+        claims,
+        priorities: scene.priorities,
+    };
     best_knowing(
         scene.alloc,
         scene.store,
         scene.index,
-        claims,
+        &standing,
         request,
+        number,
         scene.moment,
         &mut clusters.known,
         tops,
@@ -143,35 +151,50 @@ pub(crate) fn choose<F: Ledger, E: Ledger, T: Ledger>(
     )
 }
 
-// The place among the clusters of that whose jobs have the ad of a request.
+// The place among the clusters of that whose jobs have the ad of a request, and users with the same number.
 fn cluster_of(
     scene: &Scene<'_>,
     claims: &ClaimTable,
     ranked: &[Cluster],
     request: &Request,
+    number: u64,
 ) -> Option<usize>
-    requires { All (IsCluster scene.now.moment (stock_in scene.now) (jobs_of claims.now)) ranked.now }
+    requires { All (IsCluster scene.now.moment (stock_in scene.now) (settings_in scene.now) (jobs_of claims.now)) ranked.now }
     ensures within { IfSome result (λ k. k < length ranked.now) }
     ensures alike { IfSome result (λ k. (cluster : Cluster) → slice_get ranked.now k ≡ Some cluster → AreAlike (ad_at (jobs_of claims.now) cluster.place) (ad_frames request.now.ad)) }
+    ensures same { IfSome result (λ k. (cluster : Cluster) → slice_get ranked.now k ≡ Some cluster → cluster.number ≡ number) }
 {
     for k in 0..ranked.len() {
-        if has_ad(claims, ranked[k].place, request) {
+        if ranked[k].number == number && has_ad(claims, ranked[k].place, request) {
             return Some(k);
         }
     }
     None
 }
 
-// Whether the ad of a request is that of a job at one of these places.
-fn was_seen(claims: &ClaimTable, seen: &[usize], request: &Request) -> bool
+// Whether a job at one of these places has the ad of a request, and a user with the same number.
+fn was_seen(
+    scene: &Scene<'_>,
+    claims: &ClaimTable,
+    seen: &[usize],
+    request: &Request,
+    number: u64,
+) -> bool
     requires { All (λ place. place < length (jobs_of claims.now)) seen.now }
 {
     for place in seen {
-        if has_ad(claims, *place, request) {
+        if has_ad(claims, *place, request) && number_of(scene, claims, *place) == number {
             return true;
         }
     }
     false
+}
+
+// The number of the user of the job at a place.
+fn number_of(scene: &Scene<'_>, claims: &ClaimTable, place: usize) -> u64
+    requires { place < length (jobs_of claims.now) }
+{
+    scene.priorities.get(claims.user(place).bytes())
 }
 
 // Whether the job at a place has the ad of a request.
@@ -195,33 +218,40 @@ fn note(claims: &ClaimTable, seen: &mut Vec<usize>, i: usize) -> Result<(), OutO
     Ok(())
 }
 
-// The cluster of the jobs with the ad of job `i`.
+// The cluster of the jobs with the ad of job `i`, whose user has this number.
 fn rank<F: Ledger, E: Ledger, T: Ledger>(
     scene: &Scene<'_>,
     claims: &ClaimTable,
     i: usize,
     request: &Request,
+    number: u64,
     tops: &mut Steps<F>,
     entry: &mut Steps<E>,
     touch: &mut Steps<T>,
 ) -> Result<Cluster, OutOfMemory>
     requires index { IsIndex scene.now.index.now (rows_of (stock_in scene.now)) }
-    requires stored { AreStored (stock_in scene.now) (holder_of (jobs_of claims.now)) }
+    requires stored { AreStored (stock_in scene.now) (holder_of (settings_in scene.now) (jobs_of claims.now)) }
     requires job { option_map (λ job. job.request) (slice_get (jobs_of claims.now) i) ≡ Some request.now }
     requires single { request.now.ports ≡ [] }
-    ensures cluster { IfOk result (IsCluster scene.now.moment (stock_in scene.now) (jobs_of claims.now)) }
+    ensures cluster { IfOk result (IsCluster scene.now.moment (stock_in scene.now) (settings_in scene.now) (jobs_of claims.now)) }
     ensures place { IfOk result (λ cluster. cluster.place ≡ i) }
-    ensures evaluations { tops.new ≤ tops.old + 5 * open_count (pool_for scene.now.moment (stock_in scene.now) (jobs_of claims.now)) (ad_frames request.now.ad) }
-    ensures entries { entry.new ≤ entry.old + entered_for (pool_for scene.now.moment (stock_in scene.now) (jobs_of claims.now)) (ad_frames request.now.ad) }
+    ensures number { IfOk result (λ cluster. cluster.number ≡ number) }
+    ensures evaluations { tops.new ≤ tops.old + 5 * open_count (pool_for scene.now.moment (stock_in scene.now) (settings_in scene.now) (jobs_of claims.now)) (ad_frames request.now.ad) }
+    ensures entries { entry.new ≤ entry.old + entered_for (pool_for scene.now.moment (stock_in scene.now) (settings_in scene.now) (jobs_of claims.now)) (ad_frames request.now.ad) }
     ensures ratio { AreSmallAds (stock_in scene.now).ads → AreSmallJobs (jobs_of claims.now) → entry.new + 9216 * tops.old ≤ entry.old + 9216 * tops.new }
     ensures looks { touch.new ≤ touch.old + 9 * least_left (stock_in scene.now).ads (tests_of (ad_frames request.now.ad) 0 []) }
 {
+    let standing = Standing {
+        claims,
+        priorities: scene.priorities,
+    };
     let slots = shortlist(
         scene.alloc,
         scene.store,
         scene.index,
-        claims,
+        &standing,
         request,
+        number,
         scene.moment,
         tops,
         entry,
@@ -229,6 +259,7 @@ fn rank<F: Ledger, E: Ledger, T: Ledger>(
     )?;
     Ok(Cluster {
         place: i,
+        number,
         slots,
         passed: 0,
     })

@@ -1,23 +1,22 @@
 //! Cycles of negotiation, which offer free resources to idle jobs: users take turns by priority, each with a slice of what
-//! is free. And the priorities of users.
+//! is free.
 #![tactic(auto)]
 
 mod answers;
 mod clusters;
 mod laws;
-mod priorities;
 mod queues;
 mod scene;
 mod search;
 mod spins;
 mod turns;
 
-pub use answers::{Cycle, Offered, OfferedList, PriorityFault, Spin, Turn, Turns};
+pub use answers::{Cycle, Offered, OfferedList, Spin, Turn, Turns};
+pub use claim_table::{Priorities, PriorityFault};
 pub use clusters::{Cluster, Clusters};
 pub use laws::{
     a_cycle_ends_with_the_first_spin_without_an_offer, users_with_a_waiting_job_take_turns_in_order,
 };
-pub use priorities::Priorities;
 pub use queues::Queue;
 pub use scene::Scene;
 pub use spins::cycle;

@@ -5,10 +5,10 @@ ghost use Rattle.std.specs.Ordering.{nat_cmp, ordering_then};
 ghost use Rattle.std.specs.Cmp.Lexicographic.{slice_cmp};
 ghost use Rattle.claim_table.specs.Table.{jobs_of};
 ghost use Rattle.negotiator.specs.Cycle.{user_order};
-ghost use Rattle.negotiator.specs.Priorities.{priority_of};
+ghost use Rattle.claim_table.specs.Priorities.{priority_of};
 ghost use Rattle.negotiator.specs.Queues.{AreQueues, enqueued};
 ghost use Rattle.negotiator.specs.Scenes.{market_in};
-ghost use Rattle.negotiator.specs.Settings.{settings_of};
+ghost use Rattle.claim_table.specs.Settings.{settings_of};
 
 use crate::{Priorities, Scene};
 use claim_table::ClaimTable;

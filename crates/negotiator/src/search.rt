@@ -1,12 +1,12 @@
 // The search for one job.
-ghost use Rattle.std.specs.Prelude.{◌≡◌, ◌≢◌, ◌<◌, ◌≤◌, ◌+◌, ◌*◌, ◌∷◌, true, [], All, AllPairs, IfOk, IfSome, OnErr, OnOk, Some, length, option_map, slice_get};
+ghost use Rattle.std.specs.Prelude.{◌≡◌, ◌≢◌, ◌<◌, ◌≤◌, ◌+◌, ◌*◌, ◌∷◌, ℕ, true, [], All, AllPairs, IfOk, IfSome, OnErr, OnOk, Some, length, option_map, slice_get};
 ghost use Rattle.std.specs.Option.{option_map_or};
 ghost use Rattle.ad_tree.specs.Ad.{ad_frames};
 ghost use Rattle.ad_tree.specs.Small.{IsSmall};
 ghost use Rattle.bilateral_match.specs.Pool.{AreStored};
 ghost use Rattle.bilateral_match.specs.Rows.{rows_of};
 ghost use Rattle.bilateral_match.specs.Small.{AreSmallAds};
-ghost use Rattle.claim_table.specs.declared.job.Standing.{Standing};
+ghost use Rattle.claim_table.specs.declared.job.Stage.{Stage};
 ghost use Rattle.claim_table.specs.Holders.{holder_of};
 ghost use Rattle.claim_table.specs.Jobs.{AreFree, wanted, with_standing};
 ghost use Rattle.claim_table.specs.Small.{AreSmallJobs};
@@ -16,12 +16,12 @@ ghost use Rattle.literal_index.specs.Shown.{IsIndex};
 ghost use Rattle.negotiator.specs.Budget.{ArePaid, AreWithin, IsSearched, counts, entries_for, evaluations_for, is_idle_at, looks_for};
 ghost use Rattle.negotiator.specs.Clusters.{AreClusters};
 ghost use Rattle.negotiator.specs.Markets.{AreOwn, found, found_for, offer_named};
-ghost use Rattle.negotiator.specs.Scenes.{IsReady, stock_in};
+ghost use Rattle.negotiator.specs.Scenes.{IsReady, settings_in, stock_in};
 
 use crate::clusters::choose;
 use crate::{Clusters, Offered, Scene};
 use ad_tree::Request;
-use claim_table::{ClaimTable, JobState};
+use claim_table::{ClaimTable, JobState, Standing};
 use gang_ports::first_gang;
 use pool_steps::Steps;
 use pool_text::{OutOfMemory, Slots};
@@ -65,52 +65,58 @@ fn search<F: Ledger, E: Ledger, T: Ledger>(
 ) -> Result<Option<Slots>, OutOfMemory>
     requires place { i < length (jobs_of claims.now) }
     requires index { IsIndex scene.now.index.now (rows_of (stock_in scene.now)) }
-    requires stored { AreStored (stock_in scene.now) (holder_of (jobs_of claims.now)) }
+    requires stored { AreStored (stock_in scene.now) (holder_of (settings_in scene.now) (jobs_of claims.now)) }
     requires ports { All (λ job. AreOwn (ad_frames job.request.ad) job.request.ports) (jobs_of claims.now) }
-    requires clusters { AreClusters scene.now.moment (stock_in scene.now) (jobs_of claims.now) clusters.old }
-    ensures found { IfOk result (λ slots. slots ≡ found scene.now.moment (stock_in scene.now) (jobs_of claims.now) i) }
+    requires clusters { AreClusters scene.now.moment (stock_in scene.now) (settings_in scene.now) (jobs_of claims.now) clusters.old }
+    ensures found { IfOk result (λ slots. slots ≡ found scene.now.moment (stock_in scene.now) (settings_in scene.now) (jobs_of claims.now) i) }
     ensures free { IfOk result (λ slots. IfSome slots (λ list. AreFree list (jobs_of claims.now))) }
     ensures distinct { IfOk result (λ slots. IfSome slots (AllPairs (λ a b. a ≢ b))) }
     ensures enough { IfOk result (λ slots. IfSome slots (λ list. option_map (λ job. wanted job.request) (slice_get (jobs_of claims.now) i) ≡ Some (length list))) }
-    ensures clusters { AreClusters scene.now.moment (stock_in scene.now) (jobs_of claims.now) clusters.new }
-    ensures counted { IsSearched scene.now.moment (stock_in scene.now) (jobs_of claims.now) i (counts tops.old entry.old touch.old) (counts tops.new entry.new touch.new) }
+    ensures clusters { AreClusters scene.now.moment (stock_in scene.now) (settings_in scene.now) (jobs_of claims.now) clusters.new }
+    ensures counted { IsSearched scene.now.moment (stock_in scene.now) (settings_in scene.now) (jobs_of claims.now) i (counts tops.old entry.old touch.old) (counts tops.new entry.new touch.new) }
     ensures ratio { AreSmallAds (stock_in scene.now).ads → AreSmallJobs (jobs_of claims.now) → entry.new + 9216 * tops.old ≤ entry.old + 9216 * tops.new }
 {
     let request = claims.request(i);
     if request.ports.len() == 0 {
-        search_one(scene, claims, i, request, clusters, tops, entry, touch)
+        let number = scene.priorities.get(claims.user(i).bytes());
+        search_one(
+            scene, claims, i, request, number, clusters, tops, entry, touch,
+        )
     } else {
         search_gang(scene, claims, request, tops, entry, touch)
     }
 }
 
-// The resource that a request without ports finds, in a list.
+// The resource that a request without ports finds, whose user has this number, in a list.
 fn search_one<F: Ledger, E: Ledger, T: Ledger>(
     scene: &Scene<'_>,
     claims: &ClaimTable,
     i: usize,
     request: &Request,
+    number: u64,
     clusters: &mut Clusters,
     tops: &mut Steps<F>,
     entry: &mut Steps<E>,
     touch: &mut Steps<T>,
 ) -> Result<Option<Slots>, OutOfMemory>
     requires index { IsIndex scene.now.index.now (rows_of (stock_in scene.now)) }
-    requires stored { AreStored (stock_in scene.now) (holder_of (jobs_of claims.now)) }
+    requires stored { AreStored (stock_in scene.now) (holder_of (settings_in scene.now) (jobs_of claims.now)) }
     requires job { option_map (λ job. job.request) (slice_get (jobs_of claims.now) i) ≡ Some request.now }
     requires single { request.now.ports ≡ [] }
-    requires clusters { AreClusters scene.now.moment (stock_in scene.now) (jobs_of claims.now) clusters.old }
-    ensures found { IfOk result (λ slots. slots ≡ found_for scene.now.moment (stock_in scene.now) (jobs_of claims.now) request.now) }
+    requires clusters { AreClusters scene.now.moment (stock_in scene.now) (settings_in scene.now) (jobs_of claims.now) clusters.old }
+    ensures found { IfOk result (λ slots. slots ≡ found_for scene.now.moment (stock_in scene.now) (settings_in scene.now) (jobs_of claims.now) number request.now) }
     ensures free { IfOk result (λ slots. IfSome slots (λ list. AreFree list (jobs_of claims.now))) }
     ensures distinct { IfOk result (λ slots. IfSome slots (AllPairs (λ a b. a ≢ b))) }
     ensures enough { IfOk result (λ slots. IfSome slots (λ list. wanted request.now ≡ length list)) }
-    ensures clusters { AreClusters scene.now.moment (stock_in scene.now) (jobs_of claims.now) clusters.new }
-    ensures evaluations { tops.new ≤ tops.old + evaluations_for scene.now.moment (stock_in scene.now) (jobs_of claims.now) request.now }
-    ensures entries { entry.new ≤ entry.old + entries_for scene.now.moment (stock_in scene.now) (jobs_of claims.now) request.now }
+    ensures clusters { AreClusters scene.now.moment (stock_in scene.now) (settings_in scene.now) (jobs_of claims.now) clusters.new }
+    ensures evaluations { tops.new ≤ tops.old + evaluations_for scene.now.moment (stock_in scene.now) (settings_in scene.now) (jobs_of claims.now) request.now }
+    ensures entries { entry.new ≤ entry.old + entries_for scene.now.moment (stock_in scene.now) (settings_in scene.now) (jobs_of claims.now) request.now }
     ensures ratio { AreSmallAds (stock_in scene.now).ads → AreSmallJobs (jobs_of claims.now) → entry.new + 9216 * tops.old ≤ entry.old + 9216 * tops.new }
     ensures looks { touch.new ≤ touch.old + looks_for (stock_in scene.now) (jobs_of claims.now) request.now }
 {
-    let slot = choose(scene, claims, i, request, clusters, tops, entry, touch)?;
+    let slot = choose(
+        scene, claims, i, request, number, clusters, tops, entry, touch,
+    )?;
     listed(scene.alloc, slot)
 }
 
@@ -126,7 +132,7 @@ fn listed(alloc: Global, slot: Option<usize>) -> Result<Option<Slots>, OutOfMemo
     Ok(Some(slots))
 }
 
-// The resources that a request finds for its ports.
+// The resources that a request finds for its ports, whatever the number of its user: nothing is taken from a holder for a gang.
 fn search_gang<F: Ledger, E: Ledger, T: Ledger>(
     scene: &Scene<'_>,
     claims: &ClaimTable,
@@ -138,21 +144,25 @@ fn search_gang<F: Ledger, E: Ledger, T: Ledger>(
     requires index { IsIndex scene.now.index.now (rows_of (stock_in scene.now)) }
     requires ports { ports_of (ad_frames request.now.ad) ≡ Some request.now.ports }
     requires some { 0 < length request.now.ports }
-    ensures found { IfOk result (λ slots. slots ≡ found_for scene.now.moment (stock_in scene.now) (jobs_of claims.now) request.now) }
+    ensures found { IfOk result (λ slots. (number : ℕ) → slots ≡ found_for scene.now.moment (stock_in scene.now) (settings_in scene.now) (jobs_of claims.now) number request.now) }
     ensures free { IfOk result (λ slots. IfSome slots (λ list. AreFree list (jobs_of claims.now))) }
     ensures distinct { IfOk result (λ slots. IfSome slots (AllPairs (λ a b. a ≢ b))) }
     ensures enough { IfOk result (λ slots. IfSome slots (λ list. wanted request.now ≡ length list)) }
-    ensures evaluations { tops.new ≤ tops.old + evaluations_for scene.now.moment (stock_in scene.now) (jobs_of claims.now) request.now }
-    ensures entries { entry.new ≤ entry.old + entries_for scene.now.moment (stock_in scene.now) (jobs_of claims.now) request.now }
+    ensures evaluations { tops.new ≤ tops.old + evaluations_for scene.now.moment (stock_in scene.now) (settings_in scene.now) (jobs_of claims.now) request.now }
+    ensures entries { entry.new ≤ entry.old + entries_for scene.now.moment (stock_in scene.now) (settings_in scene.now) (jobs_of claims.now) request.now }
     ensures ratio { IsSmall (ad_frames request.now.ad) → AreSmallAds (stock_in scene.now).ads → entry.new + 9216 * tops.old ≤ entry.old + 9216 * tops.new }
     ensures looks { touch.new ≤ touch.old + looks_for (stock_in scene.now) (jobs_of claims.now) request.now }
 {
     scene.store.slots_are_apart();
+    let standing = Standing {
+        claims,
+        priorities: scene.priorities,
+    };
     first_gang(
         scene.alloc,
         scene.store,
         scene.index,
-        claims,
+        &standing,
         request,
         scene.moment,
         tops,
@@ -173,7 +183,7 @@ fn give(
     requires distinct { AllPairs (λ a b. a ≢ b) slots }
     requires enough { option_map (λ job. wanted job.request) (slice_get (jobs_of claims.old) i) ≡ Some (length slots) }
     ensures offered { IfOk result (λ offered. offered ≡ offer_named (jobs_of claims.old) (record { job = i; resources = slots })) }
-    ensures ok { OnOk result (jobs_of claims.new ≡ with_standing (jobs_of claims.old) i (Standing.Matched slots)) }
+    ensures ok { OnOk result (jobs_of claims.new ≡ with_standing (jobs_of claims.old) i (Stage.Matched slots)) }
     ensures err { OnErr result (jobs_of claims.new ≡ jobs_of claims.old) }
 {
     let job = claims.job(i).copy()?;
@@ -207,14 +217,14 @@ pub(crate) fn try_job<F: Ledger, E: Ledger, T: Ledger>(
 ) -> Result<Option<Offered>, OutOfMemory>
     requires idle { is_idle_at (jobs_of claims.old) i ≡ true }
     requires ready { IsReady scene.now (jobs_of claims.old) failed.old }
-    requires clusters { AreClusters scene.now.moment (stock_in scene.now) (jobs_of claims.old) clusters.old }
-    ensures offered { IfOk result (λ o. o ≡ option_map (λ slots. offer_named (jobs_of claims.old) (record { job = i; resources = slots })) (found scene.now.moment (stock_in scene.now) (jobs_of claims.old) i)) }
-    ensures table { OnOk result (jobs_of claims.new ≡ option_map_or (λ slots. with_standing (jobs_of claims.old) i (Standing.Matched slots)) (found scene.now.moment (stock_in scene.now) (jobs_of claims.old) i) (jobs_of claims.old)) }
+    requires clusters { AreClusters scene.now.moment (stock_in scene.now) (settings_in scene.now) (jobs_of claims.old) clusters.old }
+    ensures offered { IfOk result (λ o. o ≡ option_map (λ slots. offer_named (jobs_of claims.old) (record { job = i; resources = slots })) (found scene.now.moment (stock_in scene.now) (settings_in scene.now) (jobs_of claims.old) i)) }
+    ensures table { OnOk result (jobs_of claims.new ≡ option_map_or (λ slots. with_standing (jobs_of claims.old) i (Stage.Matched slots)) (found scene.now.moment (stock_in scene.now) (settings_in scene.now) (jobs_of claims.old) i) (jobs_of claims.old)) }
     ensures err { OnErr result (jobs_of claims.new ≡ jobs_of claims.old) }
     ensures ready { IsReady scene.now (jobs_of claims.new) failed.new }
-    ensures clusters { AreClusters scene.now.moment (stock_in scene.now) (jobs_of claims.new) clusters.new }
-    ensures paid { OnOk result (ArePaid scene.now.moment (stock_in scene.now) (jobs_of claims.old) (jobs_of claims.new) failed.old failed.new (counts tops.old entry.old touch.old) (counts tops.new entry.new touch.new)) }
-    ensures within { AreWithin scene.now.moment (stock_in scene.now) (jobs_of claims.old) failed.old (counts tops.old entry.old touch.old) (counts tops.new entry.new touch.new) }
+    ensures clusters { AreClusters scene.now.moment (stock_in scene.now) (settings_in scene.now) (jobs_of claims.new) clusters.new }
+    ensures paid { OnOk result (ArePaid scene.now.moment (stock_in scene.now) (settings_in scene.now) (jobs_of claims.old) (jobs_of claims.new) failed.old failed.new (counts tops.old entry.old touch.old) (counts tops.new entry.new touch.new)) }
+    ensures within { AreWithin scene.now.moment (stock_in scene.now) (settings_in scene.now) (jobs_of claims.old) failed.old (counts tops.old entry.old touch.old) (counts tops.new entry.new touch.new) }
     ensures ratio { AreSmallAds (stock_in scene.now).ads → AreSmallJobs (jobs_of claims.old) → entry.new + 9216 * tops.old ≤ entry.old + 9216 * tops.new }
 {
     if failed[i] {

@@ -14,10 +14,10 @@ ghost use Rattle.negotiator.specs.Budget.{ArePaid, AreWithin, counts, entries_fo
 ghost use Rattle.negotiator.specs.Clusters.{AreClusters};
 ghost use Rattle.negotiator.specs.Cycle.{cycle_from, cycle_of, is_of, offers_in, offers_of, places, spin, users_of, waits};
 ghost use Rattle.negotiator.specs.Markets.{AreOwn, IsPart, free_among, is_free, market_of, spin_named, with_offers};
-ghost use Rattle.negotiator.specs.Priorities.{priority_of};
+ghost use Rattle.claim_table.specs.Priorities.{priority_of};
 ghost use Rattle.negotiator.specs.Queues.{AreQueues};
-ghost use Rattle.negotiator.specs.Scenes.{IsReady, market_in, stock_in, users_at};
-ghost use Rattle.negotiator.specs.Settings.{settings_of};
+ghost use Rattle.negotiator.specs.Scenes.{IsReady, market_in, settings_in, stock_in, users_at};
+ghost use Rattle.claim_table.specs.Settings.{settings_of};
 ghost use Rattle.pie_slices.specs.Slices.{weight_of};
 
 use crate::queues::queues_of;
@@ -58,7 +58,7 @@ pub fn cycle<F: Ledger, E: Ledger, T: Ledger>(
     touch: &mut Steps<T>,
 ) -> Result<Cycle, OutOfMemory>
     requires index { IsIndex index.now (rows_of (stock_of store.now)) }
-    requires stored { AreStored (stock_of store.now) (holder_of (jobs_of claims.old)) }
+    requires stored { AreStored (stock_of store.now) (holder_of (settings_of priorities.now) (jobs_of claims.old)) }
     requires ports { All (λ job. AreOwn (ad_frames job.request.ad) job.request.ports) (jobs_of claims.old) }
     ensures cycle { IfOk result (λ spins. spins ≡ map (spin_named (jobs_of claims.old))
         (cycle_of (market_of moment (stock_of store.now) (settings_of priorities.now) (jobs_of claims.old)))) }
@@ -68,8 +68,8 @@ pub fn cycle<F: Ledger, E: Ledger, T: Ledger>(
         (offers_of (cycle_of (market_of moment (stock_of store.now) (settings_of priorities.now) (jobs_of claims.old)))) (jobs_of claims.old) (jobs_of claims.new)) }
     ensures stored { All (λ offer. All (Contains (stock_of store.now).slots) offer.resources)
         (offers_of (cycle_of (market_of moment (stock_of store.now) (settings_of priorities.now) (jobs_of claims.old)))) }
-    ensures evaluations { tops.new ≤ tops.old + 5 * over_idle (open_for moment (stock_of store.now)) (jobs_of claims.old) }
-    ensures entries { entry.new ≤ entry.old + over_idle (entries_for moment (stock_of store.now)) (jobs_of claims.old) }
+    ensures evaluations { tops.new ≤ tops.old + 5 * over_idle (open_for moment (stock_of store.now) (settings_of priorities.now)) (jobs_of claims.old) }
+    ensures entries { entry.new ≤ entry.old + over_idle (entries_for moment (stock_of store.now) (settings_of priorities.now)) (jobs_of claims.old) }
     ensures ratio { AreSmallAds (stock_of store.now).ads → AreSmallJobs (jobs_of claims.old) → entry.new + 9216 * tops.old ≤ entry.old + 9216 * tops.new }
     ensures looks { touch.new ≤ touch.old + 9 * over_idle (left_for (stock_of store.now)) (jobs_of claims.old) }
 {
@@ -116,11 +116,11 @@ fn run_spins<F: Ledger, E: Ledger, T: Ledger>(
 ) -> Result<Cycle, OutOfMemory>
     requires queues { AreQueues (market_in scene.now (jobs_of claims.old)) queues.now }
     requires ready { IsReady scene.now (jobs_of claims.old) failed.old }
-    requires clusters { AreClusters scene.now.moment (stock_in scene.now) (jobs_of claims.old) clusters.old }
+    requires clusters { AreClusters scene.now.moment (stock_in scene.now) (settings_in scene.now) (jobs_of claims.old) clusters.old }
     ensures cycle { IfOk result (λ spins. spins ≡ map (spin_named (jobs_of claims.old)) (cycle_of (market_in scene.now (jobs_of claims.old)))) }
     ensures table { OnOk result (jobs_of claims.new ≡ with_offers (offers_of (cycle_of (market_in scene.now (jobs_of claims.old)))) (jobs_of claims.old)) }
     ensures part { OnErr result (IsPart (offers_of (cycle_of (market_in scene.now (jobs_of claims.old)))) (jobs_of claims.old) (jobs_of claims.new)) }
-    ensures within { AreWithin scene.now.moment (stock_in scene.now) (jobs_of claims.old) failed.old (counts tops.old entry.old touch.old) (counts tops.new entry.new touch.new) }
+    ensures within { AreWithin scene.now.moment (stock_in scene.now) (settings_in scene.now) (jobs_of claims.old) failed.old (counts tops.old entry.old touch.old) (counts tops.new entry.new touch.new) }
     ensures ratio { AreSmallAds (stock_in scene.now).ads → AreSmallJobs (jobs_of claims.old) → entry.new + 9216 * tops.old ≤ entry.old + 9216 * tops.new }
 {
     let mut spins = Cycle::new(scene.alloc);
@@ -147,14 +147,14 @@ fn run_spin<F: Ledger, E: Ledger, T: Ledger>(
 ) -> Result<Spin, OutOfMemory>
     requires queues { AreQueues (market_in scene.now (jobs_of claims.old)) queues.now }
     requires ready { IsReady scene.now (jobs_of claims.old) failed.old }
-    requires clusters { AreClusters scene.now.moment (stock_in scene.now) (jobs_of claims.old) clusters.old }
+    requires clusters { AreClusters scene.now.moment (stock_in scene.now) (settings_in scene.now) (jobs_of claims.old) clusters.old }
     ensures spin { IfOk result (λ one. one ≡ spin_named (jobs_of claims.old) (spin (market_in scene.now (jobs_of claims.old)) [])) }
     ensures table { OnOk result (jobs_of claims.new ≡ with_offers (offers_in (spin (market_in scene.now (jobs_of claims.old)) []).turns) (jobs_of claims.old)) }
     ensures part { OnErr result (IsPart (offers_in (spin (market_in scene.now (jobs_of claims.old)) []).turns) (jobs_of claims.old) (jobs_of claims.new)) }
     ensures ready { IsReady scene.now (jobs_of claims.new) failed.new }
-    ensures clusters { AreClusters scene.now.moment (stock_in scene.now) (jobs_of claims.new) clusters.new }
-    ensures paid { OnOk result (ArePaid scene.now.moment (stock_in scene.now) (jobs_of claims.old) (jobs_of claims.new) failed.old failed.new (counts tops.old entry.old touch.old) (counts tops.new entry.new touch.new)) }
-    ensures within { AreWithin scene.now.moment (stock_in scene.now) (jobs_of claims.old) failed.old (counts tops.old entry.old touch.old) (counts tops.new entry.new touch.new) }
+    ensures clusters { AreClusters scene.now.moment (stock_in scene.now) (settings_in scene.now) (jobs_of claims.new) clusters.new }
+    ensures paid { OnOk result (ArePaid scene.now.moment (stock_in scene.now) (settings_in scene.now) (jobs_of claims.old) (jobs_of claims.new) failed.old failed.new (counts tops.old entry.old touch.old) (counts tops.new entry.new touch.new)) }
+    ensures within { AreWithin scene.now.moment (stock_in scene.now) (settings_in scene.now) (jobs_of claims.old) failed.old (counts tops.old entry.old touch.old) (counts tops.new entry.new touch.new) }
     ensures ratio { AreSmallAds (stock_in scene.now).ads → AreSmallJobs (jobs_of claims.old) → entry.new + 9216 * tops.old ≤ entry.old + 9216 * tops.new }
 {
     let free = free_count(scene.store, claims);
@@ -231,7 +231,7 @@ fn has_idle(scene: &Scene<'_>, claims: &ClaimTable, queue: &Queue) -> bool
 // The weights of the users of these queues.
 fn weights_of(scene: &Scene<'_>, queues: &[Queue], active: &[usize]) -> Result<Slices, OutOfMemory>
     requires { All (λ k. k < length queues.now) active.now }
-    ensures weights { IfOk result (λ weights. weights ≡ map (λ user. weight_of (priority_of user (settings_of scene.now.priorities.now))) (users_at queues.now active.now)) }
+    ensures weights { IfOk result (λ weights. weights ≡ map (λ user. weight_of (priority_of user (settings_in scene.now))) (users_at queues.now active.now)) }
     ensures least { IfOk result (All (λ w. 1 ≤ w)) }
     ensures most { IfOk result (All (λ w. w ≤ 10 ^ 12)) }
 {

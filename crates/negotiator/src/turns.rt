@@ -7,7 +7,7 @@ ghost use Rattle.negotiator.specs.Budget.{ArePaid, AreWithin, counts};
 ghost use Rattle.negotiator.specs.Clusters.{AreClusters};
 ghost use Rattle.negotiator.specs.Cycle.{has_offer, is_empty, is_of, offers_in, places, turn, turns};
 ghost use Rattle.negotiator.specs.Markets.{IsPart, offer_named, turn_named, with_offers};
-ghost use Rattle.negotiator.specs.Scenes.{IsReady, market_in, stock_in, users_at};
+ghost use Rattle.negotiator.specs.Scenes.{IsReady, market_in, settings_in, stock_in, users_at};
 
 use crate::search::{is_idle, try_job, wants};
 use crate::{Clusters, OfferedList, Queue, Scene, Turn, Turns};
@@ -32,7 +32,7 @@ pub(crate) fn run_turn<F: Ledger, E: Ledger, T: Ledger>(
 ) -> Result<OfferedList, OutOfMemory>
     requires own { queue.now.places ≡ filter (is_of (market_in scene.now (jobs_of claims.old)) queue.now.user) (places (market_in scene.now (jobs_of claims.old)).jobs) }
     requires ready { IsReady scene.now (jobs_of claims.old) failed.old }
-    requires clusters { AreClusters scene.now.moment (stock_in scene.now) (jobs_of claims.old) clusters.old }
+    requires clusters { AreClusters scene.now.moment (stock_in scene.now) (settings_in scene.now) (jobs_of claims.old) clusters.old }
     ensures offers { IfOk result (λ offers. offers ≡ map (offer_named (jobs_of claims.old))
         (turn (market_in scene.now (jobs_of claims.old)) queue.now.user (places (market_in scene.now (jobs_of claims.old)).jobs) slice false [])) }
     ensures table { OnOk result (jobs_of claims.new ≡ with_offers
@@ -40,9 +40,9 @@ pub(crate) fn run_turn<F: Ledger, E: Ledger, T: Ledger>(
     ensures part { OnErr result (IsPart
         (turn (market_in scene.now (jobs_of claims.old)) queue.now.user (places (market_in scene.now (jobs_of claims.old)).jobs) slice false []) (jobs_of claims.old) (jobs_of claims.new)) }
     ensures ready { IsReady scene.now (jobs_of claims.new) failed.new }
-    ensures clusters { AreClusters scene.now.moment (stock_in scene.now) (jobs_of claims.new) clusters.new }
-    ensures paid { OnOk result (ArePaid scene.now.moment (stock_in scene.now) (jobs_of claims.old) (jobs_of claims.new) failed.old failed.new (counts tops.old entry.old touch.old) (counts tops.new entry.new touch.new)) }
-    ensures within { AreWithin scene.now.moment (stock_in scene.now) (jobs_of claims.old) failed.old (counts tops.old entry.old touch.old) (counts tops.new entry.new touch.new) }
+    ensures clusters { AreClusters scene.now.moment (stock_in scene.now) (settings_in scene.now) (jobs_of claims.new) clusters.new }
+    ensures paid { OnOk result (ArePaid scene.now.moment (stock_in scene.now) (settings_in scene.now) (jobs_of claims.old) (jobs_of claims.new) failed.old failed.new (counts tops.old entry.old touch.old) (counts tops.new entry.new touch.new)) }
+    ensures within { AreWithin scene.now.moment (stock_in scene.now) (settings_in scene.now) (jobs_of claims.old) failed.old (counts tops.old entry.old touch.old) (counts tops.new entry.new touch.new) }
     ensures ratio { AreSmallAds (stock_in scene.now).ads → AreSmallJobs (jobs_of claims.old) → entry.new + 9216 * tops.old ≤ entry.old + 9216 * tops.new }
 {
     let mut offers = OfferedList::new(scene.alloc);
@@ -83,7 +83,7 @@ pub(crate) fn run_turns<F: Ledger, E: Ledger, T: Ledger>(
     requires active { All (λ k. k < length queues.now) active.now }
     requires slices { length slices.now ≡ length active.now }
     requires ready { IsReady scene.now (jobs_of claims.old) failed.old }
-    requires clusters { AreClusters scene.now.moment (stock_in scene.now) (jobs_of claims.old) clusters.old }
+    requires clusters { AreClusters scene.now.moment (stock_in scene.now) (settings_in scene.now) (jobs_of claims.old) clusters.old }
     ensures turns { IfOk result (λ list. list ≡ map (turn_named (jobs_of claims.old))
         (filter has_offer (turns (market_in scene.now (jobs_of claims.old)) (users_at queues.now active.now) slices.now []))) }
     ensures table { OnOk result (jobs_of claims.new ≡ with_offers
@@ -91,9 +91,9 @@ pub(crate) fn run_turns<F: Ledger, E: Ledger, T: Ledger>(
     ensures part { OnErr result (IsPart
         (offers_in (turns (market_in scene.now (jobs_of claims.old)) (users_at queues.now active.now) slices.now [])) (jobs_of claims.old) (jobs_of claims.new)) }
     ensures ready { IsReady scene.now (jobs_of claims.new) failed.new }
-    ensures clusters { AreClusters scene.now.moment (stock_in scene.now) (jobs_of claims.new) clusters.new }
-    ensures paid { OnOk result (ArePaid scene.now.moment (stock_in scene.now) (jobs_of claims.old) (jobs_of claims.new) failed.old failed.new (counts tops.old entry.old touch.old) (counts tops.new entry.new touch.new)) }
-    ensures within { AreWithin scene.now.moment (stock_in scene.now) (jobs_of claims.old) failed.old (counts tops.old entry.old touch.old) (counts tops.new entry.new touch.new) }
+    ensures clusters { AreClusters scene.now.moment (stock_in scene.now) (settings_in scene.now) (jobs_of claims.new) clusters.new }
+    ensures paid { OnOk result (ArePaid scene.now.moment (stock_in scene.now) (settings_in scene.now) (jobs_of claims.old) (jobs_of claims.new) failed.old failed.new (counts tops.old entry.old touch.old) (counts tops.new entry.new touch.new)) }
+    ensures within { AreWithin scene.now.moment (stock_in scene.now) (settings_in scene.now) (jobs_of claims.old) failed.old (counts tops.old entry.old touch.old) (counts tops.new entry.new touch.new) }
     ensures ratio { AreSmallAds (stock_in scene.now).ads → AreSmallJobs (jobs_of claims.old) → entry.new + 9216 * tops.old ≤ entry.old + 9216 * tops.new }
 {
     let mut turns = Turns::new(scene.alloc);

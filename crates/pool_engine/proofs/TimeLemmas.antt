@@ -13,6 +13,7 @@ use Rattle.ad_store.specs.Stock.{Advert, has, lack}
 use Rattle.std.specs.Option.{option_map_or}
 use Rattle.ad_store.specs.declared.answers.PutFault.{PutFault}
 use Rattle.gang_ports.specs.Ports.{ports_of}
+use Rattle.match_explain.specs.declared.report.Report.{Report}
 use Rattle.pool_io.specs.Flow.{Supply}
 use Rattle.pool_script.specs.Commands.{ended_commands}
 use Rattle.pool_script.specs.declared.command.Command.{Command}
@@ -31,9 +32,10 @@ use Rattle.pool_replies.specs.Replies.{reply_text}
 use Rattle.pool_engine.specs.Ends.{AnswersFirst, Effects, IsWriteFault, before_last}
 use Rattle.pool_engine.specs.Events.{events_of, replies_text, state_after}
 use Rattle.ad_printer.specs.Values.{printed_frame}
-use Rattle.negotiator.specs.Priorities.{lacks_place}
+use Rattle.claim_table.specs.Priorities.{Setting, lacks_place}
 use Rattle.pool_state.specs.Gangs.{gang, gang_names, line}
-use Rattle.pool_state.specs.Ports.{has_bad_ports}
+use Rattle.pool_state.specs.Explaining.{ad_names, explain, explain_job}
+use Rattle.pool_state.specs.Ports.{has_bad_ports, ports_in}
 use Rattle.pool_state.specs.Queue.{has_job, job_refusal, job_text}
 use Rattle.claim_table.specs.Jobs.{jobs_limit, text_limit}
 use Rattle.claim_table.specs.declared.answers.JobState.{JobState}
@@ -236,13 +238,13 @@ query_told : (s : State) (moment : ℕ) (ads : List Advert) (text : List ℕ) (o
 query_told s moment ads text (Ok x) has_outcome = hits_told s _
 query_told s moment ads text (Err fault) has_outcome = text_told s fault (told_fault fault has_outcome.1)
 
-gang_told : (s : State) (moment : ℕ) (ads : List Advert) (jobs : List QueuedJob) (text : List ℕ) (outcome : Result Inline ParseFault) → HasAdOutcome text outcome → IsTold (s, gang moment ads jobs outcome)
-gang_told s moment ads jobs text (Ok x) has_outcome = by (ports_of (ad_of x))
+gang_told : (s : State) (moment : ℕ) (ads : List Advert) (settings : List Setting) (jobs : List QueuedJob) (text : List ℕ) (outcome : Result Inline ParseFault) → HasAdOutcome text outcome → IsTold (s, gang moment ads settings jobs outcome)
+gang_told s moment ads settings jobs text (Ok x) has_outcome = by (ports_of (ad_of x))
   where
-    by : (listed : Option (List Port)) → IsTold (s, option_map_or (λ ports. line (gang_names moment ads jobs (ad_of x) ports)) listed (reply.Refused why.BadPorts))
+    by : (listed : Option (List Port)) → IsTold (s, option_map_or (λ ports. line (gang_names moment ads settings jobs (ad_of x) ports)) listed (reply.Refused why.BadPorts))
     by None = bad_ports_told s
-    by (Some ports) = names_told s (gang_names moment ads jobs (ad_of x) ports)
-gang_told s moment ads jobs text (Err fault) has_outcome = text_told s fault (told_fault fault has_outcome.1)
+    by (Some ports) = names_told s (gang_names moment ads settings jobs (ad_of x) ports)
+gang_told s moment ads settings jobs text (Err fault) has_outcome = text_told s fault (told_fault fault has_outcome.1)
 
 -- the refusal, where there is one, has a text
 abbrev IsRefusalTold : State → Option Refusal → Type 0
@@ -297,6 +299,25 @@ release_told s name = by (job_named name s.jobs)
     by None = unknown_told s
     by (Some job) = release_as_told s job job.standing
 
+gang_job_told : (s : State) → IsTold (refused s why.GangJob)
+unfolding reply_text refusal_text
+gang_job_told s = omega arith
+
+reasons_told : (s : State) (job : List ℕ) (names : List (List ℕ)) (report : Report) → IsTold (s, reply.Why job names report)
+unfolding reply_text
+reasons_told s job names report = front_some (codes "why ") _ (omega arith)
+
+explain_job_told : (s : State) (job : QueuedJob) (ports : List Port) → IsTold (s, explain_job s.moment s.ads job ports)
+explain_job_told s job [] = reasons_told s job.name (ad_names s.ads) _
+explain_job_told s job (port ∷ ports) = gang_job_told s
+
+explain_told : (s : State) (name : List ℕ) → IsTold (s, explain s.moment s.ads s.jobs name)
+explain_told s name = by (job_named name s.jobs)
+  where
+    by : (found : Option QueuedJob) → IsTold (s, option_map_or (λ job. explain_job s.moment s.ads job (ports_in job.ad)) found (reply.Refused why.UnknownName))
+    by None = unknown_told s
+    by (Some job) = explain_job_told s job (ports_in job.ad)
+
 pub step_told : (s : State) (c : Command) → IsTold (step s c)
 unfolding step
 step_told s (command.Clock n) = clock_told s n
@@ -310,10 +331,11 @@ step_told s (command.Query block) = query_told s s.moment s.ads block (ad_outcom
 step_told s (command.Submit job user block) = submit_told s job user block (length block) (ad_outcome block) (ad_outcome-has block)
 step_told s (command.Remove job) = remove_told s job
 step_told s (command.Priority user n) = set_priority_told s user n
-step_told s (command.Gang block) = gang_told s s.moment s.ads s.jobs block (ad_outcome block) (ad_outcome-has block)
+step_told s (command.Gang block) = gang_told s s.moment s.ads s.priorities s.jobs block (ad_outcome block) (ad_outcome-has block)
 step_told s command.Negotiate = cycle_told s _
 step_told s (command.Claim job) = claim_told s job
 step_told s (command.Release job) = release_told s job
+step_told s (command.Why job) = explain_told s job
 step_told s (command.Unlisten name) = unknown_told s
 step_told s (command.Bad number) = line_told s number
 
@@ -349,6 +371,7 @@ heard_told h c = by c refl
     by command.Negotiate is = same (ap is_unlisten is)
     by (command.Claim job) is = same (ap is_unlisten is)
     by (command.Release job) is = same (ap is_unlisten is)
+    by (command.Why job) is = same (ap is_unlisten is)
     by (command.Bad number) is = same (ap is_unlisten is)
 
 -- ---- a sink that took nothing

@@ -1,3 +1,4 @@
 pub mod Cycles
+pub mod Reasons
 pub mod Refusals
 pub mod Replies

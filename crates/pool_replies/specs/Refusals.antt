@@ -58,6 +58,7 @@ refusal_text (refusal.Full room) = room_text room
 refusal_text (refusal.WrongState state) = state_text state
 refusal_text (refusal.Stale name) = codes "refused 12 stale " ++ name ++ codes "\n"
 refusal_text refusal.BadPorts = codes "refused 13 bad ports\n"
+refusal_text refusal.GangJob = codes "refused 15 job is a gang\n"
 
 -- want of memory is no fault of a text
 abbrev pub is_fault_of_text : ParseFault → Bool

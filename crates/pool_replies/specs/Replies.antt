@@ -1,5 +1,5 @@
 -- The text of replies.
-use Rattle.std.specs.Prelude.{ℕ, Bool, true, false, List, ◌++◌, Option, None, Some, codes, decimal, length, sum_by, if◌then◌else◌}
+use Rattle.std.specs.Prelude.{ℕ, Bool, true, false, ◌==◌, List, ◌++◌, Option, None, Some, codes, decimal, length, sum_by, if◌then◌else◌}
 use Rattle.std.specs.Fmt.{signed_decimal}
 use Rattle.std.specs.List.{flat_map}
 use Rattle.pool_replies.specs.declared.reply.Reply.{Reply}
@@ -7,6 +7,7 @@ use Rattle.pool_replies.specs.declared.reply.Reply.TheVariants as reply
 use Rattle.pool_replies.specs.declared.rows.AdRow.{AdRow}
 use Rattle.pool_replies.specs.declared.rows.HitRow.{HitRow}
 use Rattle.pool_replies.specs.Cycles.{cycle_text, offers_of_spin, with_blanks}
+use Rattle.pool_replies.specs.Reasons.{why_text}
 use Rattle.pool_replies.specs.Refusals.{is_printable_refusal, refusal_text}
 
 -- `clock N expired K`
@@ -70,6 +71,7 @@ reply_text reply.NoGang = codes "gang none\n"
 reply_text (reply.Cycle spins) = cycle_text spins
 reply_text (reply.Claimed job names preempted) = claimed_text job names preempted
 reply_text (reply.Released job) = name_line (codes "released ") job
+reply_text (reply.Why job names report) = why_text job names report
 reply_text (reply.Unlistened name) = name_line (codes "unlistened ") name
 reply_text (reply.Refused refusal) = refusal_text refusal
 
@@ -92,7 +94,8 @@ unfoldable pub offer_count : Reply → ℕ
 offer_count (reply.Cycle spins) = sum_by offers_of_spin spins
 offer_count other = 0
 
--- a reply that has a text
+-- a reply that has a text: an explanation has as many names as verdicts
 unfoldable pub is_printable : Reply → Bool
 is_printable (reply.Refused refusal) = is_printable_refusal refusal
+is_printable (reply.Why job names report) = length names == length report.verdicts
 is_printable other = true

@@ -5,6 +5,7 @@ mod cycle;
 mod refusal;
 mod reply;
 mod rows;
+mod why;
 mod writing;
 
 pub use refusal::{Refusal, Room};

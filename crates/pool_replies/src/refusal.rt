@@ -39,6 +39,8 @@ pub enum Refusal {
     Stale(Text),
     /// The ports of a gang are no ports.
     BadPorts,
+    /// The job is a gang, which isn't explained.
+    GangJob,
 }
 
 /// Appends the line of a refusal.
@@ -57,6 +59,7 @@ pub(crate) fn append_refusal(out: &mut Text, refusal: &Refusal) -> Result<(), Ou
         Refusal::WrongState(state) => append_state(out, *state),
         Refusal::Stale(name) => append_name_line(out, b"refused 12 stale ", name.bytes()),
         Refusal::BadPorts => out.append(b"refused 13 bad ports\n"),
+        Refusal::GangJob => out.append(b"refused 15 job is a gang\n"),
     }
 }
 

@@ -5,11 +5,13 @@ ghost use Rattle.pool_replies.specs.Replies as texts;
 
 use crate::cycle::{append_cycle, offers_of_spins};
 use crate::refusal::append_refusal;
+use crate::why::append_why;
 use crate::writing::{
     append_amount, append_amount_line, append_line, append_name, append_name_line, append_names,
     append_names_line,
 };
 use crate::{AdRow, AdRows, HitRow, HitRows, Refusal, SpinRows};
+use match_explain::Report;
 use pool_text::{Names, OutOfMemory, Text, append_number};
 use std::alloc::Global;
 use std::convert::AsSlice;
@@ -59,6 +61,12 @@ pub enum Reply {
     },
     /// A job gave back what it claimed.
     Released(Text),
+    /// Why a job matches the ads that it matches, with the names of the ads in order.
+    Why {
+        job: Text,
+        names: Names,
+        report: Report,
+    },
     /// A mailbox was closed.
     Unlistened(Text),
     /// The command was refused.
@@ -99,7 +107,7 @@ pub fn offers(reply: &Reply) -> Option<u64>
     }
 }
 
-/// The lines of a reply, each with its line feed.
+/// The lines of a reply, each with its line feed. An explanation has as many names as verdicts.
 pub fn print_reply(alloc: Global, reply: &Reply) -> Result<Text, OutOfMemory>
     requires { IsTrue (texts.is_printable reply.now) }
     ensures { IfOk result (λ t. t ≡ texts.reply_text reply.now) }
@@ -135,6 +143,7 @@ fn append_reply(out: &mut Text, reply: &Reply) -> Result<(), OutOfMemory>
             preempted,
         } => append_claimed(out, job.bytes(), names, preempted),
         Reply::Released(job) => append_name_line(out, b"released ", job.bytes()),
+        Reply::Why { job, names, report } => append_why(out, job.bytes(), names, report),
         Reply::Unlistened(name) => append_name_line(out, b"unlistened ", name.bytes()),
         Reply::Refused(refusal) => append_refusal(out, refusal),
     }

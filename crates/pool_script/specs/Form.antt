@@ -45,5 +45,6 @@ is_within_form (command.Gang block) = is_block_text block
 is_within_form command.Negotiate = true
 is_within_form (command.Claim job) = is_name job
 is_within_form (command.Release job) = is_name job
+is_within_form (command.Why job) = is_name job
 is_within_form (command.Unlisten name) = is_name name
 is_within_form (command.Bad refusal) = is_within 1 5 refusal

@@ -89,6 +89,7 @@ name_command word.Show name = command.Show name
 name_command word.Remove name = command.Remove name
 name_command word.Claim name = command.Claim name
 name_command word.Release name = command.Release name
+name_command word.Why name = command.Why name
 name_command word.Unlisten name = command.Unlisten name
 name_command _ name = wrong_words
 
@@ -112,4 +113,5 @@ keyword_command word.Gang words block = gang words block
 keyword_command word.Negotiate words block = without_words words command.Negotiate
 keyword_command word.Claim words block = option_map_or command.Claim (sole_name words) wrong_words
 keyword_command word.Release words block = option_map_or command.Release (sole_name words) wrong_words
+keyword_command word.Why words block = option_map_or command.Why (sole_name words) wrong_words
 keyword_command word.Unlisten words block = option_map_or command.Unlisten (sole_name words) wrong_words

@@ -60,6 +60,8 @@ pub enum Command {
     Claim(Text),
     /// Gives back what a job claimed.
     Release(Text),
+    /// Says why a job matches the ads that it matches.
+    Why(Text),
     /// Closes a mailbox.
     Unlisten(Text),
     /// A command that isn't read: 1 where its line is too long, 2 where its first word is unknown, 3 where its other

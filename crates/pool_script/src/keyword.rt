@@ -20,6 +20,7 @@ pub(crate) enum Keyword {
     Negotiate,
     Claim,
     Release,
+    Why,
     Unlisten,
 }
 
@@ -35,7 +36,7 @@ impl Keyword {
     }
 }
 
-const KEYWORDS: [(&[u8], Keyword); 16] = [
+const KEYWORDS: [(&[u8], Keyword); 17] = [
     (b"clock", Keyword::Clock),
     (b"advertise", Keyword::Advertise),
     (b"withdraw", Keyword::Withdraw),
@@ -51,6 +52,7 @@ const KEYWORDS: [(&[u8], Keyword); 16] = [
     (b"negotiate", Keyword::Negotiate),
     (b"claim", Keyword::Claim),
     (b"release", Keyword::Release),
+    (b"why", Keyword::Why),
     (b"unlisten", Keyword::Unlisten),
 ];
 

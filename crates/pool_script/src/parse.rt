@@ -96,6 +96,7 @@ fn named_command(keyword: Keyword, name: Option<Text>) -> Command
         Keyword::Remove => Command::Remove(name),
         Keyword::Claim => Command::Claim(name),
         Keyword::Release => Command::Release(name),
+        Keyword::Why => Command::Why(name),
         Keyword::Unlisten => Command::Unlisten(name),
         _ => {
             drop(name);

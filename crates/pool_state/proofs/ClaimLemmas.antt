@@ -15,8 +15,8 @@ use Rattle.claim_table.specs.declared.answers.ClaimFault.{ClaimFault}
 use Rattle.claim_table.specs.declared.answers.Freed.{Freed}
 use Rattle.claim_table.specs.declared.answers.JobFault.{JobFault}
 use Rattle.claim_table.specs.declared.job.Job.{Job}
-use Rattle.claim_table.specs.declared.job.Standing.{Standing}
-use Rattle.negotiator.specs.Priorities.{Setting}
+use Rattle.claim_table.specs.declared.job.Stage.{Stage}
+use Rattle.claim_table.specs.Priorities.{Setting, priority_of}
 use Rattle.pool_replies.specs.declared.refusal.Refusal.TheVariants as why
 use Rattle.pool_replies.specs.declared.reply.Reply.{Reply}
 use Rattle.pool_replies.specs.declared.reply.Reply.TheVariants as reply
@@ -51,13 +51,13 @@ held-all slots [] all = refl
 held-all slots (job ∷ jobs) all =
     ap (λ b. b && are_stored slots jobs) (all-lists slots (slots_of job.standing) (All-head (ListsOf slots) job jobs all)) ∙ held-all slots jobs (All-tail (ListsOf slots) job jobs all)
 
-idle-stored : (slots : List ℕ) (i : ℕ) (jobs : List Job) → are_stored slots jobs ≡ true → are_stored slots (with_standing jobs i Standing.Idle) ≡ true
+idle-stored : (slots : List ℕ) (i : ℕ) (jobs : List Job) → are_stored slots jobs ≡ true → are_stored slots (with_standing jobs i Stage.Idle) ≡ true
 idle-stored slots i [] stored = refl
 idle-stored slots zero (x ∷ xs) stored = (both (is_stored slots x) (are_stored slots xs) stored).1
 idle-stored slots (suc i) (x ∷ xs) stored =
     let parts = both (is_stored slots x) (are_stored slots xs) stored in
-    ap (are_stored slots) (standing_next (slice_get xs i) x xs i Standing.Idle)
-    ∙ ap (λ b. b && are_stored slots (with_standing xs i Standing.Idle)) parts.0
+    ap (are_stored slots) (standing_next (slice_get xs i) x xs i Stage.Idle)
+    ∙ ap (λ b. b && are_stored slots (with_standing xs i Stage.Idle)) parts.0
     ∙ idle-stored slots i xs parts.1
 
 pub released-stored : (slots : List ℕ) (o : Option ℕ) (jobs : List Job) → are_stored slots jobs ≡ true → are_stored slots (idle_at o jobs) ≡ true
@@ -68,11 +68,11 @@ released-stored slots (Some i) jobs stored = idle-stored slots i jobs stored
 
 kept-idle : (P : Request → Type 0) (ks : List ℕ) (jobs : List Job) → All (RequestIs P) jobs → All (RequestIs P) (claims.all_idle jobs ks)
 kept-idle P [] jobs kept = kept
-kept-idle P (k ∷ ks) jobs kept = kept-idle P ks (idle_at (Some k) jobs) (kept-standing P k Standing.Idle jobs kept)
+kept-idle P (k ∷ ks) jobs kept = kept-idle P ks (idle_at (Some k) jobs) (kept-standing P k Stage.Idle jobs kept)
 
 pub kept-released : (P : Request → Type 0) (o : Option ℕ) (jobs : List Job) → All (RequestIs P) jobs → All (RequestIs P) (idle_at o jobs)
 kept-released P None jobs kept = kept
-kept-released P (Some i) jobs kept = kept-standing P i Standing.Idle jobs kept
+kept-released P (Some i) jobs kept = kept-standing P i Stage.Idle jobs kept
 
 -- ---- the job of a name
 
@@ -142,15 +142,15 @@ module _ (stock : Stock) (moment : ℕ) (settings : List Setting) where
 
       behind : map (queued stock) (claims.granted jobs i slots) ≡ seen.restood job.name (JobStanding.claimed (map (name_in stock) slots)) (seen.without_holders (map (name_in stock) slots) (map (queued stock) jobs))
       behind =
-          granted-seen stock job.name (Standing.Claimed slots) jobs (claims.losers jobs slots) i job apart at (itself job.name)
+          granted-seen stock job.name (Stage.Claimed slots) jobs (claims.losers jobs slots) i job apart at (itself job.name)
           ∙ ap (seen.restood job.name (JobStanding.claimed (map (name_in stock) slots))) (idle-seen stock beside slots listed jobs exclusive stored)
 
       checked-fits : (failing : Option ℕ) → IfSome failing (λ slot. lists stock.slots slot ≡ true)
           → ◌≡◌ {A = State × Reply} (seen.claim (state_of jobs) name) (seen.checked (state_of jobs) (queued stock job) (map (name_in stock) slots) (option_map (name_in stock) failing))
-          → Fits (option_map_or (λ slot. (Err (ClaimFault.Stale slot), with_standing jobs i Standing.Idle)) failing gained)
+          → Fits (option_map_or (λ slot. (Err (ClaimFault.Stale slot), with_standing jobs i Stage.Idle)) failing gained)
       checked-fits (Some slot) held is = (
         lists-contains stock.slots slot held,
-        is ∙ ap (λ (queue : List QueuedJob). pair queue) (sym (restood-seen stock job.name Standing.Idle jobs i job apart at (itself job.name))),
+        is ∙ ap (λ (queue : List QueuedJob). pair queue) (sym (restood-seen stock job.name Stage.Idle jobs i job apart at (itself job.name))),
       )
         where
           pair : List QueuedJob → State × Reply
@@ -164,36 +164,36 @@ module _ (stock : Stock) (moment : ℕ) (settings : List Setting) where
           told : List QueuedJob → List ℕ → List (List ℕ) → List (List ℕ) → State × Reply
           told queue n ns lost = (then_jobs queue, reply.Claimed n ns lost)
 
-    at-fits : (i : ℕ) (job : Job) (s : Standing) → slice_get jobs i ≡ Some (record job { standing = s }) → is_named name job ≡ true → IsOwned job → list_all (lists stock.slots) (slots_of s) ≡ true
+    at-fits : (i : ℕ) (job : Job) (s : Stage) → slice_get jobs i ≡ Some (record job { standing = s }) → is_named name job ≡ true → IsOwned job → list_all (lists stock.slots) (slots_of s) ≡ true
         → names_given name (map (queued stock) jobs) ≡ names_of (named_standing stock s)
         → ◌≡◌ {A = State × Reply} (seen.claim (state_of jobs) name) (seen.claim_as (state_of jobs) (queued stock (record job { standing = s })) (named_standing stock s))
-        → Fits (claims.claimed_at moment stock jobs i (record job { standing = s }))
-    at-fits i job Standing.Idle at named alone held given is = (refl, is)
-    at-fits i job (Standing.Claimed slots) at named alone held given is = (refl, is)
-    at-fits i job (Standing.Matched slots) at named alone held given is =
-        checked-fits i (record job { standing = Standing.Matched slots }) slots at named held given (claims.first_failing moment stock jobs job.request slots)
-        (failing-stored stock beside moment settings jobs stored owned (record job { standing = Standing.Matched slots }) alone slots held)
-        (is ∙ ap (seen.checked (state_of jobs) (queued stock (record job { standing = Standing.Matched slots })) (map (name_in stock) slots)) (failing-seen stock beside moment settings jobs stored owned (record job { standing = Standing.Matched slots }) alone slots held))
+        → Fits (claims.claimed_at moment stock settings jobs i (record job { standing = s }))
+    at-fits i job Stage.Idle at named alone held given is = (refl, is)
+    at-fits i job (Stage.Claimed slots) at named alone held given is = (refl, is)
+    at-fits i job (Stage.Matched slots) at named alone held given is =
+        checked-fits i (record job { standing = Stage.Matched slots }) slots at named held given (claims.first_failing moment stock settings jobs (priority_of job.user settings) job.request slots)
+        (failing-stored stock beside moment settings jobs stored owned (record job { standing = Stage.Matched slots }) alone slots held)
+        (is ∙ ap (seen.checked (state_of jobs) (queued stock (record job { standing = Stage.Matched slots })) (map (name_in stock) slots)) (failing-seen stock beside moment settings jobs stored owned (record job { standing = Stage.Matched slots }) alone slots held))
 
     given-one : (job : Job) → find (is_named name) jobs ≡ Some job → names_given name (map (queued stock) jobs) ≡ names_of (named_standing stock job.standing)
     given-one job found =
         ap (λ o. option_map_or (λ (q : QueuedJob). names_of q.standing) o []) (job-seen stock name jobs ∙ ap (option_map (queued stock)) found)
 
-    job-fits : (i : ℕ) (o : Option Job) → slice_get jobs i ≡ o → find (is_named name) jobs ≡ o → Fits (option_map_or (claims.claimed_at moment stock jobs i) o nobody)
+    job-fits : (i : ℕ) (o : Option Job) → slice_get jobs i ≡ o → find (is_named name) jobs ≡ o → Fits (option_map_or (claims.claimed_at moment stock settings jobs i) o nobody)
     job-fits i None at found = claim-found None found
     job-fits i (Some job) at found =
         let holds : IsOwned job × (is_stored stock.slots job ≡ true) = subst (λ (o : Option Job). IfSome o (λ j. IsOwned j × (is_stored stock.slots j ≡ true))) found (found-both stock.slots name jobs stored owned) in
         at-fits i job job.standing at (named-by name jobs job found) holds.0 holds.1 (given-one job found) (claim-found (Some job) found)
 
-    fits : Fits (claims.claimed moment stock name jobs)
+    fits : Fits (claims.claimed moment stock settings name jobs)
     fits = by (numbered name jobs) (found-first (is_named name) jobs)
       where
-        by : (o : Option ℕ) → option_and_then (λ i. slice_get jobs i) o ≡ find (is_named name) jobs → Fits (option_map_or (λ i. option_map_or (claims.claimed_at moment stock jobs i) (slice_get jobs i) nobody) o nobody)
+        by : (o : Option ℕ) → option_and_then (λ i. slice_get jobs i) o ≡ find (is_named name) jobs → Fits (option_map_or (λ i. option_map_or (claims.claimed_at moment stock settings jobs i) (slice_get jobs i) nobody) o nobody)
         by None found = claim-found None (sym found)
         by (Some i) found = job-fits i (slice_get jobs i) refl (sym found)
 
     -- after a claim, whatever it answers
-    pub claim-seen : (answer : Result (List Freed) ClaimFault) (new : List Job) → claims.IsClaimed answer jobs new (claims.claimed moment stock name jobs) → IsClaimAnswer stock (state_of jobs) name (state_of new) answer
+    pub claim-seen : (answer : Result (List Freed) ClaimFault) (new : List Job) → claims.IsClaimed answer jobs new (claims.claimed moment stock settings name jobs) → IsClaimAnswer stock (state_of jobs) name (state_of new) answer
     claim-seen (Ok freed) new same = subst Fits same fits
     claim-seen (Err ClaimFault.NoJob) new same = subst Fits same fits
     claim-seen (Err (ClaimFault.WrongState state)) new same = subst Fits same fits
@@ -202,34 +202,34 @@ module _ (stock : Stock) (moment : ℕ) (settings : List Setting) where
 
 -- ---- and after a claim
 
-module _ (P : Request → Type 0) (moment : ℕ) (stock : Stock) (name : List ℕ) (jobs : List Job) (kept : All (RequestIs P) jobs) where
+module _ (P : Request → Type 0) (moment : ℕ) (stock : Stock) (settings : List Setting) (name : List ℕ) (jobs : List Job) (kept : All (RequestIs P) jobs) where
   abbrev no_job : Answer
   no_job = (Err ClaimFault.NoJob, jobs)
 
-  checked-kept : (i : ℕ) (slots : List ℕ) (o : Option ℕ) → All (RequestIs P) (option_map_or {U = Answer} (λ slot. (Err (ClaimFault.Stale slot), with_standing jobs i Standing.Idle)) o (Ok (claims.freed_all jobs (claims.losers jobs slots)), claims.granted jobs i slots)).1
-  checked-kept i slots None = kept-standing P i (Standing.Claimed slots) (claims.all_idle jobs (claims.losers jobs slots)) (kept-idle P (claims.losers jobs slots) jobs kept)
-  checked-kept i slots (Some slot) = kept-standing P i Standing.Idle jobs kept
+  checked-kept : (i : ℕ) (slots : List ℕ) (o : Option ℕ) → All (RequestIs P) (option_map_or {U = Answer} (λ slot. (Err (ClaimFault.Stale slot), with_standing jobs i Stage.Idle)) o (Ok (claims.freed_all jobs (claims.losers jobs slots)), claims.granted jobs i slots)).1
+  checked-kept i slots None = kept-standing P i (Stage.Claimed slots) (claims.all_idle jobs (claims.losers jobs slots)) (kept-idle P (claims.losers jobs slots) jobs kept)
+  checked-kept i slots (Some slot) = kept-standing P i Stage.Idle jobs kept
 
-  at-kept : (i : ℕ) (job : Job) (s : Standing) → All (RequestIs P) (claims.claimed_at moment stock jobs i (record job { standing = s })).1
-  at-kept i job Standing.Idle = kept
-  at-kept i job (Standing.Claimed slots) = kept
-  at-kept i job (Standing.Matched slots) = checked-kept i slots (claims.first_failing moment stock jobs job.request slots)
+  at-kept : (i : ℕ) (job : Job) (s : Stage) → All (RequestIs P) (claims.claimed_at moment stock settings jobs i (record job { standing = s })).1
+  at-kept i job Stage.Idle = kept
+  at-kept i job (Stage.Claimed slots) = kept
+  at-kept i job (Stage.Matched slots) = checked-kept i slots (claims.first_failing moment stock settings jobs (priority_of job.user settings) job.request slots)
 
-  job-kept : (i : ℕ) (o : Option Job) → All (RequestIs P) (option_map_or {U = Answer} (claims.claimed_at moment stock jobs i) o no_job).1
+  job-kept : (i : ℕ) (o : Option Job) → All (RequestIs P) (option_map_or {U = Answer} (claims.claimed_at moment stock settings jobs i) o no_job).1
   job-kept i None = kept
   job-kept i (Some job) = at-kept i job job.standing
 
-  claimed-kept : All (RequestIs P) (claims.claimed moment stock name jobs).1
+  claimed-kept : All (RequestIs P) (claims.claimed moment stock settings name jobs).1
   claimed-kept = by (numbered name jobs)
     where
-      by : (o : Option ℕ) → All (RequestIs P) (option_map_or {U = Answer} (λ i. option_map_or (claims.claimed_at moment stock jobs i) (slice_get jobs i) no_job) o no_job).1
+      by : (o : Option ℕ) → All (RequestIs P) (option_map_or {U = Answer} (λ i. option_map_or (claims.claimed_at moment stock settings jobs i) (slice_get jobs i) no_job) o no_job).1
       by None = kept
       by (Some i) = job-kept i (slice_get jobs i)
 
-  after-kept : (answer : Result (List Freed) ClaimFault) (new : List Job) → claims.claimed moment stock name jobs ≡ (answer, new) → All (RequestIs P) new
+  after-kept : (answer : Result (List Freed) ClaimFault) (new : List Job) → claims.claimed moment stock settings name jobs ≡ (answer, new) → All (RequestIs P) new
   after-kept answer new same = subst (All (RequestIs P)) (ap (λ (x : Answer). x.1) same) claimed-kept
 
-  pub claim-kept : (answer : Result (List Freed) ClaimFault) (new : List Job) → claims.IsClaimed answer jobs new (claims.claimed moment stock name jobs) → All (RequestIs P) new
+  pub claim-kept : (answer : Result (List Freed) ClaimFault) (new : List Job) → claims.IsClaimed answer jobs new (claims.claimed moment stock settings name jobs) → All (RequestIs P) new
   claim-kept (Ok freed) new same = after-kept (Ok freed) new same
   claim-kept (Err ClaimFault.NoJob) new same = after-kept (Err ClaimFault.NoJob) new same
   claim-kept (Err (ClaimFault.WrongState state)) new same = after-kept (Err (ClaimFault.WrongState state)) new same
@@ -261,18 +261,18 @@ module _ (stock : Stock) (moment : ℕ) (settings : List Setting) (name : List �
         → ◌≡◌ {A = State × Reply} (seen.release (here jobs) name) (record (here jobs) { jobs = seen.restood job.name idle (map (queued stock) jobs) }, reply.Released job.name)
         → ◌≡◌ {A = State × Reply} (seen.release (here jobs) name) (here (idle_at (numbered name jobs) jobs), reply.Released name)
     freed-one job at named is =
-        is ∙ ap (λ (queue : List QueuedJob). told queue job.name) (sym (ap (λ o. map (queued stock) (idle_at o jobs)) number ∙ restood-seen stock job.name Standing.Idle jobs i job apart at (itself job.name)))
+        is ∙ ap (λ (queue : List QueuedJob). told queue job.name) (sym (ap (λ o. map (queued stock) (idle_at o jobs)) number ∙ restood-seen stock job.name Stage.Idle jobs i job apart at (itself job.name)))
         ∙ ap (told (map (queued stock) (idle_at (numbered name jobs) jobs))) (sym ((bytes_decides name job.name).0 named))
       where
         told : List QueuedJob → List ℕ → State × Reply
         told queue n = (record { moment = moment; ads = stock.ads; jobs = queue; priorities = settings }, reply.Released n)
 
-    at-free : (job : Job) (s : Standing) → slice_get jobs i ≡ Some (record job { standing = s }) → is_named name job ≡ true
+    at-free : (job : Job) (s : Stage) → slice_get jobs i ≡ Some (record job { standing = s }) → is_named name job ≡ true
         → ◌≡◌ {A = State × Reply} (seen.release (here jobs) name) (seen.release_as (here jobs) (queued stock (record job { standing = s })) (named_standing stock s))
         → IsFree (given_back s)
-    at-free job Standing.Idle at named is = (refl, is)
-    at-free job (Standing.Matched slots) at named is = freed-one (record job { standing = Standing.Matched slots }) at named is
-    at-free job (Standing.Claimed slots) at named is = freed-one (record job { standing = Standing.Claimed slots }) at named is
+    at-free job Stage.Idle at named is = (refl, is)
+    at-free job (Stage.Matched slots) at named is = freed-one (record job { standing = Stage.Matched slots }) at named is
+    at-free job (Stage.Claimed slots) at named is = freed-one (record job { standing = Stage.Claimed slots }) at named is
 
     job-free : (o : Option Job) → slice_get jobs i ≡ o → find (is_named name) jobs ≡ o → IsFree (option_map_or (λ job. given_back job.standing) o (Err JobFault.NoJob))
     job-free None at found = release-found None found

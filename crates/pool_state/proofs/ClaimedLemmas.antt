@@ -1,39 +1,29 @@
 -- One resource of an offer, by its slot and by its name: the world of its dock, and whether the job wins it.
-use Rattle.std.proofs.Common.{◌≡◌, ℕ, suc, All, Bool, true, ◌&&◌, List, map, take, Option, None, Some, option_map, refl, sym, ◌∙◌, ap}
-use Rattle.std.specs.Prelude.{int_lt}
+use Rattle.std.proofs.Common.{◌≡◌, ℕ, suc, All, Bool, true, ◌&&◌, List, map, take, sym, ◌∙◌, ap}
 use Rattle.std.specs.List.{list_all}
-use Rattle.std.specs.Option.{option_map_or}
 use Rattle.std.proofs.lemmas.List.{take-map}
 use Rattle.ad_tree.specs.Ad.{ad_frames}
 use Rattle.ad_tree.specs.Frames.{Frame}
 use Rattle.ad_tree.specs.declared.request.Port.{Port}
 use Rattle.ad_eval.specs.Dock.{is_docked}
 use Rattle.ad_store.specs.Stock.{Stock}
-use Rattle.bilateral_match.specs.Pool.{ad_in, holder_world, regard_in}
+use Rattle.bilateral_match.specs.Members.{is_yielded}
+use Rattle.bilateral_match.specs.Pool.{ad_in, regard_in}
 use Rattle.claim_table.specs.Claims as claims
-use Rattle.claim_table.specs.Holders.{holder_of}
 use Rattle.claim_table.specs.Jobs.{lists}
+use Rattle.claim_table.specs.Priorities.{Setting}
 use Rattle.claim_table.specs.declared.job.Job.{Job}
 use Rattle.eval_scope.specs.World.{PlainWorld}
 use Rattle.pool_state.specs.Claiming as seen
-use Rattle.pool_state.specs.Negotiation.{frames_named, held_world}
+use Rattle.pool_state.specs.Negotiation.{frames_named}
 use Rattle.pool_state.specs.Pool.{name_in, queued}
 use Rattle.pool_state.specs.Ports.{ports_in}
-use Rattle.pool_state.specs.Queue.{claimed_by}
 use Rattle.pool_state.specs.Stored.{are_stored}
 use Rattle.pool_state.proofs.DockLemmas.{frames-of-all, holder-same}
 use Rattle.pool_state.proofs.MatchedLemmas.{IsOwned}
 use Rattle.pool_state.proofs.NameLemmas.{AreBeside, Named, beside-is, name_there, named_beside}
 use Rattle.pool_state.proofs.QueueLemmas.{map-map}
 use Rattle.pool_state.proofs.SlotLemmas.{all-take}
-
--- what is made of a value in two steps
-mapped-or : {A B C : Type 0} (f : A → B) (g : B → C) (d : C) (o : Option A) → option_map_or (λ x. g (f x)) o d ≡ option_map_or g (option_map f o) d
-mapped-or f g d None = refl
-mapped-or f g d (Some x) = refl
-
-abbrev ranked_lower : PlainWorld → PlainWorld → Bool
-ranked_lower world held = int_lt (regard_in held) (regard_in world)
 
 module _ (stock : Stock) (beside : AreBeside stock.ads stock.slots) (moment : ℕ) where
   -- the world of the dock of the resource at a port
@@ -49,14 +39,12 @@ module _ (stock : Stock) (beside : AreBeside stock.ads stock.slots) (moment : �
       world : List Port → List (List Frame) → PlainWorld
       world ports docked = record { moment = moment; request = ad_frames job.request.ad; ports = ports; docked = docked }
 
-  module _ (jobs : List Job) (stored : are_stored stock.slots jobs ≡ true) (owned : All IsOwned jobs) where
+  module _ (settings : List Setting) (jobs : List Job) (number : ℕ) (stored : are_stored stock.slots jobs ≡ true) (owned : All IsOwned jobs) where
     won-seen : (slot : ℕ) → lists stock.slots slot ≡ true → (world : PlainWorld)
-        → seen.is_won moment stock.ads (map (queued stock) jobs) (name_in stock slot) world ≡ claims.is_won moment stock jobs slot world
+        → seen.is_won moment stock.ads settings (map (queued stock) jobs) number (name_in stock slot) world ≡ claims.is_won moment stock settings jobs number slot world
     won-seen slot listed world =
-        ap (λ name. seen.is_won moment stock.ads (map (queued stock) jobs) name world) called
-        ∙ mapped-or (held_world moment stock.ads there.advert.name) (ranked_lower world) true (claimed_by there.advert.name (map (queued stock) jobs))
-        ∙ ap (λ o. option_map_or (ranked_lower world) o true) (holder-same stock beside there.place there.advert slot there.at there.slot_at jobs stored moment owned)
-        ∙ sym (mapped-or (holder_world moment stock) (ranked_lower world) true (holder_of jobs slot))
+        ap (λ name. seen.is_won moment stock.ads settings (map (queued stock) jobs) number name world) called
+        ∙ ap (is_yielded number (regard_in world)) (holder-same stock beside there.place there.advert slot there.at there.slot_at jobs stored moment settings owned)
       where
         there : Named stock.ads stock.slots slot (named_beside stock.ads stock.slots slot)
         there = name_there stock.ads stock.slots slot beside.long listed
@@ -66,5 +54,5 @@ module _ (stock : Stock) (beside : AreBeside stock.ads stock.slots) (moment : �
 
     -- the resource passes by its name as it does by its slot
     pub passes-seen : (slot : ℕ) → lists stock.slots slot ≡ true → (world : PlainWorld)
-        → seen.passes moment stock.ads (map (queued stock) jobs) (name_in stock slot) world ≡ claims.passes moment stock jobs slot world
+        → seen.passes moment stock.ads settings (map (queued stock) jobs) number (name_in stock slot) world ≡ claims.passes moment stock settings jobs number slot world
     passes-seen slot listed world = ap (λ b. is_docked world && b) (won-seen slot listed world)

@@ -11,11 +11,12 @@ use Rattle.ad_tree.specs.declared.request.Port.{Port}
 use Rattle.ad_store.specs.Holdings.{Holding}
 use Rattle.ad_store.specs.Stock.{Advert, Stock, is_named}
 use Rattle.ad_store.proofs.HeldLemmas.{both}
-use Rattle.bilateral_match.specs.Pool.{AreStored, ad_in, holder_world}
+use Rattle.bilateral_match.specs.Pool.{AreStored, Hold, ad_in, hold_of, holder_world}
 use Rattle.claim_table.specs.declared.job.Job.{Job}
-use Rattle.claim_table.specs.declared.job.Standing.{Standing}
+use Rattle.claim_table.specs.declared.job.Stage.{Stage}
 use Rattle.claim_table.specs.Holders.{holder_of, holding_in}
 use Rattle.claim_table.specs.Jobs.{claim_of, claimed_by as claimer, lists, offer_of, offered_to as offeree, slots_of}
+use Rattle.claim_table.specs.Priorities.{Setting, priority_of}
 use Rattle.eval_scope.specs.World.{PlainWorld}
 use Rattle.negotiator.specs.Markets as market
 use Rattle.pool_state.specs.Negotiation as seen
@@ -50,10 +51,10 @@ position-any test (x ∷ xs) = ap is_some (position-cons test x xs) ∙ by (test
 
 -- ---- what jobs hold is in the store
 
-claim-held : (slots : List ℕ) (standing : Standing) → list_all (lists slots) (slots_of standing) ≡ true → list_all (lists slots) (claim_of standing) ≡ true
-claim-held slots Standing.Idle held = refl
-claim-held slots (Standing.Matched own) held = refl
-claim-held slots (Standing.Claimed own) held = held
+claim-held : (slots : List ℕ) (standing : Stage) → list_all (lists slots) (slots_of standing) ≡ true → list_all (lists slots) (claim_of standing) ≡ true
+claim-held slots Stage.Idle held = refl
+claim-held slots (Stage.Matched own) held = refl
+claim-held slots (Stage.Claimed own) held = held
 
 found-held : (slots : List ℕ) (test : Job → Bool) (jobs : List Job) (job : Job) → are_stored slots jobs ≡ true → find test jobs ≡ Some job → is_stored slots job ≡ true
 found-held slots test [] job stored found = absurd (never_found job found)
@@ -66,14 +67,14 @@ found-held slots test (x ∷ jobs) job stored found = by (test x) found (λ late
     by true is later = let same : x ≡ job = same_Some x job is in ap (is_stored slots) (sym same) ∙ parts.0
     by false is later = later is
 
-pub holders-stored : (stock : Stock) (jobs : List Job) → are_stored stock.slots jobs ≡ true → AreStored stock (holder_of jobs)
-holders-stored stock jobs stored = λ slot h is.
-    by slot h (find (λ job. lists (claim_of job.standing) slot) jobs) refl (sym (ap (option_map (holding_in slot)) (found-first (λ job. lists (claim_of job.standing) slot) jobs)) ∙ is)
+pub holders-stored : (stock : Stock) (settings : List Setting) (jobs : List Job) → are_stored stock.slots jobs ≡ true → AreStored stock (holder_of settings jobs)
+holders-stored stock settings jobs stored = λ slot h is.
+    by slot h (find (λ job. lists (claim_of job.standing) slot) jobs) refl (sym (ap (option_map (holding_in settings slot)) (found-first (λ job. lists (claim_of job.standing) slot) jobs)) ∙ is)
   where
-    by : (slot : ℕ) (h : Holding) (o : Option Job) → find (λ job. lists (claim_of job.standing) slot) jobs ≡ o → option_map (holding_in slot) o ≡ Some h → All (Contains stock.slots) h.slots
+    by : (slot : ℕ) (h : Holding) (o : Option Job) → find (λ job. lists (claim_of job.standing) slot) jobs ≡ o → option_map (holding_in settings slot) o ≡ Some h → All (Contains stock.slots) h.slots
     by slot h None found is = absurd (never_found h is)
     by slot h (Some job) found is =
-        let same : holding_in slot job ≡ h = same_Some (holding_in slot job) h is in
+        let same : holding_in settings slot job ≡ h = same_Some (holding_in settings slot job) h is in
         subst (λ (k : Holding). All (Contains stock.slots) k.slots) same
         (all-contained stock.slots (claim_of job.standing) (claim-held stock.slots job.standing (found-held stock.slots (λ j. lists (claim_of j.standing) slot) jobs job stored found)))
 
@@ -122,15 +123,15 @@ module _ (stock : Stock) (beside : AreBeside stock.ads stock.slots) where
         ap (λ b. cond (not b) (1 + position_or_len (bytes_eq advert.name) (map (name_in stock) slots)) 0) (one-named s parts.0)
         ∙ ap (λ n. cond (not (eqb s slot)) (1 + n) 0) (position-named slots parts.1)
 
-    offer-test : (standing : Standing) → list_all (lists stock.slots) (slots_of standing) ≡ true → is_listed advert.name (offer_names (named_standing stock standing)) ≡ lists (offer_of standing) slot
-    offer-test Standing.Idle held = refl
-    offer-test (Standing.Matched own) held = listed-named stock.ads stock.slots beside place advert slot at slot_is own held
-    offer-test (Standing.Claimed own) held = refl
+    offer-test : (standing : Stage) → list_all (lists stock.slots) (slots_of standing) ≡ true → is_listed advert.name (offer_names (named_standing stock standing)) ≡ lists (offer_of standing) slot
+    offer-test Stage.Idle held = refl
+    offer-test (Stage.Matched own) held = listed-named stock.ads stock.slots beside place advert slot at slot_is own held
+    offer-test (Stage.Claimed own) held = refl
 
-    claim-test : (standing : Standing) → list_all (lists stock.slots) (slots_of standing) ≡ true → is_listed advert.name (claim_names (named_standing stock standing)) ≡ lists (claim_of standing) slot
-    claim-test Standing.Idle held = refl
-    claim-test (Standing.Matched own) held = refl
-    claim-test (Standing.Claimed own) held = listed-named stock.ads stock.slots beside place advert slot at slot_is own held
+    claim-test : (standing : Stage) → list_all (lists stock.slots) (slots_of standing) ≡ true → is_listed advert.name (claim_names (named_standing stock standing)) ≡ lists (claim_of standing) slot
+    claim-test Stage.Idle held = refl
+    claim-test (Stage.Matched own) held = refl
+    claim-test (Stage.Claimed own) held = listed-named stock.ads stock.slots beside place advert slot at slot_is own held
 
     found-seen : (test : Job → Bool) (passes : QueuedJob → Bool) (jobs : List Job) → are_stored stock.slots jobs ≡ true → ((job : Job) → is_stored stock.slots job ≡ true → passes (queued stock job) ≡ test job) → find passes (map (queued stock) jobs) ≡ option_map (queued stock) (find test jobs)
     found-seen test passes [] stored same = refl
@@ -158,31 +159,31 @@ module _ (stock : Stock) (beside : AreBeside stock.ads stock.slots) where
         ∙ map-map (seen.frames_named stock.ads) (name_in stock) (take ahead slots)
         ∙ frames-of-all (take ahead slots) (all-take (lists stock.slots) ahead slots all)
 
-    docked-claim : (standing : Standing) → list_all (lists stock.slots) (slots_of standing) ≡ true
+    docked-claim : (standing : Stage) → list_all (lists stock.slots) (slots_of standing) ≡ true
         → map (seen.frames_named stock.ads) (seen.up_to advert.name (claim_names (named_standing stock standing))) ≡ map (ad_in stock) (take (suc (position_or_len (λ s. eqb s slot) (claim_of standing))) (claim_of standing))
-    docked-claim Standing.Idle all = refl
-    docked-claim (Standing.Matched own) all = refl
-    docked-claim (Standing.Claimed own) all = docked-same own all
+    docked-claim Stage.Idle all = refl
+    docked-claim (Stage.Matched own) all = refl
+    docked-claim (Stage.Claimed own) all = docked-same own all
 
-    held-same : (moment : ℕ) (job : Job) → is_stored stock.slots job ≡ true → IsOwned job → seen.held_world moment stock.ads advert.name (queued stock job) ≡ holder_world moment stock (holding_in slot job)
-    held-same moment job stored owned =
+    held-same : (moment : ℕ) (settings : List Setting) (job : Job) → is_stored stock.slots job ≡ true → IsOwned job → seen.held_world moment stock.ads advert.name (queued stock job) ≡ holder_world moment stock (holding_in settings slot job)
+    held-same moment settings job stored owned =
         ap (λ docked. world (ports_in (ad_frames job.request.ad)) docked) (docked-claim job.standing stored)
         ∙ ap (λ ports. world ports (map (ad_in stock) (take (suc (position_or_len (λ s. eqb s slot) (claim_of job.standing))) (claim_of job.standing)))) (sym owned)
       where
         world : List Port → List (List Frame) → PlainWorld
         world ports docked = record { moment = moment; request = ad_frames job.request.ad; ports = ports; docked = docked }
 
-    worlds-same : (moment : ℕ) (test : Job → Bool) (jobs : List Job) → are_stored stock.slots jobs ≡ true → All IsOwned jobs
-        → option_map (seen.held_world moment stock.ads advert.name) (option_map (queued stock) (find test jobs)) ≡ option_map (holder_world moment stock) (option_map (holding_in slot) (find test jobs))
-    worlds-same moment test [] stored owned = refl
-    worlds-same moment test (job ∷ jobs) stored owned = by (test job) (worlds-same moment test jobs parts.1 (All-tail IsOwned job jobs owned))
+    holds-same : (moment : ℕ) (settings : List Setting) (test : Job → Bool) (jobs : List Job) → are_stored stock.slots jobs ≡ true → All IsOwned jobs
+        → option_map (seen.held_by moment stock.ads settings advert.name) (option_map (queued stock) (find test jobs)) ≡ option_map (hold_of moment stock) (option_map (holding_in settings slot) (find test jobs))
+    holds-same moment settings test [] stored owned = refl
+    holds-same moment settings test (job ∷ jobs) stored owned = by (test job) (holds-same moment settings test jobs parts.1 (All-tail IsOwned job jobs owned))
       where
         parts : (is_stored stock.slots job ≡ true) × (are_stored stock.slots jobs ≡ true)
         parts = both (is_stored stock.slots job) (are_stored stock.slots jobs) stored
 
-        by : (b : Bool) → option_map (seen.held_world moment stock.ads advert.name) (option_map (queued stock) (find test jobs)) ≡ option_map (holder_world moment stock) (option_map (holding_in slot) (find test jobs))
-            → option_map (seen.held_world moment stock.ads advert.name) (option_map (queued stock) (cond b (Some job) (find test jobs))) ≡ option_map (holder_world moment stock) (option_map (holding_in slot) (cond b (Some job) (find test jobs)))
-        by true rest = ap (λ (w : PlainWorld). Some w) (held-same moment job parts.0 (All-head IsOwned job jobs owned))
+        by : (b : Bool) → option_map (seen.held_by moment stock.ads settings advert.name) (option_map (queued stock) (find test jobs)) ≡ option_map (hold_of moment stock) (option_map (holding_in settings slot) (find test jobs))
+            → option_map (seen.held_by moment stock.ads settings advert.name) (option_map (queued stock) (cond b (Some job) (find test jobs))) ≡ option_map (hold_of moment stock) (option_map (holding_in settings slot) (cond b (Some job) (find test jobs)))
+        by true rest = ap (λ (w : PlainWorld). let hold : Hold = record { world = w; number = priority_of job.user settings } in Some hold) (held-same moment settings job parts.0 (All-head IsOwned job jobs owned))
         by false rest = rest
 
     -- ---- as both see it
@@ -210,9 +211,9 @@ module _ (stock : Stock) (beside : AreBeside stock.ads stock.slots) where
           ap (λ b. b && is_none (claimed_by advert.name (map (queued stock) jobs))) (none-some (offered_to advert.name (map (queued stock) jobs)) ∙ ap not offered-same ∙ sym (none-some (offeree slot jobs)))
           ∙ ap (λ b. is_none (offeree slot jobs) && b) (none-some (claimed_by advert.name (map (queued stock) jobs)) ∙ ap not claimed-same ∙ sym (none-some (claimer slot jobs)))
 
-      pub holder-same : (moment : ℕ) → All IsOwned jobs
-          → option_map (seen.held_world moment stock.ads advert.name) (claimed_by advert.name (map (queued stock) jobs)) ≡ option_map (holder_world moment stock) (holder_of jobs slot)
-      holder-same moment owned =
-          ap (option_map (seen.held_world moment stock.ads advert.name)) claimed-found
-          ∙ worlds-same moment claims_it jobs stored owned
-          ∙ sym (ap (λ o. option_map (holder_world moment stock) (option_map (holding_in slot) o)) (found-first claims_it jobs))
+      pub holder-same : (moment : ℕ) (settings : List Setting) → All IsOwned jobs
+          → option_map (seen.held_by moment stock.ads settings advert.name) (claimed_by advert.name (map (queued stock) jobs)) ≡ option_map (hold_of moment stock) (holder_of settings jobs slot)
+      holder-same moment settings owned =
+          ap (option_map (seen.held_by moment stock.ads settings advert.name)) claimed-found
+          ∙ holds-same moment settings claims_it jobs stored owned
+          ∙ sym (ap (λ o. option_map (hold_of moment stock) (option_map (holding_in settings slot) o)) (found-first claims_it jobs))

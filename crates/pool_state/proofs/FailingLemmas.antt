@@ -10,8 +10,8 @@ use Rattle.bilateral_match.specs.Docks.{is_last_decided}
 use Rattle.claim_table.specs.Claims as claims
 use Rattle.claim_table.specs.Jobs.{is_named, lists, offer_of, slots_of}
 use Rattle.claim_table.specs.declared.job.Job.{Job}
-use Rattle.claim_table.specs.declared.job.Standing.{Standing}
-use Rattle.negotiator.specs.Priorities.{Setting}
+use Rattle.claim_table.specs.declared.job.Stage.{Stage}
+use Rattle.claim_table.specs.Priorities.{Setting, priority_of}
 use Rattle.pool_state.specs.Claiming as seen
 use Rattle.pool_state.specs.Pool.{name_in, named_standing, queued}
 use Rattle.pool_state.specs.Queue.{is_job, offer_names}
@@ -84,15 +84,15 @@ found-both slots name (job ∷ jobs) stored owned = by (is_named name job) (foun
     by true rest = (All-head IsOwned job jobs owned, parts.0)
     by false rest = rest
 
-pub offer-names : (stock : Stock) (standing : Standing) → offer_names (named_standing stock standing) ≡ map (name_in stock) (offer_of standing)
-offer-names stock Standing.Idle = refl
-offer-names stock (Standing.Matched slots) = refl
-offer-names stock (Standing.Claimed slots) = refl
+pub offer-names : (stock : Stock) (standing : Stage) → offer_names (named_standing stock standing) ≡ map (name_in stock) (offer_of standing)
+offer-names stock Stage.Idle = refl
+offer-names stock (Stage.Matched slots) = refl
+offer-names stock (Stage.Claimed slots) = refl
 
-pub offer-held : (slots : List ℕ) (standing : Standing) → list_all (lists slots) (slots_of standing) ≡ true → list_all (lists slots) (offer_of standing) ≡ true
-offer-held slots Standing.Idle held = refl
-offer-held slots (Standing.Matched own) held = held
-offer-held slots (Standing.Claimed own) held = refl
+pub offer-held : (slots : List ℕ) (standing : Stage) → list_all (lists slots) (slots_of standing) ≡ true → list_all (lists slots) (offer_of standing) ≡ true
+offer-held slots Stage.Idle held = refl
+offer-held slots (Stage.Matched own) held = held
+offer-held slots (Stage.Claimed own) held = refl
 
 -- ---- an offer
 
@@ -104,29 +104,33 @@ module _ (stock : Stock) (beside : AreBeside stock.ads stock.slots) (moment : �
     abbrev names : List (List ℕ)
     names = map (name_in stock) slots
 
+    -- of the job's user
+    abbrev number : ℕ
+    number = priority_of job.user settings
+
     abbrev fails_named : ℕ → Bool
-    fails_named port = not (seen.passes moment stock.ads (map (queued stock) jobs) (seen.name_at names port) (seen.world_at moment stock.ads (queued stock job) names port))
+    fails_named port = not (seen.passes moment stock.ads settings (map (queued stock) jobs) number (seen.name_at names port) (seen.world_at moment stock.ads (queued stock job) names port))
 
     abbrev fails_slots : ℕ → Bool
-    fails_slots port = not (claims.passes moment stock jobs (slice_index slots port) (claims.world_at moment stock job.request slots port))
+    fails_slots port = not (claims.passes moment stock settings jobs number (slice_index slots port) (claims.world_at moment stock job.request slots port))
 
     each : (port : ℕ) → port < length slots → (fails_named port ≡ fails_slots port) × (seen.name_at names port ≡ name_in stock (slice_index slots port))
     each port within =
         let name = name-at (name_in stock) slots port within in (
-          ap (λ n. not (seen.passes moment stock.ads (map (queued stock) jobs) n (seen.world_at moment stock.ads (queued stock job) names port))) name
-              ∙ ap (λ w. not (seen.passes moment stock.ads (map (queued stock) jobs) (name_in stock (slice_index slots port)) w)) (world-seen stock beside moment job alone slots listed port)
-              ∙ ap not (passes-seen stock beside moment jobs stored owned (slice_index slots port) (slot-at (lists stock.slots) slots port listed within) (claims.world_at moment stock job.request slots port)),
+          ap (λ n. not (seen.passes moment stock.ads settings (map (queued stock) jobs) number n (seen.world_at moment stock.ads (queued stock job) names port))) name
+              ∙ ap (λ w. not (seen.passes moment stock.ads settings (map (queued stock) jobs) number (name_in stock (slice_index slots port)) w)) (world-seen stock beside moment job alone slots listed port)
+              ∙ ap not (passes-seen stock beside moment settings jobs number stored owned (slice_index slots port) (slot-at (lists stock.slots) slots port listed within) (claims.world_at moment stock job.request slots port)),
           name,
         )
 
     -- the first that fails
-    pub failing-seen : seen.first_failing state (queued stock job) (map (name_in stock) slots) ≡ option_map (name_in stock) (claims.first_failing moment stock jobs job.request slots)
+    pub failing-seen : seen.first_failing state (queued stock job) (map (name_in stock) slots) ≡ option_map (name_in stock) (claims.first_failing moment stock settings jobs number job.request slots)
     failing-seen =
         ap (λ n. option_map (seen.name_at names) (find fails_named (range_with_len 0 n))) (length-names (name_in stock) slots)
         ∙ found-alike fails_named fails_slots (seen.name_at names) (slice_index slots) (name_in stock) 0 (length slots) (length slots) (omega arith) each
 
     -- is in the store
-    pub failing-stored : IfSome (claims.first_failing moment stock jobs job.request slots) (λ slot. lists stock.slots slot ≡ true)
+    pub failing-stored : IfSome (claims.first_failing moment stock settings jobs number job.request slots) (λ slot. lists stock.slots slot ≡ true)
     failing-stored =
         found-holds fails_slots (slice_index slots) (λ slot. lists stock.slots slot ≡ true) 0 (length slots) (length slots) (omega arith)
         (λ port within. slot-at (lists stock.slots) slots port listed within)

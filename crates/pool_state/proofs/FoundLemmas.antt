@@ -13,6 +13,7 @@ use Rattle.bilateral_match.specs.declared.member.Member.{Member}
 use Rattle.bilateral_match.specs.Members.{as_member, best, earlier, first_of, is_member, member_order, members_from}
 use Rattle.bilateral_match.specs.Pool.{Pool, slot_at}
 use Rattle.claim_table.specs.declared.job.Job.{Job}
+use Rattle.claim_table.specs.Priorities.{Setting, priority_of}
 use Rattle.claim_table.proofs.HolderLemmas.{All-found}
 use Rattle.negotiator.specs.Markets as market
 use Rattle.pool_state.specs.Negotiation as seen
@@ -38,32 +39,34 @@ first-all P (m ∷ ms) all = by (first_of ms) (first-all P ms (All-tail P m ms a
     by None holds = All-head P m ms all
     by (Some other) holds = choose other (is_lt (member_order other m)) holds
 
-members-within : (pool : Pool) (request : List Frame) (n k : ℕ) (ads : List Advert) → k + length ads ≤ n → All (λ (m : Member). m.place < n) (members_from pool request k ads)
-members-within pool request n k [] fits = All-nil (λ (m : Member). m.place < n)
-members-within pool request n k (a ∷ ads) fits = by (is_member pool request k a) (members-within pool request n (suc k) ads (omega (arith, fits)))
+members-within : (pool : Pool) (request : List Frame) (number n k : ℕ) (ads : List Advert) → k + length ads ≤ n → All (λ (m : Member). m.place < n) (members_from pool request number k ads)
+members-within pool request number n k [] fits = All-nil (λ (m : Member). m.place < n)
+members-within pool request number n k (a ∷ ads) fits = by (is_member pool request number k a) (members-within pool request number n (suc k) ads (omega (arith, fits)))
   where
-    by : (b : Bool) → All (λ (m : Member). m.place < n) (members_from pool request (suc k) ads) → All (λ (m : Member). m.place < n) (cons_option (if b then Some (as_member pool request k a) else None) (members_from pool request (suc k) ads))
-    by true rest = All-cons (λ (m : Member). m.place < n) (as_member pool request k a) (members_from pool request (suc k) ads) (omega (arith, fits)) rest
+    by : (b : Bool) → All (λ (m : Member). m.place < n) (members_from pool request number (suc k) ads)
+        → All (λ (m : Member). m.place < n) (cons_option (if b then Some (as_member pool request k a) else None) (members_from pool request number (suc k) ads))
+    by true rest = All-cons (λ (m : Member). m.place < n) (as_member pool request k a) (members_from pool request number (suc k) ads) (omega (arith, fits)) rest
     by false rest = rest
 
-best-within : (pool : Pool) (request : List Frame) → IfSome (best pool request) (λ m. m.place < length pool.ads)
-best-within pool request = first-all (λ (m : Member). m.place < length pool.ads) (members_from pool request 0 pool.ads) (members-within pool request (length pool.ads) 0 pool.ads (omega arith))
+best-within : (pool : Pool) (request : List Frame) (number : ℕ) → IfSome (best pool request number) (λ m. m.place < length pool.ads)
+best-within pool request number =
+    first-all (λ (m : Member). m.place < length pool.ads) (members_from pool request number 0 pool.ads) (members-within pool request number (length pool.ads) 0 pool.ads (omega arith))
 
 -- ---- what jobs find
 
-module _ (stock : Stock) (beside : AreBeside stock.ads stock.slots) (moment : ℕ) (jobs : List Job) (stored : are_stored stock.slots jobs ≡ true) (owned : All IsOwned jobs) where
+module _ (stock : Stock) (beside : AreBeside stock.ads stock.slots) (moment : ℕ) (settings : List Setting) (jobs : List Job) (stored : are_stored stock.slots jobs ≡ true) (owned : All IsOwned jobs) where
   abbrev pool_seen : Pool
-  pool_seen = seen.pool_in moment stock.ads (map (queued stock) jobs)
+  pool_seen = seen.pool_in moment stock.ads settings (map (queued stock) jobs)
 
   abbrev pool_here : Pool
-  pool_here = market.pool_for moment stock jobs
+  pool_here = market.pool_for moment stock settings jobs
 
   abbrev names_at : ℕ → List ℕ
   names_at place = seen.name_at stock.ads place
 
-  best-named : (request : List Frame) → option_map (map names_at) (option_map (λ (m : Member). m.place ∷ []) (best pool_here request))
-      ≡ option_map (map (name_in stock)) (option_map (λ slot. slot ∷ []) (option_map (λ (m : Member). slot_at stock m.place) (best pool_here request)))
-  best-named request = by (best pool_here request) (best-within pool_here request)
+  best-named : (number : ℕ) (request : List Frame) → option_map (map names_at) (option_map (λ (m : Member). m.place ∷ []) (best pool_here request number))
+      ≡ option_map (map (name_in stock)) (option_map (λ slot. slot ∷ []) (option_map (λ (m : Member). slot_at stock m.place) (best pool_here request number)))
+  best-named number request = by (best pool_here request number) (best-within pool_here request number)
     where
       by : (o : Option Member) → IfSome o (λ m. m.place < length stock.ads) → option_map (map names_at) (option_map (λ (m : Member). m.place ∷ []) o)
           ≡ option_map (map (name_in stock)) (option_map (λ slot. slot ∷ []) (option_map (λ (m : Member). slot_at stock m.place) o))
@@ -71,10 +74,10 @@ module _ (stock : Stock) (beside : AreBeside stock.ads stock.slots) (moment : �
       by (Some m) within = ap (λ (n : List ℕ). Some (n ∷ [])) (name-of stock beside m.place within)
 
   -- what a request with these ports finds
-  found-with : (request : List Frame) (ports : List Port) → option_map (map names_at) (seen.places_for pool_seen request ports) ≡ option_map (map (name_in stock)) (market.found_by stock pool_here request ports)
-  found-with request [] =
-      ap (λ o. option_map (map names_at) (option_map (λ (m : Member). m.place ∷ []) o)) (best-seen stock beside moment jobs stored owned request) ∙ best-named request
-  found-with request (port ∷ ports) = gang-names stock beside moment jobs stored owned request (port ∷ ports)
+  found-with : (number : ℕ) (request : List Frame) (ports : List Port) → option_map (map names_at) (seen.places_for pool_seen number request ports) ≡ option_map (map (name_in stock)) (market.found_by stock pool_here number request ports)
+  found-with number request [] =
+      ap (λ o. option_map (map names_at) (option_map (λ (m : Member). m.place ∷ []) o)) (best-seen stock beside moment settings jobs stored owned number request) ∙ best-named number request
+  found-with number request (port ∷ ports) = gang-names stock beside moment settings jobs stored owned request (port ∷ ports)
 
   owned-at : (i : ℕ) → IfSome (slice_get jobs i) IsOwned
   owned-at i = by (slice_get jobs i) refl
@@ -84,14 +87,14 @@ module _ (stock : Stock) (beside : AreBeside stock.ads stock.slots) (moment : �
       by (Some job) at = All-found IsOwned jobs i job owned at
 
   abbrev seen_for : QueuedJob → Option (List (List ℕ))
-  seen_for job = option_map (map names_at) (seen.places_for pool_seen job.ad (ports_in job.ad))
+  seen_for job = option_map (map names_at) (seen.places_for pool_seen (priority_of job.user settings) job.ad (ports_in job.ad))
 
-  pub find-seen : (i : ℕ) → seen.found moment stock.ads (map (queued stock) jobs) i ≡ option_map (map (name_in stock)) (market.found moment stock jobs i)
+  pub find-seen : (i : ℕ) → seen.found moment stock.ads settings (map (queued stock) jobs) i ≡ option_map (map (name_in stock)) (market.found moment stock settings jobs i)
   find-seen i = ap (option_and_then seen_for) (slice_get-map (queued stock) jobs i) ∙ by (slice_get jobs i) (owned-at i)
     where
       by : (o : Option Job) → IfSome o IsOwned → option_and_then seen_for (option_map (queued stock) o)
-          ≡ option_map (map (name_in stock)) (option_and_then (λ (job : Job). market.found_for moment stock jobs job.request) o)
+          ≡ option_map (map (name_in stock)) (option_and_then (λ (job : Job). market.found_for moment stock settings jobs (priority_of job.user settings) job.request) o)
       by None own = refl
       by (Some job) own =
-          ap (λ ports. option_map (map names_at) (seen.places_for pool_seen (ad_frames job.request.ad) ports)) (sym own)
-          ∙ found-with (ad_frames job.request.ad) job.request.ports
+          ap (λ ports. option_map (map names_at) (seen.places_for pool_seen (priority_of job.user settings) (ad_frames job.request.ad) ports)) (sym own)
+          ∙ found-with (priority_of job.user settings) (ad_frames job.request.ad) job.request.ports

@@ -6,7 +6,7 @@ use Rattle.ad_store.specs.Stock.{Stock}
 use Rattle.claim_table.specs.Claims as claims
 use Rattle.claim_table.specs.Jobs.{AreNamedApart, idle_at, is_named, numbered, with_standing}
 use Rattle.claim_table.specs.declared.job.Job.{Job}
-use Rattle.claim_table.specs.declared.job.Standing.{Standing}
+use Rattle.claim_table.specs.declared.job.Stage.{Stage}
 use Rattle.claim_table.proofs.ListLemmas.{map-set_same, position-map}
 use Rattle.pool_state.specs.Claiming as seen
 use Rattle.pool_state.specs.Pool.{named_standing, queued}
@@ -26,7 +26,7 @@ none_restood stock name standing (x ∷ xs) none =
     ap (λ b. cond b (record (queued stock x) { standing = standing }) (queued stock x) ∷ map (queued stock) xs) (sym (none 0 x refl))
     ∙ ap (λ l. cond (is_named name x) (record (queued stock x) { standing = standing }) (queued stock x) ∷ l) (none_restood stock name standing xs (λ j b at. none (suc j) b at))
 
-restood_where : (stock : Stock) (name : List ℕ) (standing : Standing) (jobs : List Job) (i : ℕ) (job : Job) → slice_get jobs i ≡ Some job → is_named name job ≡ true → AtMostOne (is_named name) jobs
+restood_where : (stock : Stock) (name : List ℕ) (standing : Stage) (jobs : List Job) (i : ℕ) (job : Job) → slice_get jobs i ≡ Some job → is_named name job ≡ true → AtMostOne (is_named name) jobs
     → map (queued stock) (with_standing jobs i standing) ≡ seen.restood name (named_standing stock standing) (map (queued stock) jobs)
 restood_where stock name standing [] i job at named once = absurd (none-some job at)
 restood_where stock name standing (x ∷ xs) zero job at named once =
@@ -43,7 +43,7 @@ restood_where stock name standing (x ∷ xs) (suc i) job at named once =
     other true is = never_next i (once 0 (suc i) x job refl at is named)
     other false is = refl
 
-pub restood-seen : (stock : Stock) (name : List ℕ) (standing : Standing) (jobs : List Job) (i : ℕ) (job : Job) → AreNamedApart jobs → slice_get jobs i ≡ Some job → is_named name job ≡ true
+pub restood-seen : (stock : Stock) (name : List ℕ) (standing : Stage) (jobs : List Job) (i : ℕ) (job : Job) → AreNamedApart jobs → slice_get jobs i ≡ Some job → is_named name job ≡ true
     → map (queued stock) (with_standing jobs i standing) ≡ seen.restood name (named_standing stock standing) (map (queued stock) jobs)
 restood-seen stock name standing jobs i job apart at named = restood_where stock name standing jobs i job at named (named_once name jobs apart)
 
@@ -52,7 +52,7 @@ restood-seen stock name standing jobs i job apart at named = restood_where stock
 abbrev names : List Job → List (List ℕ)
 names jobs = map (λ (job : Job). job.name) jobs
 
-names-standing : (jobs : List Job) (i : ℕ) (standing : Standing) → names (with_standing jobs i standing) ≡ names jobs
+names-standing : (jobs : List Job) (i : ℕ) (standing : Stage) → names (with_standing jobs i standing) ≡ names jobs
 names-standing jobs i standing = by (slice_get jobs i) refl
   where
     by : (o : Option Job) → slice_get jobs i ≡ o → names (option_map_or (λ job. slice_set jobs i (record job { standing = standing })) o jobs) ≡ names jobs
@@ -61,7 +61,7 @@ names-standing jobs i standing = by (slice_get jobs i) refl
 
 names-idle : (jobs : List Job) (ks : List ℕ) → names (claims.all_idle jobs ks) ≡ names jobs
 names-idle jobs [] = refl
-names-idle jobs (k ∷ ks) = names-idle (idle_at (Some k) jobs) ks ∙ names-standing jobs k Standing.Idle
+names-idle jobs (k ∷ ks) = names-idle (idle_at (Some k) jobs) ks ∙ names-standing jobs k Stage.Idle
 
 -- the name at a number
 record At (jobs : List Job) (i : ℕ) (name : List ℕ) : Type 0 where
@@ -89,7 +89,7 @@ apart-names jobs later same apart = λ i job at.
     numbered-names job.name jobs later same ∙ ap (λ n. numbered n jobs) (sym there.called) ∙ apart i there.job there.at
 
 -- a job gains what is offered to it, once others are idle
-pub granted-seen : (stock : Stock) (name : List ℕ) (standing : Standing) (jobs : List Job) (ks : List ℕ) (i : ℕ) (job : Job) → AreNamedApart jobs → slice_get jobs i ≡ Some job → is_named name job ≡ true
+pub granted-seen : (stock : Stock) (name : List ℕ) (standing : Stage) (jobs : List Job) (ks : List ℕ) (i : ℕ) (job : Job) → AreNamedApart jobs → slice_get jobs i ≡ Some job → is_named name job ≡ true
     → map (queued stock) (with_standing (claims.all_idle jobs ks) i standing) ≡ seen.restood name (named_standing stock standing) (map (queued stock) (claims.all_idle jobs ks))
 granted-seen stock name standing jobs ks i job apart at named =
     restood-seen stock name standing (claims.all_idle jobs ks) i there.job (apart-names jobs (claims.all_idle jobs ks) (names-idle jobs ks) apart) there.at

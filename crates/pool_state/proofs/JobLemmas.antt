@@ -10,7 +10,7 @@ use Rattle.ad_store.specs.declared.answers.Put.{Put}
 use Rattle.ad_store.specs.Stock.{Advert, Stock, has, is_named as is_advert, placed, slot_beside, slots_without, without}
 use Rattle.ad_store.proofs.HeldLemmas.{both, neither}
 use Rattle.claim_table.specs.declared.job.Job.{Job}
-use Rattle.claim_table.specs.declared.job.Standing.{Standing}
+use Rattle.claim_table.specs.declared.job.Stage.{Stage}
 use Rattle.claim_table.specs.Answers.{without_at}
 use Rattle.claim_table.specs.Jobs.{AreNamedApart, claim_of, claimed_by as claimer, is_named, job_named, lists, numbered, offer_of, offered_to as offeree, slots_of}
 use Rattle.claim_table.proofs.ListLemmas.{All-remove}
@@ -60,10 +60,10 @@ module _ (name : List ℕ) (old new : Stock) (beside : AreBeside old.ads old.slo
       let parts = neither (eqb s slot) (lists own slot) apart in
       ap (λ n. n ∷ map (name_in new) own) (names-without s parts.0) ∙ ap (λ l. name_in old s ∷ l) (others_named own parts.1)
 
-  other_standing : (standing : Standing) → lists (slots_of standing) slot ≡ false → named_standing new standing ≡ named_standing old standing
-  other_standing Standing.Idle apart = refl
-  other_standing (Standing.Matched own) apart = ap JobStanding.matched (others_named own apart)
-  other_standing (Standing.Claimed own) apart = ap JobStanding.claimed (others_named own apart)
+  other_standing : (standing : Stage) → lists (slots_of standing) slot ≡ false → named_standing new standing ≡ named_standing old standing
+  other_standing Stage.Idle apart = refl
+  other_standing (Stage.Matched own) apart = ap JobStanding.matched (others_named own apart)
+  other_standing (Stage.Claimed own) apart = ap JobStanding.claimed (others_named own apart)
 
   one_freed : (job : Job) → is_stored old.slots job ≡ true → queued new (freed slot job) ≡ cond (list_any (bytes_eq name) (names_of (named_standing old job.standing))) (record (queued old job) { standing = idle }) (queued old job)
   one_freed job stored =
@@ -192,15 +192,15 @@ module _ (stock : Stock) (beside : AreBeside stock.ads stock.slots) (place : ℕ
   listed_in : (own : List ℕ) → list_all (lists stock.slots) own ≡ true → is_listed advert.name (map (name_in stock) own) ≡ lists own slot
   listed_in own held = listed-named stock.ads stock.slots beside place advert slot at slot_at own held
 
-  pub offer_seen : (standing : Standing) → list_all (lists stock.slots) (slots_of standing) ≡ true → is_listed advert.name (offer_names (named_standing stock standing)) ≡ lists (offer_of standing) slot
-  offer_seen Standing.Idle held = refl
-  offer_seen (Standing.Matched own) held = listed_in own held
-  offer_seen (Standing.Claimed own) held = refl
+  pub offer_seen : (standing : Stage) → list_all (lists stock.slots) (slots_of standing) ≡ true → is_listed advert.name (offer_names (named_standing stock standing)) ≡ lists (offer_of standing) slot
+  offer_seen Stage.Idle held = refl
+  offer_seen (Stage.Matched own) held = listed_in own held
+  offer_seen (Stage.Claimed own) held = refl
 
-  pub claim_seen : (standing : Standing) → list_all (lists stock.slots) (slots_of standing) ≡ true → is_listed advert.name (claim_names (named_standing stock standing)) ≡ lists (claim_of standing) slot
-  claim_seen Standing.Idle held = refl
-  claim_seen (Standing.Matched own) held = refl
-  claim_seen (Standing.Claimed own) held = listed_in own held
+  pub claim_seen : (standing : Stage) → list_all (lists stock.slots) (slots_of standing) ≡ true → is_listed advert.name (claim_names (named_standing stock standing)) ≡ lists (claim_of standing) slot
+  claim_seen Stage.Idle held = refl
+  claim_seen (Stage.Matched own) held = refl
+  claim_seen (Stage.Claimed own) held = listed_in own held
 
   pub offered-seen : option_map (λ job. job.name) (option_and_then (λ i. slice_get jobs i) (offeree slot jobs)) ≡ option_map (λ job. job.name) (offered_to advert.name (map (queued stock) jobs))
   offered-seen =

@@ -3,6 +3,7 @@ mod ClaimLemmas
 mod ClaimedLemmas
 mod CommandLemmas
 mod DockLemmas
+mod ExplainLemmas
 mod ExpiryLemmas
 mod FailingLemmas
 mod FoundLemmas

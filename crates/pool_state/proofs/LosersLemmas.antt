@@ -13,7 +13,7 @@ use Rattle.claim_table.specs.Claims as claims
 use Rattle.claim_table.specs.Jobs.{AreExclusive, AreNamedApart, claim_of, claimed_by as claimer, idle_at, lists, numbered, slots_of}
 use Rattle.claim_table.specs.declared.answers.Freed.{Freed}
 use Rattle.claim_table.specs.declared.job.Job.{Job}
-use Rattle.claim_table.specs.declared.job.Standing.{Standing}
+use Rattle.claim_table.specs.declared.job.Stage.{Stage}
 use Rattle.pool_state.specs.Claiming as seen
 use Rattle.pool_state.specs.Pool.{name_in, named_standing, queued}
 use Rattle.pool_state.specs.Queue.{claim_names, claimed_by, is_listed}
@@ -186,11 +186,11 @@ module _ (stock : Stock) (beside : AreBeside stock.ads stock.slots) (slots : Lis
       ∙ any-where (lists stock.slots) (λ c. is_listed (name_in stock c) (map (name_in stock) slots)) (λ c. list_any (λ s. eqb c s) slots) own held (λ c there. name-among c there ∙ sym (numbers-turned slots c))
       ∙ sym (any-swapped (λ s c. eqb c s) slots own)
 
-  holds-seen : (standing : Standing) → list_all (lists stock.slots) (slots_of standing) ≡ true
+  holds-seen : (standing : Stage) → list_all (lists stock.slots) (slots_of standing) ≡ true
       → list_any (λ name. is_listed name (map (name_in stock) slots)) (claim_names (named_standing stock standing)) ≡ list_any (λ slot. lists (claim_of standing) slot) slots
-  holds-seen Standing.Idle held = sym (any-none slots)
-  holds-seen (Standing.Matched own) held = sym (any-none slots)
-  holds-seen (Standing.Claimed own) held = holds-slots own held
+  holds-seen Stage.Idle held = sym (any-none slots)
+  holds-seen (Stage.Matched own) held = sym (any-none slots)
+  holds-seen (Stage.Claimed own) held = holds-slots own held
 
   one-idle : (job : Job) → is_stored stock.slots job ≡ true → queued stock (idle_if (claims_one slots job) job) ≡ cond (seen.holds_one (map (name_in stock) slots) (queued stock job)) (record (queued stock job) { standing = idle }) (queued stock job)
   one-idle job held =

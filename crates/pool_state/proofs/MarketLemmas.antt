@@ -8,12 +8,12 @@ use Rattle.ad_tree.specs.Frames.{Frame}
 use Rattle.ad_tree.specs.declared.request.Port.{Port}
 use Rattle.ad_store.specs.Stock.{Stock}
 use Rattle.claim_table.specs.declared.job.Job.{Job}
-use Rattle.claim_table.specs.declared.job.Standing.{Standing}
+use Rattle.claim_table.specs.declared.job.Stage.{Stage}
 use Rattle.negotiator.specs.Budget as budget
 use Rattle.negotiator.specs.Cycle.{Market, Offer, PlainSpin, PlainTurn, Waiting, cycle_of, offers_in, offers_of}
 use Rattle.negotiator.specs.Mapped.{offer_mapped, spin_mapped, turn_mapped}
 use Rattle.negotiator.specs.Markets as market
-use Rattle.negotiator.specs.Priorities.{Setting}
+use Rattle.claim_table.specs.Priorities.{Setting}
 use Rattle.negotiator.specs.declared.answers.Spin.{Spin}
 use Rattle.negotiator.proofs.AlikeLemmas.{IsRenamed, cycle-renamed}
 use Rattle.negotiator.proofs.CycleLemmas.{offer}
@@ -34,10 +34,10 @@ use Rattle.pool_state.proofs.PoolLemmas.{docks-seen, free-seen, open-seen}
 use Rattle.pool_state.proofs.SpinRowLemmas.{spin-rows}
 
 module _ (stock : Stock) where
-  idle-seen : (standing : Standing) → seen.is_idle (named_standing stock standing) ≡ market.is_idle standing
-  idle-seen Standing.Idle = refl
-  idle-seen (Standing.Matched own) = refl
-  idle-seen (Standing.Claimed own) = refl
+  idle-seen : (standing : Stage) → seen.is_idle (named_standing stock standing) ≡ market.is_idle standing
+  idle-seen Stage.Idle = refl
+  idle-seen (Stage.Matched own) = refl
+  idle-seen (Stage.Claimed own) = refl
 
   one-waiting : (job : Job) → IsOwned job → seen.waiting (queued stock job) ≡ market.waiting_of job
   one-waiting job owned =
@@ -88,10 +88,10 @@ module _ (stock : Stock) (beside : AreBeside stock.ads stock.slots) (moment : �
     jobs = waiting-seen stock jobs owned;
     priority = λ user. refl;
     start = All-nil (IsOffered stock.slots);
-    free = λ made offered. ap (λ js. count_by (seen.is_free js) stock.ads) (offers-seen stock made jobs) ∙ free-seen stock beside moment (market.with_offers made jobs) (then_stored made offered) (then_owned made);
-    find = λ made i offered. ap (λ js. seen.found moment stock.ads js i) (offers-seen stock made jobs) ∙ find-seen stock beside moment (market.with_offers made jobs) (then_stored made offered) (then_owned made) i;
+    free = λ made offered. ap (λ js. count_by (seen.is_free js) stock.ads) (offers-seen stock made jobs) ∙ free-seen stock beside moment settings (market.with_offers made jobs) (then_stored made offered) (then_owned made);
+    find = λ made i offered. ap (λ js. seen.found moment stock.ads settings js i) (offers-seen stock made jobs) ∙ find-seen stock beside moment settings (market.with_offers made jobs) (then_stored made offered) (then_owned made) i;
     step = λ user made i own offered waiting found.
-        All-push (IsOffered stock.slots) made (offer i own) offered (found-stored moment stock (let long = beside.long in omega (arith, long)) (market.with_offers made jobs) i own found);
+        All-push (IsOffered stock.slots) made (offer i own) offered (found-stored moment stock settings (let long = beside.long in omega (arith, long)) (market.with_offers made jobs) i own found);
   }
 
   cycle-seen : cycle_of (seen.market_in state) ≡ map (spin_mapped (name_in stock)) (cycle_of here)
@@ -133,15 +133,15 @@ module _ (stock : Stock) (beside : AreBeside stock.ads stock.slots) (moment : �
       by true rest = let one = each job (All-head IsOwned job js own) in omega (arith, one, rest, sum_by-cons f (queued stock job) behind, sum_by-cons g job others)
       by false rest = rest
 
-  open-with : (request : List Frame) (ports : List Port) → budget.open_by (seen.pool_in moment stock.ads (map (queued stock) jobs)) request ports ≡ budget.open_by (market.pool_for moment stock jobs) request ports
-  open-with request [] = open-seen stock beside moment jobs stored owned request
-  open-with request (port ∷ ports) = docks-seen stock beside moment jobs stored owned request (port ∷ ports)
+  open-with : (request : List Frame) (ports : List Port) → budget.open_by (seen.pool_in moment stock.ads settings (map (queued stock) jobs)) request ports ≡ budget.open_by (market.pool_for moment stock settings jobs) request ports
+  open-with request [] = open-seen stock beside moment settings jobs stored owned request
+  open-with request (port ∷ ports) = docks-seen stock beside moment settings jobs stored owned request (port ∷ ports)
 
-  pub undecided-seen : seen.undecided_for_jobs state ≡ budget.over_idle (budget.open_for moment stock) jobs
+  pub undecided-seen : seen.undecided_for_jobs state ≡ budget.over_idle (budget.open_for moment stock settings) jobs
   undecided-seen =
-      sum-idle (λ job. budget.open_by (seen.pool_in moment stock.ads (map (queued stock) jobs)) job.ad (ports_in job.ad)) (λ job. budget.open_for moment stock jobs job.request)
+      sum-idle (λ job. budget.open_by (seen.pool_in moment stock.ads settings (map (queued stock) jobs)) job.ad (ports_in job.ad)) (λ job. budget.open_for moment stock settings jobs job.request)
       (λ job own.
-      ap (budget.open_by (seen.pool_in moment stock.ads (map (queued stock) jobs)) (ad_frames job.request.ad)) (sym own)
+      ap (budget.open_by (seen.pool_in moment stock.ads settings (map (queued stock) jobs)) (ad_frames job.request.ad)) (sym own)
       ∙ open-with (ad_frames job.request.ad) job.request.ports) jobs owned
 
   pub narrowest-seen : seen.narrowest_for_jobs state ≡ budget.over_idle (budget.left_for stock) jobs

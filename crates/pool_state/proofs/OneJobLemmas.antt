@@ -7,7 +7,7 @@ use Rattle.std.proofs.lemmas.Option.{none-some, same_Some, slice_get-map}
 use Rattle.ad_store.specs.Stock.{Advert, Stock, has}
 use Rattle.ad_store.proofs.HeldLemmas.{both}
 use Rattle.claim_table.specs.declared.job.Job.{Job}
-use Rattle.claim_table.specs.declared.job.Standing.{Standing}
+use Rattle.claim_table.specs.declared.job.Stage.{Stage}
 use Rattle.claim_table.specs.Jobs.{AreExclusive as AreApart, claim_of, lists, offer_of, slots_of}
 use Rattle.pool_state.specs.Apart.{AreExclusive}
 use Rattle.pool_state.specs.Pool.{name_in, named_standing, queued}
@@ -69,7 +69,7 @@ module _ (stock : Stock) (beside : AreBeside stock.ads stock.slots) where
       by true is l later = held-in stock beside s name parts.0 ((bytes_decides name (name_in stock s)).0 is)
       by false is l later = later l
 
-  module _ (part : Standing → List ℕ) (names : JobStanding → List (List ℕ)) (named : (standing : Standing) → names (named_standing stock standing) ≡ map (name_in stock) (part standing)) (within : (standing : Standing) → list_all (lists stock.slots) (slots_of standing) ≡ true → list_all (lists stock.slots) (part standing) ≡ true) where
+  module _ (part : Stage → List ℕ) (names : JobStanding → List (List ℕ)) (named : (standing : Stage) → names (named_standing stock standing) ≡ map (name_in stock) (part standing)) (within : (standing : Stage) → list_all (lists stock.slots) (slots_of standing) ≡ true → list_all (lists stock.slots) (part standing) ≡ true) where
     by-slots : (name : List ℕ) (job : Job) (seen : QueuedJob) → queued stock job ≡ seen → is_listed name (names seen.standing) ≡ true → is_listed name (map (name_in stock) (part job.standing)) ≡ true
     by-slots name job seen is listed = ap (is_listed name) (sym (named job.standing) ∙ ap (λ (q : QueuedJob). names q.standing) is) ∙ listed
 
@@ -98,25 +98,25 @@ module _ (stock : Stock) (beside : AreBeside stock.ads stock.slots) where
 
   -- ---- offers and claims
 
-  offer-named : (standing : Standing) → offer_names (named_standing stock standing) ≡ map (name_in stock) (offer_of standing)
-  offer-named Standing.Idle = refl
-  offer-named (Standing.Matched own) = refl
-  offer-named (Standing.Claimed own) = refl
+  offer-named : (standing : Stage) → offer_names (named_standing stock standing) ≡ map (name_in stock) (offer_of standing)
+  offer-named Stage.Idle = refl
+  offer-named (Stage.Matched own) = refl
+  offer-named (Stage.Claimed own) = refl
 
-  claim-named : (standing : Standing) → claim_names (named_standing stock standing) ≡ map (name_in stock) (claim_of standing)
-  claim-named Standing.Idle = refl
-  claim-named (Standing.Matched own) = refl
-  claim-named (Standing.Claimed own) = refl
+  claim-named : (standing : Stage) → claim_names (named_standing stock standing) ≡ map (name_in stock) (claim_of standing)
+  claim-named Stage.Idle = refl
+  claim-named (Stage.Matched own) = refl
+  claim-named (Stage.Claimed own) = refl
 
-  offer-within : (standing : Standing) → list_all (lists stock.slots) (slots_of standing) ≡ true → list_all (lists stock.slots) (offer_of standing) ≡ true
-  offer-within Standing.Idle held = refl
-  offer-within (Standing.Matched own) held = held
-  offer-within (Standing.Claimed own) held = refl
+  offer-within : (standing : Stage) → list_all (lists stock.slots) (slots_of standing) ≡ true → list_all (lists stock.slots) (offer_of standing) ≡ true
+  offer-within Stage.Idle held = refl
+  offer-within (Stage.Matched own) held = held
+  offer-within (Stage.Claimed own) held = refl
 
-  claim-within : (standing : Standing) → list_all (lists stock.slots) (slots_of standing) ≡ true → list_all (lists stock.slots) (claim_of standing) ≡ true
-  claim-within Standing.Idle held = refl
-  claim-within (Standing.Matched own) held = refl
-  claim-within (Standing.Claimed own) held = held
+  claim-within : (standing : Stage) → list_all (lists stock.slots) (slots_of standing) ≡ true → list_all (lists stock.slots) (claim_of standing) ≡ true
+  claim-within Stage.Idle held = refl
+  claim-within (Stage.Matched own) held = refl
+  claim-within (Stage.Claimed own) held = held
 
   pub offers-apart : (jobs : List Job) → are_stored stock.slots jobs ≡ true → AreApart offer_of jobs → AreExclusive offer_names (map (queued stock) jobs)
   offers-apart jobs stored apart = exclusive offer_of offer_names offer-named offer-within jobs stored apart
@@ -136,10 +136,10 @@ module _ (stock : Stock) (beside : AreBeside stock.ads stock.slots) where
       let there : Held stock (name_in stock s) = held-in stock beside s (name_in stock s) parts.0 refl in
       All-cons IsHeld (name_in stock s) (map (name_in stock) own) (has_at (name_in stock s) stock.ads there.place there.advert there.at there.called) (names-held own parts.1)
 
-  standing-held : (standing : Standing) → list_all (lists stock.slots) (slots_of standing) ≡ true → All IsHeld (names_of (named_standing stock standing))
-  standing-held Standing.Idle stored = All-nil IsHeld
-  standing-held (Standing.Matched own) stored = names-held own stored
-  standing-held (Standing.Claimed own) stored = names-held own stored
+  standing-held : (standing : Stage) → list_all (lists stock.slots) (slots_of standing) ≡ true → All IsHeld (names_of (named_standing stock standing))
+  standing-held Stage.Idle stored = All-nil IsHeld
+  standing-held (Stage.Matched own) stored = names-held own stored
+  standing-held (Stage.Claimed own) stored = names-held own stored
 
   pub jobs-held : (jobs : List Job) → are_stored stock.slots jobs ≡ true → All (λ job. All (λ name. has name stock.ads ≡ true) (names_of job.standing)) (map (queued stock) jobs)
   jobs-held [] stored = All-nil (λ (job : QueuedJob). All IsHeld (names_of job.standing))

@@ -10,12 +10,12 @@ use Rattle.ad_tree.specs.declared.request.Port.{Port}
 use Rattle.ad_store.specs.Stock.{Advert, Stock}
 use Rattle.bilateral_match.specs.Counts.{open_count}
 use Rattle.bilateral_match.specs.Members.{best}
-use Rattle.bilateral_match.specs.Pool.{holder_world, slot_at}
+use Rattle.bilateral_match.specs.Pool.{Hold, hold_of, slot_at}
 use Rattle.bilateral_match.proofs.PoolLemmas.{best-same, open-same}
 use Rattle.claim_table.specs.declared.job.Job.{Job}
 use Rattle.claim_table.specs.Holders.{holder_of}
 use Rattle.claim_table.specs.Jobs.{offered_to as offeree}
-use Rattle.eval_scope.specs.World.{PlainWorld}
+use Rattle.claim_table.specs.Priorities.{Setting}
 use Rattle.gang_ports.specs.Gangs.{docks_open, docks_weighed, gang}
 use Rattle.gang_ports.proofs.SameLemmas.{docks-same, gang-same, weighed-same}
 use Rattle.negotiator.specs.Markets as market
@@ -65,18 +65,18 @@ module _ (stock : Stock) (beside : AreBeside stock.ads stock.slots) where
       let at_slot : position_or_len (λ t. eqb t s.it) stock.slots ≡ place = position-at stock.slots place s.it s.at (λ j at_j. beside.apart j place s.it at_j s.at) in
       sym (ap (name_in stock) slot ∙ ap (λ k. option_map_or (λ (x : Advert). x.name) (slice_get stock.ads k) []) at_slot)
 
-  module _ (moment : ℕ) (jobs : List Job) (stored : are_stored stock.slots jobs ≡ true) (owned : All IsOwned jobs) where
+  module _ (moment : ℕ) (settings : List Setting) (jobs : List Job) (stored : are_stored stock.slots jobs ≡ true) (owned : All IsOwned jobs) where
     abbrev off_named : ℕ → Bool
     off_named place = is_some (offered_to (names_at place) (map (queued stock) jobs))
 
     abbrev off_slots : ℕ → Bool
     off_slots place = is_some (offeree (slot_at stock place) jobs)
 
-    abbrev held_named : ℕ → Option PlainWorld
-    held_named place = option_map (seen.held_world moment stock.ads (names_at place)) (claimed_by (names_at place) (map (queued stock) jobs))
+    abbrev held_named : ℕ → Option Hold
+    held_named place = option_map (seen.held_by moment stock.ads settings (names_at place)) (claimed_by (names_at place) (map (queued stock) jobs))
 
-    abbrev held_slots : ℕ → Option PlainWorld
-    held_slots place = option_map (holder_world moment stock) (holder_of jobs (slot_at stock place))
+    abbrev held_slots : ℕ → Option Hold
+    held_slots place = option_map (hold_of moment stock) (holder_of settings jobs (slot_at stock place))
 
     same-at : (i : ℕ) → i < length stock.ads → (off_named i ≡ off_slots i) × (held_named i ≡ held_slots i)
     same-at i within =
@@ -85,13 +85,13 @@ module _ (stock : Stock) (beside : AreBeside stock.ads stock.slots) where
         let name : names_at i ≡ a.it.name = ap (λ o. option_map_or (λ (x : Advert). x.name) o []) a.at in
         let slot : slot_at stock i ≡ s.it = get_or_from_slice_get stock.slots i s.it 0 s.at in (
           ap (λ n. is_some (offered_to n (map (queued stock) jobs))) name ∙ offered-same stock beside i a.it s.it a.at s.at jobs stored ∙ sym (ap (λ k. is_some (offeree k jobs)) slot),
-          ap (λ n. option_map (seen.held_world moment stock.ads n) (claimed_by n (map (queued stock) jobs))) name ∙ holder-same stock beside i a.it s.it a.at s.at jobs stored moment owned ∙ sym (ap (λ k. option_map (holder_world moment stock) (holder_of jobs k)) slot),
+          ap (λ n. option_map (seen.held_by moment stock.ads settings n) (claimed_by n (map (queued stock) jobs))) name ∙ holder-same stock beside i a.it s.it a.at s.at jobs stored moment settings owned ∙ sym (ap (λ k. option_map (hold_of moment stock) (holder_of settings jobs k)) slot),
         )
 
-    pub best-seen : (request : List Frame) → best (seen.pool_in moment stock.ads (map (queued stock) jobs)) request ≡ best (market.pool_for moment stock jobs) request
-    best-seen request = best-same moment stock.ads request off_named off_slots held_named held_slots same-at
+    pub best-seen : (number : ℕ) (request : List Frame) → best (seen.pool_in moment stock.ads settings (map (queued stock) jobs)) request number ≡ best (market.pool_for moment stock settings jobs) request number
+    best-seen number request = best-same moment stock.ads request off_named off_slots held_named held_slots number same-at
 
-    pub open-seen : (request : List Frame) → open_count (seen.pool_in moment stock.ads (map (queued stock) jobs)) request ≡ open_count (market.pool_for moment stock jobs) request
+    pub open-seen : (request : List Frame) → open_count (seen.pool_in moment stock.ads settings (map (queued stock) jobs)) request ≡ open_count (market.pool_for moment stock settings jobs) request
     open-seen request = open-same moment stock.ads request off_named off_slots held_named held_slots same-at
 
     pub free-seen : count_by (seen.is_free (map (queued stock) jobs)) stock.ads ≡ market.free_among stock jobs
@@ -101,20 +101,20 @@ module _ (stock : Stock) (beside : AreBeside stock.ads stock.slots) where
 
     -- ---- gangs
 
-    gang-seen : (request : List Frame) (ports : List Port) → gang (seen.pool_in moment stock.ads (map (queued stock) jobs)) request ports ≡ gang (market.pool_for moment stock jobs) request ports
+    gang-seen : (request : List Frame) (ports : List Port) → gang (seen.pool_in moment stock.ads settings (map (queued stock) jobs)) request ports ≡ gang (market.pool_for moment stock settings jobs) request ports
     gang-seen request ports = gang-same moment stock.ads off_named off_slots held_named held_slots same-at request ports
 
-    pub docks-seen : (request : List Frame) (ports : List Port) → docks_open (seen.pool_in moment stock.ads (map (queued stock) jobs)) request ports ≡ docks_open (market.pool_for moment stock jobs) request ports
+    pub docks-seen : (request : List Frame) (ports : List Port) → docks_open (seen.pool_in moment stock.ads settings (map (queued stock) jobs)) request ports ≡ docks_open (market.pool_for moment stock settings jobs) request ports
     docks-seen request ports = docks-same moment stock.ads off_named off_slots held_named held_slots same-at request ports
 
-    weighed-seen : (request : List Frame) (ports : List Port) → docks_weighed (seen.pool_in moment stock.ads (map (queued stock) jobs)) request ports ≡ docks_weighed (market.pool_for moment stock jobs) request ports
+    weighed-seen : (request : List Frame) (ports : List Port) → docks_weighed (seen.pool_in moment stock.ads settings (map (queued stock) jobs)) request ports ≡ docks_weighed (market.pool_for moment stock settings jobs) request ports
     weighed-seen request ports = weighed-same moment stock.ads off_named off_slots held_named held_slots same-at request ports
 
     -- a search makes no more evaluations than both numbers of docks allow
     pub gang-cost : (request : List Frame) (ports : List Port) (before behind : ℕ)
-        → behind ≤ before + 3 * docks_open (market.pool_for moment stock jobs) request ports
-        → behind ≤ before + 3 * docks_weighed (market.pool_for moment stock jobs) request ports
-        → behind ≤ before + 3 * open_docks_of (seen.pool_in moment stock.ads (map (queued stock) jobs)) request ports
+        → behind ≤ before + 3 * docks_open (market.pool_for moment stock settings jobs) request ports
+        → behind ≤ before + 3 * docks_weighed (market.pool_for moment stock settings jobs) request ports
+        → behind ≤ before + 3 * open_docks_of (seen.pool_in moment stock.ads settings (map (queued stock) jobs)) request ports
     gang-cost request ports before behind prefixes once =
         let docks = docks-seen request ports in
         let weighed = weighed-seen request ports in
@@ -127,18 +127,18 @@ module _ (stock : Stock) (beside : AreBeside stock.ads stock.slots) where
         ∙ ap (λ l. name_in stock (slot_at stock p) ∷ l) (names-of places (All-tail (λ p. p < length stock.ads) p places within))
 
     -- the names of a gang are those in its slots
-    pub gang-names : (request : List Frame) (ports : List Port) → gang_names moment stock.ads (map (queued stock) jobs) request ports
-        ≡ option_map (map (name_in stock)) (option_map (map (slot_at stock)) (gang (market.pool_for moment stock jobs) request ports))
+    pub gang-names : (request : List Frame) (ports : List Port) → gang_names moment stock.ads settings (map (queued stock) jobs) request ports
+        ≡ option_map (map (name_in stock)) (option_map (map (slot_at stock)) (gang (market.pool_for moment stock settings jobs) request ports))
     gang-names request ports =
         ap (option_map (map names_at)) (gang-seen request ports)
-        ∙ by (gang (market.pool_for moment stock jobs) request ports) refl
+        ∙ by (gang (market.pool_for moment stock settings jobs) request ports) refl
       where
-        by : (o : Option (List ℕ)) → gang (market.pool_for moment stock jobs) request ports ≡ o → option_map (map names_at) o ≡ option_map (map (name_in stock)) (option_map (map (slot_at stock)) o)
+        by : (o : Option (List ℕ)) → gang (market.pool_for moment stock settings jobs) request ports ≡ o → option_map (map names_at) o ≡ option_map (map (name_in stock)) (option_map (map (slot_at stock)) o)
         by None there = refl
-        by (Some places) there = ap (λ l. Some l) (names-of places (gang-below (market.pool_for moment stock jobs) request ports places there))
+        by (Some places) there = ap (λ l. Some l) (names-of places (gang-below (market.pool_for moment stock settings jobs) request ports places there))
 
     -- they are in the store
-    pub gang-stored : (request : List Frame) (ports : List Port) (found : Option (List ℕ)) → found ≡ option_map (map (slot_at stock)) (gang (market.pool_for moment stock jobs) request ports) → IfSome found (All (Contains stock.slots))
+    pub gang-stored : (request : List Frame) (ports : List Port) (found : Option (List ℕ)) → found ≡ option_map (map (slot_at stock)) (gang (market.pool_for moment stock settings jobs) request ports) → IfSome found (All (Contains stock.slots))
     gang-stored request ports found is =
-        gang-all moment stock jobs request ports (All (Contains stock.slots))
-        (λ places there. slots-stored moment stock jobs request ports places there (let long = beside.long in omega (arith, long))) found is
+        gang-all moment stock settings jobs request ports (All (Contains stock.slots))
+        (λ places there. slots-stored moment stock settings jobs request ports places there (let long = beside.long in omega (arith, long))) found is

@@ -8,7 +8,7 @@ use Rattle.ad_tree.specs.declared.request.Request.{Request}
 use Rattle.ad_store.specs.Stock.{Stock}
 use Rattle.ad_store.proofs.HeldLemmas.{both, neither}
 use Rattle.claim_table.specs.declared.job.Job.{Job}
-use Rattle.claim_table.specs.declared.job.Standing.{Standing}
+use Rattle.claim_table.specs.declared.job.Stage.{Stage}
 use Rattle.claim_table.specs.Jobs.{AreExclusive, claim_of, claimed_by as claimer, idle_at, lists, lost, offer_of, offered_to as offeree, slots_of}
 use Rattle.pool_state.specs.Pool.{name_in, named_standing, queued}
 use Rattle.pool_state.specs.Queue.{names_of}
@@ -105,7 +105,7 @@ none_behind test x xs once passes j b at = by (test b) refl
     by false is = refl
 
 abbrev pub idle_job : Job → Job
-idle_job job = record job { standing = Standing.Idle }
+idle_job job = record job { standing = Stage.Idle }
 
 idle_at-next : (o : Option ℕ) (x : Job) (xs : List Job) → idle_at (option_map suc o) (x ∷ xs) ≡ x ∷ idle_at o xs
 idle_at-next None x xs = refl
@@ -157,10 +157,10 @@ lost-each slot jobs offers claims =
     all_true [] = refl
     all_true (x ∷ xs) = all_true xs
 
-    either : (job : Job) (standing : Standing) → cond (lists (offer_of standing) slot) (idle_job (cond (lists (claim_of standing) slot) (idle_job job) job)) (cond (lists (claim_of standing) slot) (idle_job job) job) ≡ cond (lists (slots_of standing) slot) (idle_job job) job
-    either job Standing.Idle = refl
-    either job (Standing.Matched slots) = refl
-    either job (Standing.Claimed slots) = refl
+    either : (job : Job) (standing : Stage) → cond (lists (offer_of standing) slot) (idle_job (cond (lists (claim_of standing) slot) (idle_job job) job)) (cond (lists (claim_of standing) slot) (idle_job job) job) ≡ cond (lists (slots_of standing) slot) (idle_job job) job
+    either job Stage.Idle = refl
+    either job (Stage.Matched slots) = refl
+    either job (Stage.Claimed slots) = refl
 
 -- the others of a job's slots
 others_stored : (slots fewer : List ℕ) (slot : ℕ) → ((s : ℕ) → eqb s slot ≡ false → lists slots s ≡ true → lists fewer s ≡ true) → (own : List ℕ) → lists own slot ≡ false → list_all (lists slots) own ≡ true → list_all (lists fewer) own ≡ true
@@ -201,10 +201,10 @@ freed-kept P slot jobs kept = All-map (RequestIs P) (freed slot) jobs (λ k d wi
 
 -- ---- seen by names
 
-pub standing-same : (old new : Stock) (slots : List ℕ) → ((slot : ℕ) → lists slots slot ≡ true → name_in new slot ≡ name_in old slot) → (standing : Standing) → list_all (lists slots) (slots_of standing) ≡ true → named_standing new standing ≡ named_standing old standing
-standing-same old new slots same Standing.Idle stored = refl
-standing-same old new slots same (Standing.Matched own) stored = ap JobStanding.matched (map-where (lists slots) (name_in new) (name_in old) own stored same)
-standing-same old new slots same (Standing.Claimed own) stored = ap JobStanding.claimed (map-where (lists slots) (name_in new) (name_in old) own stored same)
+pub standing-same : (old new : Stock) (slots : List ℕ) → ((slot : ℕ) → lists slots slot ≡ true → name_in new slot ≡ name_in old slot) → (standing : Stage) → list_all (lists slots) (slots_of standing) ≡ true → named_standing new standing ≡ named_standing old standing
+standing-same old new slots same Stage.Idle stored = refl
+standing-same old new slots same (Stage.Matched own) stored = ap JobStanding.matched (map-where (lists slots) (name_in new) (name_in old) own stored same)
+standing-same old new slots same (Stage.Claimed own) stored = ap JobStanding.claimed (map-where (lists slots) (name_in new) (name_in old) own stored same)
 
 queued-same : (old new : Stock) (job : Job) → named_standing new job.standing ≡ named_standing old job.standing → queued new job ≡ queued old job
 queued-same old new job same = ap (λ standing. record (queued old job) { standing = standing }) same
@@ -214,7 +214,7 @@ pub queue-same : (old new : Stock) (jobs : List Job) → are_stored old.slots jo
 queue-same old new jobs stored same =
     map-where (is_stored old.slots) (queued new) (queued old) jobs stored (λ job held. queued-same old new job (standing-same old new old.slots same job.standing held))
 
-pub names-mapped : (stock : Stock) (standing : Standing) → names_of (named_standing stock standing) ≡ map (name_in stock) (slots_of standing)
-names-mapped stock Standing.Idle = refl
-names-mapped stock (Standing.Matched slots) = refl
-names-mapped stock (Standing.Claimed slots) = refl
+pub names-mapped : (stock : Stock) (standing : Stage) → names_of (named_standing stock standing) ≡ map (name_in stock) (slots_of standing)
+names-mapped stock Stage.Idle = refl
+names-mapped stock (Stage.Matched slots) = refl
+names-mapped stock (Stage.Claimed slots) = refl

@@ -12,7 +12,7 @@ use Rattle.ad_store.specs.Stock.{Advert, Stock}
 use Rattle.ad_store.proofs.HeldLemmas.{neither}
 use Rattle.claim_table.specs.declared.job.Job.{Job}
 use Rattle.claim_table.specs.Jobs.{is_named, job_named, text_of}
-use Rattle.negotiator.specs.Priorities.{Setting, lacks_place, with_setting}
+use Rattle.claim_table.specs.Priorities.{Setting, lacks_place, with_setting}
 use Rattle.pool_replies.specs.Refusals.{is_fault_of_text}
 use Rattle.pool_replies.specs.declared.refusal.Refusal.{Refusal}
 use Rattle.pool_replies.specs.declared.refusal.Refusal.TheVariants as why

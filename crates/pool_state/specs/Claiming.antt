@@ -1,17 +1,19 @@
 -- Claims in a state: what is offered to a job is checked anew, and only then the job has it.
-use Rattle.std.specs.Prelude.{ℕ, suc, Bool, true, not, ◌&&◌, int_lt, List, [], ◌∷◌, ◌++◌, find, fold, length, map, slice_index_or, sum_by, take, Option, None, Some, option_map, if◌then◌else◌}
+use Rattle.std.specs.Prelude.{ℕ, suc, Bool, true, not, ◌&&◌, List, [], ◌∷◌, ◌++◌, find, fold, length, map, slice_index_or, sum_by, take, Option, None, Some, option_map, if◌then◌else◌}
 use Rattle.std.specs.List.{list_any, range_with_len}
 use Rattle.std.specs.Option.{option_map_or}
 use Rattle.ad_store.specs.Stock.{Advert}
 use Rattle.eval_scope.specs.World.{PlainWorld}
 use Rattle.ad_eval.specs.Dock.{is_docked}
 use Rattle.bilateral_match.specs.Docks.{is_last_decided}
+use Rattle.bilateral_match.specs.Members.{is_yielded}
 use Rattle.bilateral_match.specs.Pool.{regard_in}
 use Rattle.claim_table.specs.declared.answers.JobState.{JobState}
+use Rattle.claim_table.specs.Priorities.{Setting, priority_of}
 use Rattle.pool_replies.specs.declared.refusal.Refusal.TheVariants as why
 use Rattle.pool_replies.specs.declared.reply.Reply.{Reply}
 use Rattle.pool_replies.specs.declared.reply.Reply.TheVariants as reply
-use Rattle.pool_state.specs.Negotiation.{frames_named, held_world}
+use Rattle.pool_state.specs.Negotiation.{frames_named, held_by}
 use Rattle.pool_state.specs.Ports.{ports_in}
 use Rattle.pool_state.specs.Queue.{claim_names, claimed_by, is_job, is_listed, offer_names}
 use Rattle.pool_state.specs.State.{JobStanding, QueuedJob, State, claimed, idle, matched}
@@ -26,13 +28,13 @@ job_named name jobs = find (is_job name) jobs
 abbrev pub world_at : ℕ → List Advert → QueuedJob → List (List ℕ) → ℕ → PlainWorld
 world_at moment ads job names port = record { moment = moment; request = job.ad; ports = ports_in job.ad; docked = map (frames_named ads) (take (suc port) names) }
 
--- the resource of a name, docked last, is unclaimed, or ranks its holder strictly lower than the job
-abbrev pub is_won : ℕ → List Advert → List QueuedJob → List ℕ → PlainWorld → Bool
-is_won moment ads jobs name world = option_map_or (λ holder. int_lt (regard_in (held_world moment ads name holder)) (regard_in world)) (claimed_by name jobs) true
+-- the resource of a name, docked last, is yielded to the job, whose user has this number: it is unclaimed, it ranks its holder strictly lower, or it ranks both alike and the holder's user has at least twice the number
+abbrev pub is_won : ℕ → List Advert → List Setting → List QueuedJob → ℕ → List ℕ → PlainWorld → Bool
+is_won moment ads settings jobs number name world = is_yielded number (regard_in world) (option_map (held_by moment ads settings name) (claimed_by name jobs))
 
 -- it passes: its dock is true now, and the job wins it
-abbrev pub passes : ℕ → List Advert → List QueuedJob → List ℕ → PlainWorld → Bool
-passes moment ads jobs name world = is_docked world && is_won moment ads jobs name world
+abbrev pub passes : ℕ → List Advert → List Setting → List QueuedJob → ℕ → List ℕ → PlainWorld → Bool
+passes moment ads settings jobs number name world = is_docked world && is_won moment ads settings jobs number name world
 
 -- ---- an offer
 
@@ -43,11 +45,11 @@ ports_of names = range_with_len 0 (length names)
 abbrev pub name_at : List (List ℕ) → ℕ → List ℕ
 name_at names port = slice_index_or names port []
 
--- the first of the resources that doesn't pass
+-- the first of the resources that doesn't pass, by the priorities as they are now
 abbrev pub first_failing : State → QueuedJob → List (List ℕ) → Option (List ℕ)
 first_failing s job names =
     option_map (name_at names)
-    (find (λ port. not (passes s.moment s.ads s.jobs (name_at names port) (world_at s.moment s.ads job names port))) (ports_of names))
+    (find (λ port. not (passes s.moment s.ads s.priorities s.jobs (priority_of job.user s.priorities) (name_at names port) (world_at s.moment s.ads job names port))) (ports_of names))
 
 -- ---- what a claim takes from others
 

@@ -7,6 +7,7 @@ use Rattle.ad_tree.specs.Inline.{Inline, ad_of}
 use Rattle.ad_parser.specs.declared.fault.ParseFault.{ParseFault}
 use Rattle.ad_store.specs.Stock.{Advert}
 use Rattle.bilateral_match.specs.Pool.{Pool}
+use Rattle.claim_table.specs.Priorities.{Setting}
 use Rattle.gang_ports.specs.Gangs.{docks_open, docks_weighed, gang as gang_in, looks_most}
 use Rattle.gang_ports.specs.Ports.{ports_of}
 use Rattle.pool_replies.specs.declared.refusal.Refusal.TheVariants as why
@@ -21,13 +22,13 @@ line None = reply.NoGang
 line (Some names) = reply.Gang names
 
 -- the names of the resources that the ports of a request are given
-abbrev pub gang_names : ℕ → List Advert → List QueuedJob → List Frame → List Port → Option (List (List ℕ))
-gang_names moment ads jobs request ports = option_map (map (name_at ads)) (gang_in (pool_in moment ads jobs) request ports)
+abbrev pub gang_names : ℕ → List Advert → List Setting → List QueuedJob → List Frame → List Port → Option (List (List ℕ))
+gang_names moment ads settings jobs request ports = option_map (map (name_at ads)) (gang_in (pool_in moment ads settings jobs) request ports)
 
 -- `gang` and a block, by what its text is
-abbrev pub gang : ℕ → List Advert → List QueuedJob → Result Inline ParseFault → Reply
-gang moment ads jobs (Err fault) = reply.Refused (why.AdText fault)
-gang moment ads jobs (Ok x) = option_map_or (λ ports. line (gang_names moment ads jobs (ad_of x) ports)) (ports_of (ad_of x)) (reply.Refused why.BadPorts)
+abbrev pub gang : ℕ → List Advert → List Setting → List QueuedJob → Result Inline ParseFault → Reply
+gang moment ads settings jobs (Err fault) = reply.Refused (why.AdText fault)
+gang moment ads settings jobs (Ok x) = option_map_or (λ ports. line (gang_names moment ads settings jobs (ad_of x) ports)) (ports_of (ad_of x)) (reply.Refused why.BadPorts)
 
 -- ---- what it may count
 
@@ -36,9 +37,9 @@ gang moment ads jobs (Ok x) = option_map_or (λ ports. line (gang_names moment a
 abbrev pub open_docks_of : Pool → List Frame → List Port → ℕ
 open_docks_of pool request ports = min (docks_open pool request ports) (docks_weighed pool request ports)
 
-abbrev pub undecided_for_gang : ℕ → List Advert → List QueuedJob → Result Inline ParseFault → ℕ
-undecided_for_gang moment ads jobs (Err fault) = 0
-undecided_for_gang moment ads jobs (Ok x) = option_map_or (λ ports. open_docks_of (pool_in moment ads jobs) (ad_of x) ports) (ports_of (ad_of x)) 0
+abbrev pub undecided_for_gang : ℕ → List Advert → List Setting → List QueuedJob → Result Inline ParseFault → ℕ
+undecided_for_gang moment ads settings jobs (Err fault) = 0
+undecided_for_gang moment ads settings jobs (Ok x) = option_map_or (λ ports. open_docks_of (pool_in moment ads settings jobs) (ad_of x) ports) (ports_of (ad_of x)) 0
 
 -- how many ads the narrowest tests of the ports leave, together
 abbrev pub narrowest_for_gang : List Advert → Result Inline ParseFault → ℕ

@@ -3,6 +3,7 @@ pub mod Books
 pub mod Changes
 pub mod ClaimAnswers
 pub mod Claiming
+pub mod Explaining
 pub mod Gangs
 pub mod Heard
 pub mod Indexed

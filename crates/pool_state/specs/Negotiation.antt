@@ -7,11 +7,11 @@ use Rattle.ad_tree.specs.declared.request.Port.{Port}
 use Rattle.ad_store.specs.Stock.{Advert, is_named}
 use Rattle.eval_scope.specs.World.{PlainWorld}
 use Rattle.bilateral_match.specs.Members.{best}
-use Rattle.bilateral_match.specs.Pool.{Pool}
+use Rattle.bilateral_match.specs.Pool.{Hold, Pool}
 use Rattle.gang_ports.specs.Gangs.{gang}
 use Rattle.negotiator.specs.Budget.{narrowed_by, open_by}
 use Rattle.negotiator.specs.Cycle.{Market, Offer, PlainSpin, PlainTurn, Waiting, cycle_of, offers_of}
-use Rattle.negotiator.specs.Priorities.{priority_of}
+use Rattle.claim_table.specs.Priorities.{Setting, priority_of}
 use Rattle.pool_replies.specs.declared.reply.Reply.{Reply}
 use Rattle.pool_replies.specs.declared.reply.Reply.TheVariants as reply
 use Rattle.pool_replies.specs.declared.rows.OfferRow.{OfferRow}
@@ -39,27 +39,32 @@ up_to name names = take (suc (position_or_len (bytes_eq name) names)) names
 abbrev pub held_world : ℕ → List Advert → List ℕ → QueuedJob → PlainWorld
 held_world moment ads name job = record { moment = moment; request = job.ad; ports = ports_in job.ad; docked = map (frames_named ads) (up_to name (claim_names job.standing)) }
 
--- the resources, which of them are offered, and the docks by which they are held
-abbrev pub pool_in : ℕ → List Advert → List QueuedJob → Pool
-pool_in moment ads jobs = record {
+-- how a job holds the resource of a name: that world, and the priority number of its user
+abbrev pub held_by : ℕ → List Advert → List Setting → List ℕ → QueuedJob → Hold
+held_by moment ads settings name job = record { world = held_world moment ads name job; number = priority_of job.user settings }
+
+-- the resources, which of them are offered, and how they are held
+abbrev pub pool_in : ℕ → List Advert → List Setting → List QueuedJob → Pool
+pool_in moment ads settings jobs = record {
   moment = moment;
   ads = ads;
   is_offered = λ place. is_some (offered_to (name_at ads place) jobs);
-  held_in = λ place. option_map (held_world moment ads (name_at ads place)) (claimed_by (name_at ads place) jobs);
+  held_in = λ place. option_map (held_by moment ads settings (name_at ads place)) (claimed_by (name_at ads place) jobs);
 }
 
 -- a resource is free that is neither offered nor claimed
 abbrev pub is_free : List QueuedJob → Advert → Bool
 is_free jobs advert = is_none (offered_to advert.name jobs) && is_none (claimed_by advert.name jobs)
 
--- the places of what a request with these ports finds: without ports the one that is best for it, else those of its gang
-abbrev pub places_for : Pool → List Frame → List Port → Option (List ℕ)
-places_for pool request [] = option_map (λ m. m.place ∷ []) (best pool request)
-places_for pool request (port ∷ ports) = gang pool request (port ∷ ports)
+-- the places of what a request with these ports finds, for a user with this number: without ports the one that is best for it, else those of its gang
+abbrev pub places_for : Pool → ℕ → List Frame → List Port → Option (List ℕ)
+places_for pool number request [] = option_map (λ m. m.place ∷ []) (best pool request number)
+places_for pool number request (port ∷ ports) = gang pool request (port ∷ ports)
 
 -- what the job at a place finds, by its names
-abbrev pub found : ℕ → List Advert → List QueuedJob → ℕ → Option (List (List ℕ))
-found moment ads jobs i = option_and_then (λ job. option_map (map (name_at ads)) (places_for (pool_in moment ads jobs) job.ad (ports_in job.ad))) (slice_get jobs i)
+abbrev pub found : ℕ → List Advert → List Setting → List QueuedJob → ℕ → Option (List (List ℕ))
+found moment ads settings jobs i =
+    option_and_then (λ job. option_map (map (name_at ads)) (places_for (pool_in moment ads settings jobs) (priority_of job.user settings) job.ad (ports_in job.ad))) (slice_get jobs i)
 
 -- ---- offers
 
@@ -86,7 +91,7 @@ waiting job = record { user = job.user; wants = max 1 (length (ports_in job.ad))
 abbrev pub market_in : State → Market (List ℕ)
 market_in s = record {
   jobs = map waiting s.jobs;
-  find = λ made i. found s.moment s.ads (with_offers made s.jobs) i;
+  find = λ made i. found s.moment s.ads s.priorities (with_offers made s.jobs) i;
   free = λ made. count_by (is_free (with_offers made s.jobs)) s.ads;
   priority = λ user. priority_of user s.priorities;
 }
@@ -115,7 +120,7 @@ over_idle price jobs = sum_by price (filter (λ job. is_idle job.standing) jobs)
 
 -- how many docks of idle jobs literal attributes leave undecided, together
 abbrev pub undecided_for_jobs : State → ℕ
-undecided_for_jobs s = over_idle (λ job. open_by (pool_in s.moment s.ads s.jobs) job.ad (ports_in job.ad)) s.jobs
+undecided_for_jobs s = over_idle (λ job. open_by (pool_in s.moment s.ads s.priorities s.jobs) job.ad (ports_in job.ad)) s.jobs
 
 -- how many ads the narrowest tests of the idle jobs leave, together
 abbrev pub narrowest_for_jobs : State → ℕ

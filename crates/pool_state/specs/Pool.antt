@@ -6,10 +6,10 @@ use Rattle.ad_tree.specs.Ad.{ad_frames}
 use Rattle.ad_store.specs.Stock.{Stock}
 use Rattle.ad_store.specs.Store.{stock_of}
 use Rattle.claim_table.specs.declared.job.Job.{Job}
-use Rattle.claim_table.specs.declared.job.Standing.{Standing}
+use Rattle.claim_table.specs.declared.job.Stage.{Stage}
 use Rattle.claim_table.specs.Table.{jobs_of}
-use Rattle.negotiator.specs.Priorities.{Setting}
-use Rattle.negotiator.specs.Settings.{settings_of}
+use Rattle.claim_table.specs.Priorities.{Setting}
+use Rattle.claim_table.specs.Settings.{settings_of}
 use Rattle.pool_state.specs.declared.books.Books.{Books}
 use Rattle.pool_state.specs.declared.pool.Pool.{Pool}
 use Rattle.pool_state.specs.State.{JobStanding, QueuedJob, State, claimed, idle, matched}
@@ -19,10 +19,10 @@ abbrev pub name_in : Stock → ℕ → List ℕ
 name_in stock slot = option_map_or (λ advert. advert.name) (slice_get stock.ads (position_or_len (λ s. s == slot) stock.slots)) []
 
 -- how a job stands, with the names of its resources in place of their slots
-abbrev pub named_standing : Stock → Standing → JobStanding
-named_standing stock Standing.Idle = idle
-named_standing stock (Standing.Matched slots) = matched (map (name_in stock) slots)
-named_standing stock (Standing.Claimed slots) = claimed (map (name_in stock) slots)
+abbrev pub named_standing : Stock → Stage → JobStanding
+named_standing stock Stage.Idle = idle
+named_standing stock (Stage.Matched slots) = matched (map (name_in stock) slots)
+named_standing stock (Stage.Claimed slots) = claimed (map (name_in stock) slots)
 
 abbrev pub queued : Stock → Job → QueuedJob
 queued stock job = record { name = job.name; user = job.user; size = job.text_len; ad = ad_frames job.request.ad; standing = named_standing stock job.standing }

@@ -2,7 +2,7 @@
 use Rattle.std.specs.Prelude.{ℕ, List, []}
 use Rattle.ad_tree.specs.Frames.{Frame}
 use Rattle.ad_store.specs.Stock.{Advert}
-use Rattle.negotiator.specs.Priorities.{Setting}
+use Rattle.claim_table.specs.Priorities.{Setting}
 
 -- how a job stands: idle, or matched with resources that are offered to it, or claimed with those that it holds, each by their names in order
 pub data JobStanding : Type 0 where

@@ -28,13 +28,14 @@ use Rattle.pool_replies.specs.declared.reply.Reply.{Reply}
 use Rattle.pool_replies.specs.declared.reply.Reply.TheVariants as reply
 use Rattle.pool_replies.specs.declared.rows.AdRow.{AdRow}
 use Rattle.pool_replies.specs.declared.rows.HitRow.{HitRow}
+use Rattle.pool_state.specs.Explaining.{explain, explained_evaluations}
 use Rattle.pool_state.specs.Claiming.{claim, offered_for_claim, release, undecided_for_claim}
 use Rattle.pool_state.specs.Gangs.{gang, narrowest_for_gang, undecided_for_gang}
 use Rattle.pool_state.specs.Negotiation.{narrowest_for_jobs, negotiate, undecided_for_jobs}
 use Rattle.pool_state.specs.Ports.{has_bad_ports}
 use Rattle.pool_state.specs.Queue.{claimed_by, has_job, job_refusal, offered_to, without_job, without_resources}
 use Rattle.pool_state.specs.State.{QueuedJob, State, idle}
-use Rattle.negotiator.specs.Priorities.{lacks_place, with_setting}
+use Rattle.claim_table.specs.Priorities.{lacks_place, with_setting}
 
 -- a refused command changes nothing
 abbrev pub refused : State → Refusal → State × Reply
@@ -187,17 +188,18 @@ step s (command.Query block) = (s, query s.moment s.ads (ad_outcome block))
 step s (command.Submit job user block) = submit s job user (length block) (ad_outcome block)
 step s (command.Remove job) = remove s job
 step s (command.Priority user n) = set_priority s user n
-step s (command.Gang block) = (s, gang s.moment s.ads s.jobs (ad_outcome block))
+step s (command.Gang block) = (s, gang s.moment s.ads s.priorities s.jobs (ad_outcome block))
 step s command.Negotiate = negotiate s
 step s (command.Claim job) = claim s job
 step s (command.Release job) = release s job
+step s (command.Why job) = (s, explain s.moment s.ads s.jobs job)
 step s (command.Unlisten name) = refused s why.UnknownName
 step s (command.Bad number) = refused s (why.Line number)
 
 -- how many docks a command meets in a state that literal attributes leave undecided
 unfoldable pub undecided : State → Command → ℕ
 undecided s (command.Query block) = undecided_docks s.ads (ad_outcome block)
-undecided s (command.Gang block) = undecided_for_gang s.moment s.ads s.jobs (ad_outcome block)
+undecided s (command.Gang block) = undecided_for_gang s.moment s.ads s.priorities s.jobs (ad_outcome block)
 undecided s command.Negotiate = undecided_for_jobs s
 undecided s (command.Claim job) = undecided_for_claim s job
 undecided s other = 0
@@ -206,6 +208,7 @@ undecided s other = 0
 unfoldable pub allowance : State → Command → ℕ
 allowance s (command.Eval expr) = 1
 allowance s (command.EvalIn name expr) = 1
+allowance s (command.Why job) = explained_evaluations s.ads s.jobs job
 allowance s (command.Gang block) = 3 * undecided s (command.Gang block)
 allowance s other = 5 * undecided s other
 
@@ -216,6 +219,7 @@ looks s (command.Advertise name lifetime block) = 2
 looks s (command.Withdraw name) = 1
 looks s (command.Show name) = 1
 looks s (command.EvalIn name expr) = 1
+looks s (command.Why job) = length s.ads
 looks s (command.Query block) = narrowest s.ads (ad_outcome block)
 looks s (command.Gang block) = narrowest_for_gang s.ads (ad_outcome block)
 looks s command.Negotiate = 9 * narrowest_for_jobs s

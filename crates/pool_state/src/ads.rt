@@ -4,7 +4,7 @@ ghost use Rattle.std.specs.Option.{option_and_then};
 ghost use Rattle.ad_parser.proofs.Outcomes.{ad_outcome};
 ghost use Rattle.ad_store.specs.Store.{stock_of};
 ghost use Rattle.claim_table.specs.Table.{jobs_of};
-ghost use Rattle.negotiator.specs.Priorities.{Setting};
+ghost use Rattle.claim_table.specs.Priorities.{Setting};
 ghost use Rattle.pool_script.specs.Form.{is_block_text};
 ghost use Rattle.pool_replies.specs.Replies.{is_printable};
 ghost use Rattle.pool_state.specs.Books.{queue_of};

@@ -9,8 +9,8 @@ ghost use Rattle.bilateral_match.specs.Rows.{rows_of};
 ghost use Rattle.claim_table.specs.Small.{AreSmallJobs};
 ghost use Rattle.claim_table.specs.Table.{jobs_of};
 ghost use Rattle.literal_index.specs.Shown.{IsIndex};
-ghost use Rattle.negotiator.specs.Priorities.{Setting};
-ghost use Rattle.negotiator.specs.Settings.{settings_of};
+ghost use Rattle.claim_table.specs.Priorities.{Setting};
+ghost use Rattle.claim_table.specs.Settings.{settings_of};
 ghost use Rattle.pool_replies.specs.declared.rows.SpinRow.{SpinRow};
 ghost use Rattle.pool_state.specs.Negotiation as steps;
 ghost use Rattle.pool_state.specs.Ports.{HasOwnPorts};
@@ -256,6 +256,7 @@ impl Books {
     /// resources. Where memory is wanting nothing changes.
     pub(crate) fn claim<F: Ledger, E: Ledger, T: Ledger>(
         &mut self,
+        priorities: &Priorities,
         name: &[u8],
         moment: u64,
         tops: &mut Steps<F>,
@@ -263,11 +264,11 @@ impl Books {
         touch: &mut Steps<T>,
     ) -> Result<FreedList, ClaimFault>
         ensures ads { self.new.ads ≡ self.old.ads }
-        ensures claim { (priorities : List Setting)
-            → IsClaimAnswer (stock_of self.old.ads.store) (state_with moment priorities self.old) name.now (state_with moment priorities self.new) result }
-        ensures cost { (priorities : List Setting) → tops.new ≤ tops.old + 4 * undecided_for_claim (state_with moment priorities self.old) name.now }
+        ensures claim { IsClaimAnswer (stock_of self.old.ads.store) (state_with moment (settings_of priorities.now) self.old) name.now
+            (state_with moment (settings_of priorities.now) self.new) result }
+        ensures cost { (settings : List Setting) → tops.new ≤ tops.old + 4 * undecided_for_claim (state_with moment settings self.old) name.now }
         ensures ratio { entry.new + 9216 * tops.old ≤ entry.old + 9216 * tops.new }
-        ensures looks { (priorities : List Setting) → touch.new ≤ touch.old + 9 * offered_for_claim (state_with moment priorities self.old) name.now }
+        ensures looks { (settings : List Setting) → touch.new ≤ touch.old + 9 * offered_for_claim (state_with moment settings self.old) name.now }
     {
         self.ads.store.names_are_apart();
         self.ads.store.slots_are_apart();
@@ -275,7 +276,7 @@ impl Books {
         self.claims.resources_are_apart();
         let ads = &self.ads;
         self.claims
-            .claim(&ads.store, name, moment, tops, entry, touch)
+            .claim(&ads.store, priorities, name, moment, tops, entry, touch)
     }
 
     /// Makes the job of a name idle, and hands back what was offered to it or claimed by it.

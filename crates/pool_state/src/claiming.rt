@@ -2,7 +2,8 @@
 ghost use Rattle.std.specs.Prelude.{◌≡◌, ◌≤◌, ◌+◌, ◌*◌, ℕ, List, true, map, Contains, Err, IfOk, IsTrue};
 ghost use Rattle.ad_store.specs.Store.{stock_of};
 ghost use Rattle.claim_table.specs.declared.answers.ClaimFault.TheVariants as faults;
-ghost use Rattle.negotiator.specs.Priorities.{Setting};
+ghost use Rattle.claim_table.specs.Priorities.{Setting};
+ghost use Rattle.claim_table.specs.Settings.{settings_of};
 ghost use Rattle.pool_replies.specs.Refusals.{is_wrong_state};
 ghost use Rattle.pool_replies.specs.Replies.{is_printable};
 ghost use Rattle.pool_replies.specs.declared.refusal.Refusal.TheVariants as why;
@@ -16,7 +17,7 @@ ghost use Rattle.pool_state.specs.State.{State};
 use crate::books::Books;
 use crate::negotiation::{name_of, names_of};
 use ad_store::Store;
-use claim_table::{ClaimFault, FreedList, JobFault, JobState};
+use claim_table::{ClaimFault, FreedList, JobFault, JobState, Priorities};
 use pool_replies::{Refusal, Reply};
 use pool_steps::Steps;
 use pool_text::{Names, OutOfMemory, Text};
@@ -24,29 +25,31 @@ use std::alloc::Global;
 use std::convert::AsSlice;
 use std::sync::ledger::Ledger;
 
-/// `claim`: what is offered to the job is checked anew, resource by resource, and the job has it where all of it passes. It
+/// `claim`: what is offered to the job is checked anew, resource by resource and by the priorities as they are now, and the job
+/// has it where all of it passes. It
 /// counts in `tops` four at most for each dock of the offer that literal attributes leave undecided, and in `touch` nine at
 /// most for each resource of it.
 #[tactic(auto, unfolding(pool_replies::specs::Replies::is_printable, pool_replies::specs::Refusals::is_printable_refusal))]
 pub(crate) fn claim<F: Ledger, E: Ledger, T: Ledger>(
     alloc: Global,
     books: &mut Books,
+    priorities: &Priorities,
     job: &Text,
     moment: u64,
     tops: &mut Steps<F>,
     entry: &mut Steps<E>,
     touch: &mut Steps<T>,
 ) -> Result<Reply, OutOfMemory>
-    ensures step { IfOk result (λ reply. (priorities : List Setting)
-        → steps.claim (state_with moment priorities books.old) job.now ≡ (state_with moment priorities books.new, reply)) }
+    ensures step { IfOk result (λ reply. steps.claim (state_with moment (settings_of priorities.now) books.old) job.now
+        ≡ (state_with moment (settings_of priorities.now) books.new, reply)) }
     ensures printable { IfOk result (λ reply. IsTrue (is_printable reply)) }
-    ensures cost { (priorities : List Setting) → tops.new ≤ tops.old + 4 * steps.undecided_for_claim (state_with moment priorities books.old) job.now }
+    ensures cost { (settings : List Setting) → tops.new ≤ tops.old + 4 * steps.undecided_for_claim (state_with moment settings books.old) job.now }
     ensures ratio { entry.new + 9216 * tops.old ≤ entry.old + 9216 * tops.new }
-    ensures looks { (priorities : List Setting) → touch.new ≤ touch.old + 9 * steps.offered_for_claim (state_with moment priorities books.old) job.now }
+    ensures looks { (settings : List Setting) → touch.new ≤ touch.old + 9 * steps.offered_for_claim (state_with moment settings books.old) job.now }
 {
     let named = job.copy()?;
     let names = names_given(alloc, books, job.bytes())?;
-    let answer = books.claim(job.bytes(), moment, tops, entry, touch);
+    let answer = books.claim(priorities, job.bytes(), moment, tops, entry, touch);
     claim_reply(alloc, &books.ads.store, named, names, answer)
 }
 

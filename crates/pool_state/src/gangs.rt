@@ -6,6 +6,7 @@ ghost use Rattle.ad_tree.specs.Ad.{ad_frames};
 ghost use Rattle.ad_tree.specs.Requests.{ArePorts};
 ghost use Rattle.ad_tree.specs.Small.{IsSmall};
 ghost use Rattle.bilateral_match.specs.Rows.{rows_of};
+ghost use Rattle.claim_table.specs.Settings.{settings_of};
 ghost use Rattle.gang_ports.specs.Gangs.{looks_most};
 ghost use Rattle.gang_ports.specs.Ports.{ports_of};
 ghost use Rattle.literal_index.specs.Shown.{IsIndex};
@@ -21,6 +22,7 @@ use crate::negotiation::names_of;
 use crate::pool::faulty;
 use ad_parser::parse_ad;
 use ad_tree::{Ad, Ports, Request};
+use claim_table::{Priorities, Standing};
 use gang_ports::{PortsFault, first_gang, read_ports};
 use pool_replies::{Refusal, Reply};
 use pool_steps::Steps;
@@ -36,6 +38,7 @@ use std::sync::ledger::Ledger;
 pub(crate) fn gang<F: Ledger, E: Ledger, T: Ledger>(
     alloc: Global,
     books: &Books,
+    priorities: &Priorities,
     moment: u64,
     block: &[u8],
     tops: &mut Steps<F>,
@@ -44,9 +47,9 @@ pub(crate) fn gang<F: Ledger, E: Ledger, T: Ledger>(
 ) -> Result<Reply, OutOfMemory>
     requires block { IsTrue (is_block_text block.now) }
     requires index { IsIndex books.now.ads.index (rows_of (stock_of books.now.ads.store)) }
-    ensures reply { IfOk result (λ reply. steps.gang moment (ads_of books.now.ads) (queue_of books.now) (ad_outcome block.now) ≡ reply) }
+    ensures reply { IfOk result (λ reply. steps.gang moment (ads_of books.now.ads) (settings_of priorities.now) (queue_of books.now) (ad_outcome block.now) ≡ reply) }
     ensures printable { IfOk result (λ reply. IsTrue (is_printable reply)) }
-    ensures cost { tops.new ≤ tops.old + 3 * steps.undecided_for_gang moment (ads_of books.now.ads) (queue_of books.now) (ad_outcome block.now) }
+    ensures cost { tops.new ≤ tops.old + 3 * steps.undecided_for_gang moment (ads_of books.now.ads) (settings_of priorities.now) (queue_of books.now) (ad_outcome block.now) }
     ensures ratio { entry.new + 9216 * tops.old ≤ entry.old + 9216 * tops.new }
     ensures looks { touch.new ≤ touch.old + steps.narrowest_for_gang (ads_of books.now.ads) (ad_outcome block.now) }
 {
@@ -58,7 +61,9 @@ pub(crate) fn gang<F: Ledger, E: Ledger, T: Ledger>(
         return Ok(Reply::Refused(Refusal::BadPorts));
     };
     let request = Request { ad, ports };
-    let names = gang_names(alloc, books, &request, moment, tops, entry, touch);
+    let names = gang_names(
+        alloc, books, priorities, &request, moment, tops, entry, touch,
+    );
     drop(request);
     Ok(line(names?))
 }
@@ -79,6 +84,7 @@ pub(crate) fn listed_ports(alloc: Global, ad: &Ad) -> Result<Option<Ports>, OutO
 fn gang_names<F: Ledger, E: Ledger, T: Ledger>(
     alloc: Global,
     books: &Books,
+    priorities: &Priorities,
     request: &Request,
     moment: u64,
     tops: &mut Steps<F>,
@@ -88,25 +94,21 @@ fn gang_names<F: Ledger, E: Ledger, T: Ledger>(
     requires ports { ports_of (ad_frames request.now.ad) ≡ Some request.now.ports }
     requires index { IsIndex books.now.ads.index (rows_of (stock_of books.now.ads.store)) }
     ensures names { IfOk result (λ names. names
-        ≡ steps.gang_names moment (ads_of books.now.ads) (queue_of books.now) (ad_frames request.now.ad) request.now.ports) }
+        ≡ steps.gang_names moment (ads_of books.now.ads) (settings_of priorities.now) (queue_of books.now) (ad_frames request.now.ad) request.now.ports) }
     ensures cost { tops.new ≤ tops.old
-        + 3 * steps.open_docks_of (pool_in moment (ads_of books.now.ads) (queue_of books.now)) (ad_frames request.now.ad) request.now.ports }
+        + 3 * steps.open_docks_of (pool_in moment (ads_of books.now.ads) (settings_of priorities.now) (queue_of books.now)) (ad_frames request.now.ad) request.now.ports }
     ensures ratio { IsSmall (ad_frames request.now.ad) → entry.new + 9216 * tops.old ≤ entry.old + 9216 * tops.new }
     ensures looks { touch.new ≤ touch.old + looks_most (ads_of books.now.ads) (ad_frames request.now.ad) request.now.ports }
 {
     let ads = &books.ads;
     ads.store.names_are_apart();
     ads.store.slots_are_apart();
+    let standing = Standing {
+        claims: &books.claims,
+        priorities,
+    };
     let found = first_gang(
-        alloc,
-        &ads.store,
-        &ads.index,
-        &books.claims,
-        request,
-        moment,
-        tops,
-        entry,
-        touch,
+        alloc, &ads.store, &ads.index, &standing, request, moment, tops, entry, touch,
     )?;
     let Some(slots) = found else {
         return Ok(None);

@@ -3,8 +3,8 @@ ghost use Rattle.std.specs.Prelude.{◌≡◌, ◌≤◌, ◌^◌, ℕ, List, le
 ghost use Rattle.ad_parser.proofs.Outcomes.{ad_outcome};
 ghost use Rattle.ad_tree.specs.Ad.{ad_frames};
 ghost use Rattle.ad_tree.specs.Requests.{ArePorts};
-ghost use Rattle.negotiator.specs.Priorities.{Setting};
-ghost use Rattle.negotiator.specs.Settings.{settings_of};
+ghost use Rattle.claim_table.specs.Priorities.{Setting};
+ghost use Rattle.claim_table.specs.Settings.{settings_of};
 ghost use Rattle.pool_script.specs.Form.{is_block_text};
 ghost use Rattle.pool_replies.specs.Refusals.{is_printable_refusal};
 ghost use Rattle.pool_replies.specs.Replies.{is_printable};

@@ -6,6 +6,7 @@ mod ads;
 mod books;
 mod claiming;
 mod eval;
+mod explaining;
 mod gangs;
 mod indexed;
 mod jobs;

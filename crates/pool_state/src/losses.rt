@@ -101,8 +101,8 @@ fn loss_named(alloc: Global, books: &Books, job: &[u8]) -> Result<NoticeList, Ou
     Ok(list)
 }
 
-// The place of the job of a name.
-fn place_of(claims: &ClaimTable, job: &[u8]) -> Option<usize>
+/// The place of the job of a name.
+pub(crate) fn place_of(claims: &ClaimTable, job: &[u8]) -> Option<usize>
     ensures within { IfSome result (λ i. i < length (jobs_of claims.now)) }
     ensures place { result ≡ numbered job.now (jobs_of claims.now) }
 {

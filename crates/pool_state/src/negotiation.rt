@@ -3,7 +3,7 @@ ghost use Rattle.std.specs.Prelude.{◌≡◌, ◌+◌, ◌*◌, ◌≤◌, map,
 ghost use Rattle.ad_store.specs.Store.{stock_of};
 ghost use Rattle.bilateral_match.specs.Rows.{rows_of};
 ghost use Rattle.literal_index.specs.Shown.{IsIndex};
-ghost use Rattle.negotiator.specs.Settings.{settings_of};
+ghost use Rattle.claim_table.specs.Settings.{settings_of};
 ghost use Rattle.pool_replies.specs.Replies.{is_printable};
 ghost use Rattle.pool_state.specs.Negotiation as steps;
 ghost use Rattle.pool_state.specs.Pool.{name_in, state_with};

@@ -23,6 +23,7 @@ use crate::ads::{advertise, list, show, withdraw};
 use crate::books::Books;
 use crate::claiming::{claim, release};
 use crate::eval::{eval, eval_in};
+use crate::explaining::explain;
 use crate::gangs::gang;
 use crate::jobs::{remove, set_priority, submit};
 use crate::losses::{granted, stale};
@@ -70,9 +71,10 @@ impl Pool {
     /// Runs a command and posts its notices to a desk, whose names listen; `unlisten` takes one of them off. A box that fails is
     /// dropped before the next post, and changes neither the reply nor the state. Where memory is wanting nothing is posted.
     ///
-    /// It counts in `tops` the whole evaluations, one at most for `eval` and `evalin`, and for any other command five at most
-    /// for each dock that it meets and that literal attributes leave undecided (three for `gang`), in `entry` the attributes
-    /// that they enter, and in `touch` the ads of the store that are looked into.
+    /// It counts in `tops` the whole evaluations, one at most for `eval` and `evalin`, for `why` one at most for each ad and
+    /// conjunct of either side, and for any other command five at most for each dock that it meets and that literal attributes
+    /// leave undecided (three for `gang`), in `entry` the attributes that they enter, and in `touch` the ads of the store that
+    /// are looked into.
     #[tactic(auto, unfolding(crate::specs::Pool::state_of, crate::specs::Pool::is_spent))]
     pub fn step<D: Notices, F: Ledger, E: Ledger, T: Ledger>(
         &mut self,
@@ -225,6 +227,7 @@ impl Pool {
             Command::Claim(job) => claim(
                 self.alloc,
                 &mut self.books,
+                &self.priorities,
                 job,
                 self.moment,
                 tops,
@@ -271,6 +274,7 @@ impl Pool {
             Command::Gang(block) => gang(
                 self.alloc,
                 &self.books,
+                &self.priorities,
                 self.moment,
                 block.bytes(),
                 tops,
@@ -319,6 +323,15 @@ impl Pool {
                 self.moment,
                 name.bytes(),
                 expr.bytes(),
+                tops,
+                entry,
+                touch,
+            ),
+            Command::Why(job) => explain(
+                alloc,
+                &self.books,
+                self.moment,
+                job.bytes(),
                 tops,
                 entry,
                 touch,

@@ -7,7 +7,7 @@ use Rattle.bilateral_match.proofs.choosing.best_knowing.Goals as goal
 
 pub slot_of-requires : goal.slot_of-requires
 slot_of-requires g c =
-    first-within (pool_of c.args.moment (stock_of c.args.store.now) (g.H.Holdings.is_offered c.args.held.now) (g.H.Holdings.holding c.args.held.now)) (ad_frames c.args.request.now.ad) (length (stock_of c.args.store.now).slots) c.in_ok-places.places c.in_ok-first.first c.in_ok-first.ensures.first c.in_ok-places.ensures.held
+    first-within (pool_of c.args.moment (stock_of c.args.store.now) (g.H.Holdings.is_offered c.args.held.now) (g.H.Holdings.holding c.args.held.now)) (ad_frames c.args.request.now.ad) c.args.number (length (stock_of c.args.store.now).slots) c.in_ok-places.places c.in_ok-first.first c.in_ok-first.ensures.first c.in_ok-places.ensures.held
 
 pub returns-in_err-first-clause-evaluations : goal.returns-in_err-first-clause-evaluations
 returns-in_err-first-clause-evaluations g c =
@@ -24,12 +24,12 @@ pub returns-clause-best : goal.returns-clause-best
 returns-clause-best g c =
     let pool = pool_of c.args.moment (stock_of c.args.store.now) (g.H.Holdings.is_offered c.args.held.now) (g.H.Holdings.holding c.args.held.now) in
     c.slot_of.ensures.slot
-    ∙ ap (option_map (λ m. slot_at (stock_of c.args.store.now) m.place)) (found-best pool (ad_frames c.args.request.now.ad) c.in_ok-places.places c.in_ok-places.ensures.places c.in_ok-first.first c.in_ok-first.ensures.first)
+    ∙ ap (option_map (λ m. slot_at (stock_of c.args.store.now) m.place)) (found-best pool (ad_frames c.args.request.now.ad) c.in_ok-places.places c.in_ok-places.ensures.places c.args.number c.in_ok-first.first c.in_ok-first.ensures.first)
 
 pub returns-clause-free : goal.returns-clause-free
 returns-clause-free g c =
     slot-free (stock_of c.args.store.now) (g.H.Holdings.is_offered c.args.held.now) c.in_ok-first.first c.slot_of.result
-    (first-free (pool_of c.args.moment (stock_of c.args.store.now) (g.H.Holdings.is_offered c.args.held.now) (g.H.Holdings.holding c.args.held.now)) (ad_frames c.args.request.now.ad) c.in_ok-places.places c.in_ok-first.first c.in_ok-first.ensures.first)
+    (first-free (pool_of c.args.moment (stock_of c.args.store.now) (g.H.Holdings.is_offered c.args.held.now) (g.H.Holdings.holding c.args.held.now)) (ad_frames c.args.request.now.ad) c.args.number c.in_ok-places.places c.in_ok-first.first c.in_ok-first.ensures.first)
     c.slot_of.ensures.slot
 
 pub returns-clause-evaluations : goal.returns-clause-evaluations

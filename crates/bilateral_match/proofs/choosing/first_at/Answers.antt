@@ -31,11 +31,11 @@ loop-place-preserved g c =
     let pool = pool_of c.args.moment (stock_of c.args.store.now) (g.H.Holdings.is_offered c.args.held.now) (g.H.Holdings.holding c.args.held.now) in
     let request = ad_frames c.args.request.now.ad in
     record {
-      first = first-grows (member_at pool request) c.as_slice-place-items.result.now c.loop-place.place-index
-          c.loop-place.first c.earlier-first.result (member_at pool request (get_or c.as_slice-place-items.result.now c.loop-place.place-index 0)) c.loop-place-test.true c.loop-place.invariant.first refl
+      first = first-grows (member_at pool request c.args.number) c.as_slice-place-items.result.now c.loop-place.place-index
+          c.loop-place.first c.earlier-first.result (member_at pool request c.args.number (get_or c.as_slice-place-items.result.now c.loop-place.place-index 0)) c.loop-place-test.true c.loop-place.invariant.first refl
           (c.earlier-first.ensures ∙ ap (earlier c.loop-place.first) c.in_ok-next.ensures.member
-          ∙ ap (λ bar. earlier c.loop-place.first (member_above bar (member_at pool request (get_or c.as_slice-place-items.result.now c.loop-place.place-index 0)))) c.rank_of-bar.ensures
-          ∙ earlier-above c.loop-place.first (member_at pool request (get_or c.as_slice-place-items.result.now c.loop-place.place-index 0)));
+          ∙ ap (λ bar. earlier c.loop-place.first (member_above bar (member_at pool request c.args.number (get_or c.as_slice-place-items.result.now c.loop-place.place-index 0)))) c.rank_of-bar.ensures
+          ∙ earlier-above c.loop-place.first (member_at pool request c.args.number (get_or c.as_slice-place-items.result.now c.loop-place.place-index 0)));
       evaluations = grows (evaluations_for pool request) c.as_slice-place-items.result.now c.args.places.now c.as_slice-place-items.ensures
           c.loop-place.place-index c.args.tops.now c.loop-place.tops c.next_at.new.tops c.loop-place.invariant.evaluations c.loop-place-test.true c.next_at.ensures.evaluations;
       entries = grows (attributes_for pool request) c.as_slice-place-items.result.now c.args.places.now c.as_slice-place-items.ensures
@@ -47,7 +47,7 @@ loop-place-preserved g c =
 
 pub returns-clause-first : goal.returns-clause-first
 returns-clause-first g c =
-    first-ends (member_at (pool_of c.args.moment (stock_of c.args.store.now) (g.H.Holdings.is_offered c.args.held.now) (g.H.Holdings.holding c.args.held.now)) (ad_frames c.args.request.now.ad)) c.as_slice-place-items.result.now c.loop-place.place-index c.args.places.now
+    first-ends (member_at (pool_of c.args.moment (stock_of c.args.store.now) (g.H.Holdings.is_offered c.args.held.now) (g.H.Holdings.holding c.args.held.now)) (ad_frames c.args.request.now.ad) c.args.number) c.as_slice-place-items.result.now c.loop-place.place-index c.args.places.now
     c.loop-place.first c.as_slice-place-items.ensures c.loop-place-test.false c.loop-place.invariant.first
 
 pub returns-clause-evaluations : goal.returns-clause-evaluations

@@ -6,8 +6,8 @@ use Rattle.bilateral_match.proofs.laws.no_other_member_comes_before_the_best.Goa
 
 pub returns : goal.returns
 returns c = record {
-  are = λ pool. first-is-best (members pool (ad_frames c.args.request.now));
-  alone = λ pool other h.
-      let ms = members pool (ad_frames c.args.request.now) in
-      one-first ms ms other (best pool (ad_frames c.args.request.now)) (λ f. refl) h (first-is-best ms);
+  are = λ pool number. first-is-best (members pool (ad_frames c.args.request.now) number);
+  alone = λ pool number other h.
+      let ms = members pool (ad_frames c.args.request.now) number in
+      one-first ms ms other (best pool (ad_frames c.args.request.now) number) (λ f. refl) h (first-is-best ms);
 }

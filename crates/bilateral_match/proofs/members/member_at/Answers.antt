@@ -1,4 +1,4 @@
-use Rattle.std.proofs.Common.{◌≡◌, IfOk, Option, Some, ap, arith, int_lt, option_map, refl, rules, slice_get, subst, sym, true, w64, ◌∙◌}
+use Rattle.std.proofs.Common.{◌≡◌, IfOk, Option, Some, ap, arith, option_map, refl, rules, slice_get, subst, sym, w64, ◌∙◌}
 use Rattle.std.specs.Option.{option_map_or}
 use Rattle.std.proofs.lemmas.Int.{to_z-of_z}
 use mir.Val.{SFits, of_z, to_z}
@@ -7,11 +7,12 @@ use Rattle.ad_store.specs.Holdings.{holding_of}
 use Rattle.ad_store.specs.Store.{stock_of}
 use Rattle.eval_scope.specs.World.{attribute_count}
 use Rattle.bilateral_match.specs.declared.member.Member.{Member}
-use Rattle.bilateral_match.specs.Pool.{holder_world, pool_of, regard_in}
-use Rattle.bilateral_match.specs.Scan.{member_above, ranks_of_dock}
+use Rattle.bilateral_match.specs.declared.member.Preemption.{Preemption}
+use Rattle.bilateral_match.specs.Pool.{hold_of, holder_world, pool_of}
+use Rattle.bilateral_match.specs.Scan.{member_above, ranks_of_dock, where_won, won_from}
 use Rattle.bilateral_match.proofs.BarLemmas.{none-above, ranks-there, won-above}
 use Rattle.bilateral_match.proofs.KnownLemmas.{known-is}
-use Rattle.bilateral_match.proofs.MemberWeighLemmas.{are-ranks, attributes-in-all, attributes-of-dock, five-in-all, four-of-five, holder-stands, holder-stored, holder-there, none-dead, none-offered, won-by, won-or-lost}
+use Rattle.bilateral_match.proofs.MemberWeighLemmas.{are-ranks, attributes-in-all, attributes-of-dock, five-in-all, four-of-five, holder-stands, holder-stored, none-dead, none-offered, won-by, won-or-lost}
 use Rattle.bilateral_match.proofs.SmallLemmas.{found-small, holder-small}
 use Rattle.bilateral_match.proofs.members.member_at.Goals as goal
 
@@ -19,13 +20,13 @@ pub returns-then-offered-clause-member : goal.returns-then-offered-clause-member
 returns-then-offered-clause-member g c =
     let pool = pool_of c.args.moment (stock_of c.args.store.now) (g.H.Holdings.is_offered c.args.held.now) (g.H.Holdings.holding c.args.held.now) in
     let request = ad_frames c.args.request.now.ad in
-    ap (member_above c.args.bar) (none-offered c.args.moment (stock_of c.args.store.now) (g.H.Holdings.is_offered c.args.held.now) (g.H.Holdings.holding c.args.held.now) request c.args.place c.at-slot.result c.at-slot.ensures.place (sym c.offered.ensures ∙ c.if-offered.true) (slice_get pool.ads c.args.place))
+    ap (member_above c.args.bar) (none-offered c.args.moment (stock_of c.args.store.now) (g.H.Holdings.is_offered c.args.held.now) (g.H.Holdings.holding c.args.held.now) request c.args.place c.at-slot.result c.at-slot.ensures.place c.args.number (sym c.offered.ensures ∙ c.if-offered.true) (slice_get pool.ads c.args.place))
 
 pub returns-then-not-is_live-clause-member : goal.returns-then-not-is_live-clause-member
 returns-then-not-is_live-clause-member g c =
     let pool = pool_of c.args.moment (stock_of c.args.store.now) (g.H.Holdings.is_offered c.args.held.now) (g.H.Holdings.holding c.args.held.now) in
     let request = ad_frames c.args.request.now.ad in
-    ap (member_above c.args.bar) (none-dead c.args.moment (stock_of c.args.store.now) (g.H.Holdings.is_offered c.args.held.now) (g.H.Holdings.holding c.args.held.now) request c.args.place c.at-slot.result c.at-slot.ensures.place (slice_get pool.ads c.args.place) (c.is_live.ensures c.args.place c.at-slot.ensures.place ∙ ap Some c.if-not-is_live.true))
+    ap (member_above c.args.bar) (none-dead c.args.moment (stock_of c.args.store.now) (g.H.Holdings.is_offered c.args.held.now) (g.H.Holdings.holding c.args.held.now) request c.args.place c.at-slot.result c.at-slot.ensures.place c.args.number (slice_get pool.ads c.args.place) (c.is_live.ensures c.args.place c.at-slot.ensures.place ∙ ap Some c.if-not-is_live.true))
 
 pub returns-in_err-weighed-clause-evaluations : goal.returns-in_err-weighed-clause-evaluations
 returns-in_err-weighed-clause-evaluations g c =
@@ -48,7 +49,7 @@ returns-in_err-weighed-clause-ratio g c request ads holders =
 pub returns-in_default-clause-member : goal.returns-in_default-clause-member
 returns-in_default-clause-member g c =
     let pool = pool_of c.args.moment (stock_of c.args.store.now) (g.H.Holdings.is_offered c.args.held.now) (g.H.Holdings.holding c.args.held.now) in
-    none-above pool (ad_frames c.args.request.now.ad) c.args.place c.args.bar (ad_frames c.look-ad.result.now) (slice_get pool.ads c.args.place) (c.look-ad.ensures.ad c.args.place c.at-slot.ensures.place)
+    none-above pool (ad_frames c.args.request.now.ad) c.args.number c.args.place c.args.bar (ad_frames c.look-ad.result.now) (slice_get pool.ads c.args.place) (c.look-ad.ensures.ad c.args.place c.at-slot.ensures.place)
     (sym c.in_default.is ∙ c.in_ok-weighed.ensures.ranks)
 
 pub returns-in_default-clause-evaluations : goal.returns-in_default-clause-evaluations
@@ -74,7 +75,7 @@ returns-clause-evaluations g c =
     let pool = pool_of c.args.moment (stock_of c.args.store.now) (g.H.Holdings.is_offered c.args.held.now) (g.H.Holdings.holding c.args.held.now) in
     let ad = ad_frames c.look-ad.result.now in
     let request = ad_frames c.args.request.now.ad in
-    omega (arith, c.ranks.ensures.evaluations, c.is_won-won.ensures.evaluations, five-in-all c.args.moment (stock_of c.args.store.now) (g.H.Holdings.is_offered c.args.held.now) (g.H.Holdings.holding c.args.held.now) request c.args.place c.at-slot.result c.at-slot.ensures.place ad (sym c.offered.ensures ∙ c.if-offered.false) (slice_get pool.ads c.args.place) c.in-Some.ranks (c.look-ad.ensures.ad c.args.place c.at-slot.ensures.place) (ranks-there c.args.bar (ranks_of_dock pool.moment request ad) c.in-Some.ranks (sym c.in-Some.is ∙ c.in_ok-weighed.ensures.ranks)).0)
+    omega (arith, c.ranks.ensures.evaluations, c.won_from-won.ensures.evaluations, five-in-all c.args.moment (stock_of c.args.store.now) (g.H.Holdings.is_offered c.args.held.now) (g.H.Holdings.holding c.args.held.now) request c.args.place c.at-slot.result c.at-slot.ensures.place ad (sym c.offered.ensures ∙ c.if-offered.false) (slice_get pool.ads c.args.place) c.in-Some.ranks (c.look-ad.ensures.ad c.args.place c.at-slot.ensures.place) (ranks-there c.args.bar (ranks_of_dock pool.moment request ad) c.in-Some.ranks (sym c.in-Some.is ∙ c.in_ok-weighed.ensures.ranks)).0)
 
 pub returns-clause-entries : goal.returns-clause-entries
 returns-clause-entries g c =
@@ -82,11 +83,11 @@ returns-clause-entries g c =
     let ad = ad_frames c.look-ad.result.now in
     let request = ad_frames c.args.request.now.ad in
     let taken = ap (λ h. option_map_or (λ h. attribute_count (holder_world c.args.moment (stock_of c.args.store.now) h)) h 0) (c.holder-holder.ensures.who) in
-    omega (arith, taken, c.ranks.ensures.entries, c.is_won-won.ensures.entries, attributes-in-all c.args.moment (stock_of c.args.store.now) (g.H.Holdings.is_offered c.args.held.now) (g.H.Holdings.holding c.args.held.now) request c.args.place c.at-slot.result c.at-slot.ensures.place ad (sym c.offered.ensures ∙ c.if-offered.false) (slice_get pool.ads c.args.place) c.in-Some.ranks (c.look-ad.ensures.ad c.args.place c.at-slot.ensures.place) (ranks-there c.args.bar (ranks_of_dock pool.moment request ad) c.in-Some.ranks (sym c.in-Some.is ∙ c.in_ok-weighed.ensures.ranks)).0)
+    omega (arith, taken, c.ranks.ensures.entries, c.won_from-won.ensures.entries, attributes-in-all c.args.moment (stock_of c.args.store.now) (g.H.Holdings.is_offered c.args.held.now) (g.H.Holdings.holding c.args.held.now) request c.args.place c.at-slot.result c.at-slot.ensures.place ad (sym c.offered.ensures ∙ c.if-offered.false) (slice_get pool.ads c.args.place) c.in-Some.ranks (c.look-ad.ensures.ad c.args.place c.at-slot.ensures.place) (ranks-there c.args.bar (ranks_of_dock pool.moment request ad) c.in-Some.ranks (sym c.in-Some.is ∙ c.in_ok-weighed.ensures.ranks)).0)
 
 pub returns-clause-ratio : goal.returns-clause-ratio
 returns-clause-ratio g c request ads holders =
-    omega (arith, c.ranks.ensures.ratio request (found-small (stock_of c.args.store.now).ads c.args.place (ad_frames c.look-ad.result.now) ads (c.look-ad.ensures.ad c.args.place c.at-slot.ensures.place)), c.is_won-won.ensures.ratio (holder-small (g.H.Holdings.holding c.args.held.now) c.at-slot.result c.holder-holder.result c.holder-holder.ensures.who holders) ads)
+    omega (arith, c.ranks.ensures.ratio request (found-small (stock_of c.args.store.now).ads c.args.place (ad_frames c.look-ad.result.now) ads (c.look-ad.ensures.ad c.args.place c.at-slot.ensures.place)), c.won_from-won.ensures.ratio (holder-small (g.H.Holdings.holding c.args.held.now) c.at-slot.result c.holder-holder.result c.holder-holder.ensures.who holders) ads)
 
 pub returns-clause-member : goal.returns-clause-member
 returns-clause-member g c =
@@ -102,22 +103,21 @@ returns-clause-member g c =
     let given = to_z w64 (of_z w64 c.in-Some.ranks.regard) in
     let there = ranks-there c.args.bar (ranks_of_dock pool.moment request ad) c.in-Some.ranks (sym c.in-Some.is ∙ c.in_ok-weighed.ensures.ranks) in
     let ranks = there.0 in
-    let won = option_map_or (λ h. int_lt (regard_in (holder_world c.args.moment stock h)) given) (option_map holding_of c.holder-holder.result) true in
     let regards = to_z-of_z w64 c.in-Some.ranks.regard fits ∙ (are-ranks c.args.moment request ad c.in-Some.ranks (sym ranks)).2 in
-    let claimed = c.is_some.ensures ∙ holder-there stock holding slot c.holder-holder.result c.holder-holder.ensures.who in
+    let won = won_from c.args.number given (option_map (hold_of c.args.moment stock) (option_map holding_of c.holder-holder.result)) in
     subst (λ (m : Option Member). IfOk c.where_won.result (λ member. member ≡ m))
-    (won-above c.args.bar won c.in-Some.ranks c.is_some.result c.args.place there.1
-    ∙ ap (member_above c.args.bar) (won-or-lost c.args.moment stock offered holding request c.args.place slot at ad (slice_get pool.ads c.args.place) c.in-Some.ranks c.is_some.result won
-    (c.look-ad.ensures.ad c.args.place at) (c.is_live.ensures c.args.place at ∙ ap Some c.if-not-is_live.false) (sym c.offered.ensures ∙ c.if-offered.false) ranks
-    (won-by c.args.moment stock offered holding request c.args.place slot at ad given (option_map holding_of c.holder-holder.result) won regards c.holder-holder.ensures.who refl) claimed))
-    (c.where_won.ensures won c.is_won-won.ensures.won)
+    (won-above c.args.bar won c.in-Some.ranks c.args.place there.1
+    ∙ ap (λ (w : Option Preemption). member_above c.args.bar (where_won w c.in-Some.ranks c.args.place)) (won-by c.args.moment stock offered holding request c.args.place slot at c.args.number ad given (option_map holding_of c.holder-holder.result) regards c.holder-holder.ensures.who)
+    ∙ ap (member_above c.args.bar) (won-or-lost c.args.moment stock offered holding request c.args.place slot at c.args.number ad (slice_get pool.ads c.args.place) c.in-Some.ranks
+    (c.look-ad.ensures.ad c.args.place at) (c.is_live.ensures c.args.place at ∙ ap Some c.if-not-is_live.false) (sym c.offered.ensures ∙ c.if-offered.false) ranks))
+    (c.where_won.ensures won c.won_from-won.ensures.won)
 
-pub is_won-won-requires-clause-stored : goal.is_won-won-requires-clause-stored
-is_won-won-requires-clause-stored g c =
+pub won_from-won-requires-clause-stored : goal.won_from-won-requires-clause-stored
+won_from-won-requires-clause-stored g c =
     holder-stored (stock_of c.args.store.now) (g.H.Holdings.holding c.args.held.now) c.at-slot.result c.holder-holder.result c.requires.stored (c.holder-holder.ensures.who)
 
-pub is_won-won-requires-clause-stands : goal.is_won-won-requires-clause-stands
-is_won-won-requires-clause-stands g c =
+pub won_from-won-requires-clause-stands : goal.won_from-won-requires-clause-stands
+won_from-won-requires-clause-stands g c =
     holder-stands (stock_of c.args.store.now) (g.H.Holdings.holding c.args.held.now) c.at-slot.result c.holder-holder.result c.holder-holder.ensures.stands
 
 pub ranks-requires-clause-known : goal.ranks-requires-clause-known

@@ -42,9 +42,9 @@ loop-place-preserved g c =
     let pool = pool_of c.args.moment (stock_of c.args.store.now) (g.H.Holdings.is_offered c.args.held.now) (g.H.Holdings.holding c.args.held.now) in
     let request = ad_frames c.args.request.now.ad in
     record {
-      found = finds-next (member_at pool request) c.as_slice-place-items.result.now c.loop-place.place-index
+      found = finds-next (member_at pool request c.args.number) c.as_slice-place-items.result.now c.loop-place.place-index
           c.loop-place.found.items c.keep.new.found.items c.in_ok-next.next c.loop-place-test.true c.loop-place.invariant.found
-          (c.in_ok-next.ensures.member ∙ no-bar (member_at pool request (get_or c.as_slice-place-items.result.now c.loop-place.place-index 0))) c.in_ok-keep.ensures;
+          (c.in_ok-next.ensures.member ∙ no-bar (member_at pool request c.args.number (get_or c.as_slice-place-items.result.now c.loop-place.place-index 0))) c.in_ok-keep.ensures;
       evaluations = grows (evaluations_for pool request) c.as_slice-place-items.result.now c.args.places.now c.as_slice-place-items.ensures
           c.loop-place.place-index c.args.tops.now c.loop-place.tops c.member_at.new.tops c.loop-place.invariant.evaluations c.loop-place-test.true c.member_at.ensures.evaluations;
       entries = grows (attributes_for pool request) c.as_slice-place-items.result.now c.args.places.now c.as_slice-place-items.ensures
@@ -56,7 +56,7 @@ loop-place-preserved g c =
 
 pub returns-clause-found : goal.returns-clause-found
 returns-clause-found g c =
-    finds-all (member_at (pool_of c.args.moment (stock_of c.args.store.now) (g.H.Holdings.is_offered c.args.held.now) (g.H.Holdings.holding c.args.held.now)) (ad_frames c.args.request.now.ad)) c.as_slice-place-items.result.now c.loop-place.place-index c.args.places.now
+    finds-all (member_at (pool_of c.args.moment (stock_of c.args.store.now) (g.H.Holdings.is_offered c.args.held.now) (g.H.Holdings.holding c.args.held.now)) (ad_frames c.args.request.now.ad) c.args.number) c.as_slice-place-items.result.now c.loop-place.place-index c.args.places.now
     c.loop-place.found.items c.as_slice-place-items.ensures c.loop-place-test.false c.loop-place.invariant.found
 
 pub returns-clause-evaluations : goal.returns-clause-evaluations

@@ -13,7 +13,7 @@ abbrev pub invariant-loop-place : goal.invariant-loop-place
 invariant-loop-place g l =
     let pool = pool_of l.moment (stock_of l.store) (g.H.Holdings.is_offered l.held) (g.H.Holdings.holding l.held) in
     record {
-      found : l.found.items ≡ filter_map (member_at pool (ad_frames l.request.ad)) (take l.place-index l.place-items);
+      found : l.found.items ≡ filter_map (member_at pool (ad_frames l.request.ad) l.number) (take l.place-index l.place-items);
       evaluations : l.tops ≤ l.initial.tops + sum_by (evaluations_for pool (ad_frames l.request.ad)) (take l.place-index l.place-items);
       entries : l.entry ≤ l.initial.entry + sum_by (attributes_for pool (ad_frames l.request.ad)) (take l.place-index l.place-items);
       ratio : IsSmall (ad_frames l.request.ad) → AreSmallAds (stock_of l.store).ads → AreSmallHolders (g.H.Holdings.holding l.held) → l.entry + 9216 * l.initial.tops ≤ l.initial.entry + 9216 * l.tops;

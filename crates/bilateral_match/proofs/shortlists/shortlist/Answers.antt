@@ -35,7 +35,7 @@ returns-clause-looks g c = omega (arith, c.members_at.ensures.looks, c.in_ok-pla
 pub slots_in_order-requires : goal.slots_in_order-requires
 slots_in_order-requires g c =
     let stock = stock_of c.args.store.now in
-    let found = found-within (pool_of c.args.moment stock (g.H.Holdings.is_offered c.args.held.now) (g.H.Holdings.holding c.args.held.now)) (ad_frames c.args.request.now.ad) (length stock.slots) c.in_ok-places.places c.in_ok-places.ensures.held in
+    let found = found-within (pool_of c.args.moment stock (g.H.Holdings.is_offered c.args.held.now) (g.H.Holdings.holding c.args.held.now)) (ad_frames c.args.request.now.ad) c.args.number (length stock.slots) c.in_ok-places.places c.in_ok-places.ensures.held in
     subst (λ (ms : List Member). All (λ (m : Member). m.place < length stock.slots) ms) (sym c.in_ok-found.ensures.found) found
 
 pub returns-clause-best : goal.returns-clause-best
@@ -44,8 +44,8 @@ returns-clause-best g c =
     let offered = g.H.Holdings.is_offered c.args.held.now in
     let holding = g.H.Holdings.holding c.args.held.now in
     let request = ad_frames c.args.request.now.ad in
-    IfOk-weaker c.slots_in_order.result (AreInOrder stock c.in_ok-found.found.items) (IsShortlist c.args.moment stock offered holding request)
+    IfOk-weaker c.slots_in_order.result (AreInOrder stock c.in_ok-found.found.items) (IsShortlist c.args.moment stock offered holding request c.args.number)
     (λ slots (sorted, moved, ordered, are).
-    shortlisted c.args.moment stock offered holding request c.in_ok-places.places sorted slots c.in_ok-places.ensures.places
+    shortlisted c.args.moment stock offered holding request c.args.number c.in_ok-places.places sorted slots c.in_ok-places.ensures.places
     (subst (λ (ms : List Member). IsPermutation ms sorted) c.in_ok-found.ensures.found moved) ordered are)
     c.slots_in_order.ensures.slots

@@ -6,14 +6,14 @@ use Rattle.claim_table.specs.Table.{jobs_of}
 use Rattle.claim_table.proofs.SmallLemmas.{holders-small}
 use Rattle.negotiator.specs.declared.clusters.Cluster.{Cluster}
 use Rattle.negotiator.specs.Clusters.{IsCluster, ad_at}
-use Rattle.negotiator.specs.Scenes.{stock_in}
+use Rattle.negotiator.specs.Scenes.{settings_in, stock_in}
 use Rattle.negotiator.proofs.ClusterLemmas.{best-alike, best-here, job-within, one-changed, one-ranked, one-seen}
 use Rattle.negotiator.proofs.SmallLemmas.{small-job}
 use Rattle.negotiator.proofs.clusters.choose.Goals as goal
 
 pub cluster_of-requires : goal.cluster_of-requires
 cluster_of-requires g c =
-    subst (All (IsCluster c.args.scene.now.moment (stock_in c.args.scene.now) (jobs_of c.args.claims.now))) (sym c.as_slice.ensures.value) c.requires.clusters.ranked
+    subst (All (IsCluster c.args.scene.now.moment (stock_in c.args.scene.now) (settings_in c.args.scene.now) (jobs_of c.args.claims.now))) (sym c.as_slice.ensures.value) c.requires.clusters.ranked
 
 -- ---- a cluster is there
 
@@ -24,13 +24,14 @@ pub first-requires : goal.first-requires
 first-requires g c =
     let ranked = c.args.clusters.now.ranked.items in
     let within : c.in-Some.k < length ranked = subst (λ (clusters : List Cluster). c.in-Some.k < length clusters) c.as_slice.ensures.value c.in-Some.ensures.within in
-    subst (IsCluster c.args.scene.now.moment (stock_in c.args.scene.now) (jobs_of c.args.claims.now)) (sym c.index_mut.ensures.value)
+    subst (IsCluster c.args.scene.now.moment (stock_in c.args.scene.now) (settings_in c.args.scene.now) (jobs_of c.args.claims.now)) (sym c.index_mut.ensures.value)
     (c.requires.clusters.ranked c.in-Some.k c.index_mut.result.now within)
 
 pub returns-in-Some-clause-best : goal.returns-in-Some-clause-best
 returns-in-Some-clause-best g c =
     let moment = c.args.scene.now.moment in
     let stock = stock_in c.args.scene.now in
+    let settings = settings_in c.args.scene.now in
     let jobs = jobs_of c.args.claims.now in
     let frames = ad_frames c.args.request.now.ad in
     let ranked = c.args.clusters.now.ranked.items in
@@ -39,11 +40,13 @@ returns-in-Some-clause-best g c =
     let here : slice_get ranked c.in-Some.k ≡ Some cluster = slice_get_read ranked (length ranked) c.in-Some.k cluster refl within c.index_mut.ensures.value in
     let alike : AreAlike (ad_at jobs cluster.place) frames =
     c.in-Some.ensures.alike cluster (subst (λ (clusters : List Cluster). slice_get clusters c.in-Some.k ≡ Some cluster) (sym c.as_slice.ensures.value) here) in
-    best-alike moment stock jobs c.first.result (ad_at jobs cluster.place) frames c.first.ensures.best alike
+    let mine : cluster.number ≡ c.args.number =
+    c.in-Some.ensures.same cluster (subst (λ (clusters : List Cluster). slice_get clusters c.in-Some.k ≡ Some cluster) (sym c.as_slice.ensures.value) here) in
+    best-alike moment stock settings jobs c.first.result (ad_at jobs cluster.place) frames cluster.number c.args.number c.first.ensures.best alike mine
 
 pub returns-in-Some-clause-clusters : goal.returns-in-Some-clause-clusters
 returns-in-Some-clause-clusters g c =
-    one-changed c.args.scene.now.moment (stock_in c.args.scene.now) (jobs_of c.args.claims.now) c.args.clusters.now c.requires.clusters _ c.in-Some.k c.first.new.self refl refl refl c.first.ensures.kept
+    one-changed c.args.scene.now.moment (stock_in c.args.scene.now) (settings_in c.args.scene.now) (jobs_of c.args.claims.now) c.args.clusters.now c.requires.clusters _ c.in-Some.k c.first.new.self refl refl refl c.first.ensures.kept
 
 pub returns-in-Some-clause-free : goal.returns-in-Some-clause-free
 returns-in-Some-clause-free g c = c.first.ensures.free
@@ -106,16 +109,16 @@ returns-in_err-push-clause-ratio g c = c.rank.ensures.ratio
 
 pub returns-in_err-push-clause-clusters : goal.returns-in_err-push-clause-clusters
 returns-in_err-push-clause-clusters g c =
-    one-seen c.args.scene.now.moment (stock_in c.args.scene.now) (jobs_of c.args.claims.now) c.args.clusters.now c.requires.clusters _ c.requires.clusters.seen c.in_err-push.ensures.items c.requires.clusters.known
+    one-seen c.args.scene.now.moment (stock_in c.args.scene.now) (settings_in c.args.scene.now) (jobs_of c.args.claims.now) c.args.clusters.now c.requires.clusters _ c.requires.clusters.seen c.in_err-push.ensures.items c.requires.clusters.known
 
 pub returns-then-was_seen-clause-best : goal.returns-then-was_seen-clause-best
 returns-then-was_seen-clause-best g c =
-    best-here c.args.scene.now.moment (stock_in c.args.scene.now) (jobs_of c.args.claims.now) c.first-slot.result c.in_ok-cluster.cluster.place c.args.i c.args.request.now
-    c.first-slot.ensures.best c.in_ok-cluster.ensures.place c.requires.job
+    best-here c.args.scene.now.moment (stock_in c.args.scene.now) (settings_in c.args.scene.now) (jobs_of c.args.claims.now) c.first-slot.result c.in_ok-cluster.cluster.place c.args.i c.in_ok-cluster.cluster.number c.args.number c.args.request.now
+    c.first-slot.ensures.best c.in_ok-cluster.ensures.place c.in_ok-cluster.ensures.number c.requires.job
 
 pub returns-then-was_seen-clause-clusters : goal.returns-then-was_seen-clause-clusters
 returns-then-was_seen-clause-clusters g c =
-    one-ranked c.args.scene.now.moment (stock_in c.args.scene.now) (jobs_of c.args.claims.now) c.args.clusters.now c.requires.clusters _ c.first-slot.new.self refl c.in_ok-push.ensures.items refl c.first-slot.ensures.kept
+    one-ranked c.args.scene.now.moment (stock_in c.args.scene.now) (settings_in c.args.scene.now) (jobs_of c.args.claims.now) c.args.clusters.now c.requires.clusters _ c.first-slot.new.self refl c.in_ok-push.ensures.items refl c.first-slot.ensures.kept
 
 pub returns-then-was_seen-clause-free : goal.returns-then-was_seen-clause-free
 returns-then-was_seen-clause-free g c = c.first-slot.ensures.free
@@ -142,7 +145,7 @@ note-requires-clause-all g c = c.requires.clusters.seen
 
 pub returns-in_err-note-clause-clusters : goal.returns-in_err-note-clause-clusters
 returns-in_err-note-clause-clusters g c =
-    one-seen c.args.scene.now.moment (stock_in c.args.scene.now) (jobs_of c.args.claims.now) c.args.clusters.now c.requires.clusters _ c.note.ensures refl c.requires.clusters.known
+    one-seen c.args.scene.now.moment (stock_in c.args.scene.now) (settings_in c.args.scene.now) (jobs_of c.args.claims.now) c.args.clusters.now c.requires.clusters _ c.note.ensures refl c.requires.clusters.known
 
 pub returns-in_err-note-clause-evaluations : goal.returns-in_err-note-clause-evaluations
 returns-in_err-note-clause-evaluations g c = omega arith
@@ -173,9 +176,9 @@ returns-clause-looks g c = c.best_knowing.ensures.looks
 
 pub returns-clause-clusters : goal.returns-clause-clusters
 returns-clause-clusters g c =
-    one-seen c.args.scene.now.moment (stock_in c.args.scene.now) (jobs_of c.args.claims.now) c.args.clusters.now c.requires.clusters _ c.note.ensures refl c.best_knowing.ensures.known
+    one-seen c.args.scene.now.moment (stock_in c.args.scene.now) (settings_in c.args.scene.now) (jobs_of c.args.claims.now) c.args.clusters.now c.requires.clusters _ c.note.ensures refl c.best_knowing.ensures.known
 
 pub returns-clause-ratio : goal.returns-clause-ratio
 returns-clause-ratio g c ads small =
     let jobs = jobs_of c.args.claims.now in
-    c.best_knowing.ensures.ratio (small-job jobs c.args.i c.args.request.now c.requires.job small) ads (holders-small jobs small)
+    c.best_knowing.ensures.ratio (small-job jobs c.args.i c.args.request.now c.requires.job small) ads (holders-small (settings_in c.args.scene.now) jobs small)

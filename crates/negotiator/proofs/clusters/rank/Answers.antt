@@ -1,6 +1,6 @@
 use Rattle.claim_table.specs.Table.{jobs_of}
 use Rattle.claim_table.proofs.SmallLemmas.{holders-small}
-use Rattle.negotiator.specs.Scenes.{stock_in}
+use Rattle.negotiator.specs.Scenes.{settings_in, stock_in}
 use Rattle.negotiator.proofs.ClusterLemmas.{first-cluster}
 use Rattle.negotiator.proofs.SmallLemmas.{small-job}
 use Rattle.negotiator.proofs.clusters.rank.Goals as goal
@@ -8,13 +8,13 @@ use Rattle.negotiator.proofs.clusters.rank.Goals as goal
 pub returns-in_err-slots-clause-ratio : goal.returns-in_err-slots-clause-ratio
 returns-in_err-slots-clause-ratio g c ads small =
     let jobs = jobs_of c.args.claims.now in
-    c.shortlist.ensures.ratio (small-job jobs c.args.i c.args.request.now c.requires.job small) ads (holders-small jobs small)
+    c.shortlist.ensures.ratio (small-job jobs c.args.i c.args.request.now c.requires.job small) ads (holders-small (settings_in c.args.scene.now) jobs small)
 
 pub returns-clause-cluster : goal.returns-clause-cluster
 returns-clause-cluster g c =
-    first-cluster c.args.scene.now.moment (stock_in c.args.scene.now) (jobs_of c.args.claims.now) c.args.i c.args.request.now c.in_ok-slots.slots c.requires.job c.in_ok-slots.ensures.best
+    first-cluster c.args.scene.now.moment (stock_in c.args.scene.now) (settings_in c.args.scene.now) (jobs_of c.args.claims.now) c.args.i c.args.request.now c.args.number c.in_ok-slots.slots c.requires.job c.in_ok-slots.ensures.best
 
 pub returns-clause-ratio : goal.returns-clause-ratio
 returns-clause-ratio g c ads small =
     let jobs = jobs_of c.args.claims.now in
-    c.shortlist.ensures.ratio (small-job jobs c.args.i c.args.request.now c.requires.job small) ads (holders-small jobs small)
+    c.shortlist.ensures.ratio (small-job jobs c.args.i c.args.request.now c.requires.job small) ads (holders-small (settings_in c.args.scene.now) jobs small)

@@ -5,8 +5,8 @@ use Rattle.std.specs.Ordering.{nat_cmp, ordering_index, ordering_then}
 use Rattle.std.specs.Cmp.Lexicographic.{slice_cmp}
 use Rattle.std.proofs.lemmas.Fn.{always_returns_same}
 use Rattle.negotiator.specs.declared.queues.Queue.{Queue}
-use Rattle.negotiator.specs.Priorities.{priority_of}
-use Rattle.negotiator.specs.Settings.{settings_of}
+use Rattle.claim_table.specs.Priorities.{priority_of}
+use Rattle.claim_table.specs.Settings.{settings_of}
 use Rattle.negotiator.proofs.QueueLemmas.{insert-step, push-step, searchable}
 use Rattle.negotiator.proofs.queues.enqueue.Goals as goal
 

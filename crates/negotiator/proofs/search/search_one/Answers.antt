@@ -5,41 +5,42 @@ use Rattle.std.proofs.lemmas.Result.{IfOk-weaker}
 use Rattle.claim_table.specs.Jobs.{AreFree, wanted}
 use Rattle.claim_table.specs.Table.{jobs_of}
 use Rattle.negotiator.specs.Markets.{found_for}
-use Rattle.negotiator.specs.Scenes.{stock_in}
+use Rattle.negotiator.specs.Scenes.{settings_in, stock_in}
 use Rattle.negotiator.proofs.SearchLemmas.{entries-one, evaluations-one, found-one, if-each, looks-one, one-all, one-apart, one-free, one-wanted}
 use Rattle.negotiator.proofs.search.search_one.Goals as goal
 
 pub returns-in_err-slot-clause-evaluations : goal.returns-in_err-slot-clause-evaluations
 returns-in_err-slot-clause-evaluations g c =
-    evaluations-one c.args.scene.now.moment (stock_in c.args.scene.now) (jobs_of c.args.claims.now) c.args.request.now c.requires.single c.args.tops.now c.choose.new.tops c.choose.ensures.evaluations
+    evaluations-one c.args.scene.now.moment (stock_in c.args.scene.now) (settings_in c.args.scene.now) (jobs_of c.args.claims.now) c.args.request.now c.requires.single c.args.tops.now c.choose.new.tops c.choose.ensures.evaluations
 
 pub returns-in_err-slot-clause-entries : goal.returns-in_err-slot-clause-entries
 returns-in_err-slot-clause-entries g c =
-    entries-one c.args.scene.now.moment (stock_in c.args.scene.now) (jobs_of c.args.claims.now) c.args.request.now c.requires.single c.args.entry.now c.choose.new.entry c.choose.ensures.entries
+    entries-one c.args.scene.now.moment (stock_in c.args.scene.now) (settings_in c.args.scene.now) (jobs_of c.args.claims.now) c.args.request.now c.requires.single c.args.entry.now c.choose.new.entry c.choose.ensures.entries
 
 pub returns-in_err-slot-clause-looks : goal.returns-in_err-slot-clause-looks
 returns-in_err-slot-clause-looks g c =
-    looks-one c.args.scene.now.moment (stock_in c.args.scene.now) (jobs_of c.args.claims.now) c.args.request.now c.requires.single c.args.touch.now c.choose.new.touch c.choose.ensures.looks
+    looks-one c.args.scene.now.moment (stock_in c.args.scene.now) (settings_in c.args.scene.now) (jobs_of c.args.claims.now) c.args.request.now c.requires.single c.args.touch.now c.choose.new.touch c.choose.ensures.looks
 
 pub returns-clause-evaluations : goal.returns-clause-evaluations
 returns-clause-evaluations g c =
-    evaluations-one c.args.scene.now.moment (stock_in c.args.scene.now) (jobs_of c.args.claims.now) c.args.request.now c.requires.single c.args.tops.now c.choose.new.tops c.choose.ensures.evaluations
+    evaluations-one c.args.scene.now.moment (stock_in c.args.scene.now) (settings_in c.args.scene.now) (jobs_of c.args.claims.now) c.args.request.now c.requires.single c.args.tops.now c.choose.new.tops c.choose.ensures.evaluations
 
 pub returns-clause-entries : goal.returns-clause-entries
 returns-clause-entries g c =
-    entries-one c.args.scene.now.moment (stock_in c.args.scene.now) (jobs_of c.args.claims.now) c.args.request.now c.requires.single c.args.entry.now c.choose.new.entry c.choose.ensures.entries
+    entries-one c.args.scene.now.moment (stock_in c.args.scene.now) (settings_in c.args.scene.now) (jobs_of c.args.claims.now) c.args.request.now c.requires.single c.args.entry.now c.choose.new.entry c.choose.ensures.entries
 
 pub returns-clause-looks : goal.returns-clause-looks
 returns-clause-looks g c =
-    looks-one c.args.scene.now.moment (stock_in c.args.scene.now) (jobs_of c.args.claims.now) c.args.request.now c.requires.single c.args.touch.now c.choose.new.touch c.choose.ensures.looks
+    looks-one c.args.scene.now.moment (stock_in c.args.scene.now) (settings_in c.args.scene.now) (jobs_of c.args.claims.now) c.args.request.now c.requires.single c.args.touch.now c.choose.new.touch c.choose.ensures.looks
 
 pub returns-clause-found : goal.returns-clause-found
 returns-clause-found g c =
     let moment = c.args.scene.now.moment in
     let stock = stock_in c.args.scene.now in
+    let settings = settings_in c.args.scene.now in
     let jobs = jobs_of c.args.claims.now in
-    IfOk-weaker c.listed.result (λ slots. slots ≡ option_map (λ s. s ∷ []) c.in_ok-slot.slot) (λ slots. slots ≡ found_for moment stock jobs c.args.request.now)
-    (λ slots e. e ∙ found-one moment stock jobs c.args.request.now c.requires.single c.in_ok-slot.slot c.in_ok-slot.ensures.best) c.listed.ensures
+    IfOk-weaker c.listed.result (λ slots. slots ≡ option_map (λ s. s ∷ []) c.in_ok-slot.slot) (λ slots. slots ≡ found_for moment stock settings jobs c.args.number c.args.request.now)
+    (λ slots e. e ∙ found-one moment stock settings jobs c.args.request.now c.requires.single c.args.number c.in_ok-slot.slot c.in_ok-slot.ensures.best) c.listed.ensures
 
 pub returns-clause-free : goal.returns-clause-free
 returns-clause-free g c =

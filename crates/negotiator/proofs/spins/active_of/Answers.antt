@@ -4,7 +4,7 @@ use Rattle.claim_table.specs.Table.{jobs_of}
 use Rattle.negotiator.specs.declared.queues.Queue.{Queue}
 use Rattle.negotiator.specs.Cycle.{is_of, places}
 use Rattle.negotiator.specs.Scenes.{market_in, stock_in, users_at}
-use Rattle.negotiator.specs.Settings.{settings_of}
+use Rattle.claim_table.specs.Settings.{settings_of}
 use Rattle.negotiator.proofs.ActiveLemmas.{active-all, active-no, active-yes}
 use Rattle.negotiator.proofs.spins.active_of.Goals.{else-has_idle, then-has_idle+in_ok-push}
 use Rattle.negotiator.proofs.spins.active_of.Goals as goal

@@ -4,7 +4,7 @@ use Rattle.std.proofs.lemmas.List.{take_all}
 use Rattle.claim_table.specs.Table.{jobs_of}
 use Rattle.negotiator.specs.Budget.{is_idle_at}
 use Rattle.negotiator.specs.Scenes.{stock_in}
-use Rattle.negotiator.specs.Settings.{settings_of}
+use Rattle.claim_table.specs.Settings.{settings_of}
 use Rattle.negotiator.proofs.ActiveLemmas.{any-at, any-next, any-own}
 use Rattle.negotiator.proofs.TurnLoopLemmas.{own-within}
 use Rattle.negotiator.proofs.spins.has_idle.Goals as goal

@@ -3,7 +3,7 @@ use Rattle.claim_table.specs.Table.{jobs_of}
 use Rattle.negotiator.specs.declared.answers.Spin.{Spin}
 use Rattle.negotiator.specs.Budget.{counts}
 use Rattle.negotiator.specs.Cycle.{offers_of}
-use Rattle.negotiator.specs.Scenes.{stock_in}
+use Rattle.negotiator.specs.Scenes.{settings_in, stock_in}
 use Rattle.negotiator.proofs.BudgetLemmas.{paid-none, paid-on, paid-within, within-on}
 use Rattle.negotiator.proofs.SmallLemmas.{small-offers}
 use Rattle.negotiator.proofs.SpinLoopLemmas.{SpinsLoop, on_err, queues-here, spins-fewer, spins-list, spins-more, spins-start, spins-stopped, spins-stopped-behind, spins-table}
@@ -15,7 +15,7 @@ loop-spins-init g c =
     let start = counts c.args.tops.now c.args.entry.now c.args.touch.now in
     record {
       spins = subst (λ (list : List Spin). SpinsLoop c.args.scene.now began c.args.failed.now start list began c.args.failed.now start) (sym c.new-spins.ensures)
-          (spins-start c.args.scene.now began c.args.failed.now start c.requires.ready (paid-none c.args.scene.now.moment (stock_in c.args.scene.now) began c.args.failed.now start));
+          (spins-start c.args.scene.now began c.args.failed.now start c.requires.ready (paid-none c.args.scene.now.moment (stock_in c.args.scene.now) (settings_in c.args.scene.now) began c.args.failed.now start));
       clusters = c.requires.clusters;
       ratio = λ ads small. omega arith;
     }
@@ -41,7 +41,7 @@ returns-in_err-spin-clause-within g c =
     let start = counts c.args.tops.now c.args.entry.now c.args.touch.now in
     let now = counts c.loop-spins.tops c.loop-spins.entry c.loop-spins.touch in
     let after = counts c.run_spin.new.tops c.run_spin.new.entry c.run_spin.new.touch in
-    within-on c.args.scene.now.moment (stock_in c.args.scene.now) began jobs c.args.failed.now c.loop-spins.failed start now after c.loop-spins.invariant.spins.paid c.in_err-spin.ensures.within
+    within-on c.args.scene.now.moment (stock_in c.args.scene.now) (settings_in c.args.scene.now) began jobs c.args.failed.now c.loop-spins.failed start now after c.loop-spins.invariant.spins.paid c.in_err-spin.ensures.within
 
 pub returns-in_err-spin-clause-ratio : goal.returns-in_err-spin-clause-ratio
 returns-in_err-spin-clause-ratio g c ads small =
@@ -60,8 +60,8 @@ returns-in_err-push-clause-within g c =
     let start = counts c.args.tops.now c.args.entry.now c.args.touch.now in
     let now = counts c.loop-spins.tops c.loop-spins.entry c.loop-spins.touch in
     let after = counts c.run_spin.new.tops c.run_spin.new.entry c.run_spin.new.touch in
-    paid-within c.args.scene.now.moment (stock_in c.args.scene.now) began later c.args.failed.now c.run_spin.new.failed start after
-    (paid-on c.args.scene.now.moment (stock_in c.args.scene.now) began jobs later c.args.failed.now c.loop-spins.failed c.run_spin.new.failed start now after c.loop-spins.invariant.spins.paid c.in_ok-spin.ensures.paid)
+    paid-within c.args.scene.now.moment (stock_in c.args.scene.now) (settings_in c.args.scene.now) began later c.args.failed.now c.run_spin.new.failed start after
+    (paid-on c.args.scene.now.moment (stock_in c.args.scene.now) (settings_in c.args.scene.now) began jobs later c.args.failed.now c.loop-spins.failed c.run_spin.new.failed start now after c.loop-spins.invariant.spins.paid c.in_ok-spin.ensures.paid)
 
 pub returns-in_err-push-clause-ratio : goal.returns-in_err-push-clause-ratio
 returns-in_err-push-clause-ratio g c ads small =
@@ -84,8 +84,8 @@ returns-then-last-clause-within g c =
     let start = counts c.args.tops.now c.args.entry.now c.args.touch.now in
     let now = counts c.loop-spins.tops c.loop-spins.entry c.loop-spins.touch in
     let after = counts c.run_spin.new.tops c.run_spin.new.entry c.run_spin.new.touch in
-    paid-within c.args.scene.now.moment (stock_in c.args.scene.now) began later c.args.failed.now c.run_spin.new.failed start after
-    (paid-on c.args.scene.now.moment (stock_in c.args.scene.now) began jobs later c.args.failed.now c.loop-spins.failed c.run_spin.new.failed start now after c.loop-spins.invariant.spins.paid c.in_ok-spin.ensures.paid)
+    paid-within c.args.scene.now.moment (stock_in c.args.scene.now) (settings_in c.args.scene.now) began later c.args.failed.now c.run_spin.new.failed start after
+    (paid-on c.args.scene.now.moment (stock_in c.args.scene.now) (settings_in c.args.scene.now) began jobs later c.args.failed.now c.loop-spins.failed c.run_spin.new.failed start now after c.loop-spins.invariant.spins.paid c.in_ok-spin.ensures.paid)
 
 pub returns-then-last-clause-ratio : goal.returns-then-last-clause-ratio
 returns-then-last-clause-ratio g c ads small =
@@ -107,7 +107,7 @@ loop-spins-preserved g c =
     record {
       spins = spins-more c.args.scene.now began c.loop-spins.invariant.spins c.in_ok-spin.spin c.in_ok-spin.ensures.spin c.push.new.self c.in_ok-push.ensures.ok (jobs_of c.run_spin.new.claims) c.in_ok-spin.ensures.table (omega (arith, c.len-last.ensures, c.if-last.false))
           c.run_spin.new.failed after c.in_ok-spin.ensures.ready
-          (paid-on c.args.scene.now.moment (stock_in c.args.scene.now) began jobs later c.args.failed.now c.loop-spins.failed c.run_spin.new.failed start now after c.loop-spins.invariant.spins.paid c.in_ok-spin.ensures.paid);
+          (paid-on c.args.scene.now.moment (stock_in c.args.scene.now) (settings_in c.args.scene.now) began jobs later c.args.failed.now c.loop-spins.failed c.run_spin.new.failed start now after c.loop-spins.invariant.spins.paid c.in_ok-spin.ensures.paid);
       clusters = c.in_ok-spin.ensures.clusters;
       ratio = λ ads small. omega (arith, c.loop-spins.invariant.ratio ads small, c.run_spin.ensures.ratio ads (small-offers (offers_of c.loop-spins.invariant.spins.done) began jobs c.loop-spins.invariant.spins.table small));
     }

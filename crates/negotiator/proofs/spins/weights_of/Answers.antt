@@ -2,9 +2,9 @@ use Rattle.std.proofs.Common.{◌≤◌, ◌^◌, List, ℕ, All, ap, arith, map
 use Rattle.std.proofs.lemmas.List.{take_all}
 use Rattle.std.proofs.lemmas.List.Elements.{All-nil, All-push}
 use Rattle.negotiator.specs.declared.queues.Queue.{Queue}
-use Rattle.negotiator.specs.Priorities.{priority_of}
+use Rattle.claim_table.specs.Priorities.{priority_of}
 use Rattle.negotiator.specs.Scenes.{users_at}
-use Rattle.negotiator.specs.Settings.{settings_of}
+use Rattle.claim_table.specs.Settings.{settings_of}
 use Rattle.negotiator.proofs.ActiveLemmas.{weight-least, weight-most, weights-more}
 use Rattle.pie_slices.specs.Slices.{weight_of}
 use Rattle.negotiator.proofs.spins.weights_of.Goals as goal

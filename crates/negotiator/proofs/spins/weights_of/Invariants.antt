@@ -1,7 +1,7 @@
 use Rattle.std.proofs.Common.{◌≡◌, ◌≤◌, ◌^◌, All, map, take}
-use Rattle.negotiator.specs.Priorities.{priority_of}
+use Rattle.claim_table.specs.Priorities.{priority_of}
 use Rattle.negotiator.specs.Scenes.{users_at}
-use Rattle.negotiator.specs.Settings.{settings_of}
+use Rattle.claim_table.specs.Settings.{settings_of}
 use Rattle.pie_slices.specs.Slices.{weight_of}
 use Rattle.negotiator.proofs.spins.weights_of.Given as goal
 

@@ -5,7 +5,7 @@ use Rattle.negotiator.specs.declared.answers.Offered.{Offered}
 use Rattle.negotiator.specs.Budget.{counts}
 use Rattle.negotiator.specs.Cycle.{Offer}
 use Rattle.negotiator.specs.Markets.{IsPart, offer_named, with_offers}
-use Rattle.negotiator.specs.Scenes.{stock_in}
+use Rattle.negotiator.specs.Scenes.{settings_in, stock_in}
 use Rattle.negotiator.proofs.BudgetLemmas.{paid-none, paid-on, paid-within, within-on}
 use Rattle.negotiator.proofs.ClusterLemmas.{same-clusters}
 use Rattle.negotiator.proofs.SmallLemmas.{small-offers}
@@ -21,7 +21,7 @@ loop-place-init g c =
     let items = c.as_slice-place-items.result.now in
     record {
       turn = subst (λ (list : List Offered). TurnLoop c.args.scene.now began c.args.queue.now.user items c.args.slice c.args.failed.now start 0 c.args.slice false list began c.args.failed.now start) (sym c.new-offers.ensures)
-          (turn-start c.args.scene.now began c.args.queue.now.user items c.args.slice c.args.failed.now start c.requires.ready (paid-none c.args.scene.now.moment (stock_in c.args.scene.now) began c.args.failed.now start));
+          (turn-start c.args.scene.now began c.args.queue.now.user items c.args.slice c.args.failed.now start c.requires.ready (paid-none c.args.scene.now.moment (stock_in c.args.scene.now) (settings_in c.args.scene.now) began c.args.failed.now start));
       clusters = c.requires.clusters;
       ratio = λ ads small. omega arith;
     }
@@ -65,7 +65,7 @@ returns-then-left-wants-clause-paid g c = c.loop-place.invariant.turn.paid
 
 pub returns-then-left-wants-clause-within : goal.returns-then-left-wants-clause-within
 returns-then-left-wants-clause-within g c =
-    paid-within c.args.scene.now.moment (stock_in c.args.scene.now) (jobs_of c.args.claims.now) (jobs_of c.loop-place.claims) c.args.failed.now c.loop-place.failed (counts c.args.tops.now c.args.entry.now c.args.touch.now) (counts c.loop-place.tops c.loop-place.entry c.loop-place.touch) c.loop-place.invariant.turn.paid
+    paid-within c.args.scene.now.moment (stock_in c.args.scene.now) (settings_in c.args.scene.now) (jobs_of c.args.claims.now) (jobs_of c.loop-place.claims) c.args.failed.now c.loop-place.failed (counts c.args.tops.now c.args.entry.now c.args.touch.now) (counts c.loop-place.tops c.loop-place.entry c.loop-place.touch) c.loop-place.invariant.turn.paid
 
 pub returns-then-left-wants-clause-ratio : goal.returns-then-left-wants-clause-ratio
 returns-then-left-wants-clause-ratio g c = c.loop-place.invariant.ratio
@@ -92,7 +92,7 @@ returns-in_err-offer-clause-within g c =
     let start = counts c.args.tops.now c.args.entry.now c.args.touch.now in
     let now = counts c.loop-place.tops c.loop-place.entry c.loop-place.touch in
     let after = counts c.try_job.new.tops c.try_job.new.entry c.try_job.new.touch in
-    within-on c.args.scene.now.moment (stock_in c.args.scene.now) began jobs c.args.failed.now c.loop-place.failed start now after c.loop-place.invariant.turn.paid c.in_err-offer.ensures.within
+    within-on c.args.scene.now.moment (stock_in c.args.scene.now) (settings_in c.args.scene.now) began jobs c.args.failed.now c.loop-place.failed start now after c.loop-place.invariant.turn.paid c.in_err-offer.ensures.within
 
 pub returns-in_err-offer-clause-ratio : goal.returns-in_err-offer-clause-ratio
 returns-in_err-offer-clause-ratio g c ads small =
@@ -115,8 +115,8 @@ returns-in_err-push-clause-within g c =
     let start = counts c.args.tops.now c.args.entry.now c.args.touch.now in
     let now = counts c.loop-place.tops c.loop-place.entry c.loop-place.touch in
     let after = counts c.try_job.new.tops c.try_job.new.entry c.try_job.new.touch in
-    paid-within c.args.scene.now.moment (stock_in c.args.scene.now) began (jobs_of c.try_job.new.claims) c.args.failed.now c.try_job.new.failed start after
-    (paid-on c.args.scene.now.moment (stock_in c.args.scene.now) began jobs (jobs_of c.try_job.new.claims) c.args.failed.now c.loop-place.failed c.try_job.new.failed start now after c.loop-place.invariant.turn.paid c.in_ok-offer.ensures.paid)
+    paid-within c.args.scene.now.moment (stock_in c.args.scene.now) (settings_in c.args.scene.now) began (jobs_of c.try_job.new.claims) c.args.failed.now c.try_job.new.failed start after
+    (paid-on c.args.scene.now.moment (stock_in c.args.scene.now) (settings_in c.args.scene.now) began jobs (jobs_of c.try_job.new.claims) c.args.failed.now c.loop-place.failed c.try_job.new.failed start now after c.loop-place.invariant.turn.paid c.in_ok-offer.ensures.paid)
 
 pub returns-in_err-push-clause-ratio : goal.returns-in_err-push-clause-ratio
 returns-in_err-push-clause-ratio g c ads small =
@@ -185,7 +185,7 @@ returns-clause-paid g c = c.loop-place.invariant.turn.paid
 
 pub returns-clause-within : goal.returns-clause-within
 returns-clause-within g c =
-    paid-within c.args.scene.now.moment (stock_in c.args.scene.now) (jobs_of c.args.claims.now) (jobs_of c.loop-place.claims) c.args.failed.now c.loop-place.failed (counts c.args.tops.now c.args.entry.now c.args.touch.now) (counts c.loop-place.tops c.loop-place.entry c.loop-place.touch) c.loop-place.invariant.turn.paid
+    paid-within c.args.scene.now.moment (stock_in c.args.scene.now) (settings_in c.args.scene.now) (jobs_of c.args.claims.now) (jobs_of c.loop-place.claims) c.args.failed.now c.loop-place.failed (counts c.args.tops.now c.args.entry.now c.args.touch.now) (counts c.loop-place.tops c.loop-place.entry c.loop-place.touch) c.loop-place.invariant.turn.paid
 
 pub returns-clause-ratio : goal.returns-clause-ratio
 returns-clause-ratio g c = c.loop-place.invariant.ratio

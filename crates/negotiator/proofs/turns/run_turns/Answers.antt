@@ -6,7 +6,7 @@ use Rattle.negotiator.specs.declared.answers.Turn.{Turn}
 use Rattle.negotiator.specs.declared.queues.Queue.{Queue}
 use Rattle.negotiator.specs.Budget.{counts}
 use Rattle.negotiator.specs.Cycle.{is_of, offers_in, places}
-use Rattle.negotiator.specs.Scenes.{market_in, stock_in, users_at}
+use Rattle.negotiator.specs.Scenes.{market_in, settings_in, stock_in, users_at}
 use Rattle.negotiator.proofs.ActiveLemmas.{user-here}
 use Rattle.negotiator.proofs.BudgetLemmas.{paid-none, paid-on, paid-within, within-on}
 use Rattle.negotiator.proofs.SmallLemmas.{small-offers}
@@ -20,7 +20,7 @@ loop-k-init g c =
     let users = users_at c.args.queues.now c.args.active.now in
     record {
       turns = subst (λ (list : List Turn). TurnsLoop c.args.scene.now began users c.args.slices.now c.args.failed.now start 0 list began c.args.failed.now start) (sym c.new-turns.ensures)
-          (turns-start c.args.scene.now began users c.args.slices.now c.args.failed.now start c.requires.ready (paid-none c.args.scene.now.moment (stock_in c.args.scene.now) began c.args.failed.now start));
+          (turns-start c.args.scene.now began users c.args.slices.now c.args.failed.now start c.requires.ready (paid-none c.args.scene.now.moment (stock_in c.args.scene.now) (settings_in c.args.scene.now) began c.args.failed.now start));
       clusters = c.requires.clusters;
       ratio = λ ads small. omega arith;
     }
@@ -66,7 +66,7 @@ returns-in_err-offers-clause-within g c =
     let start = counts c.args.tops.now c.args.entry.now c.args.touch.now in
     let now = counts c.loop-k.tops c.loop-k.entry c.loop-k.touch in
     let after = counts c.run_turn.new.tops c.run_turn.new.entry c.run_turn.new.touch in
-    within-on c.args.scene.now.moment (stock_in c.args.scene.now) began jobs c.args.failed.now c.loop-k.failed start now after c.loop-k.invariant.turns.paid c.in_err-offers.ensures.within
+    within-on c.args.scene.now.moment (stock_in c.args.scene.now) (settings_in c.args.scene.now) began jobs c.args.failed.now c.loop-k.failed start now after c.loop-k.invariant.turns.paid c.in_err-offers.ensures.within
 
 pub returns-in_err-offers-clause-ratio : goal.returns-in_err-offers-clause-ratio
 returns-in_err-offers-clause-ratio g c ads small =
@@ -91,8 +91,8 @@ returns-in_err-keep-clause-within g c =
     let start = counts c.args.tops.now c.args.entry.now c.args.touch.now in
     let now = counts c.loop-k.tops c.loop-k.entry c.loop-k.touch in
     let after = counts c.run_turn.new.tops c.run_turn.new.entry c.run_turn.new.touch in
-    paid-within c.args.scene.now.moment (stock_in c.args.scene.now) began (jobs_of c.run_turn.new.claims) c.args.failed.now c.run_turn.new.failed start after
-    (paid-on c.args.scene.now.moment (stock_in c.args.scene.now) began jobs (jobs_of c.run_turn.new.claims) c.args.failed.now c.loop-k.failed c.run_turn.new.failed start now after c.loop-k.invariant.turns.paid c.in_ok-offers.ensures.paid)
+    paid-within c.args.scene.now.moment (stock_in c.args.scene.now) (settings_in c.args.scene.now) began (jobs_of c.run_turn.new.claims) c.args.failed.now c.run_turn.new.failed start after
+    (paid-on c.args.scene.now.moment (stock_in c.args.scene.now) (settings_in c.args.scene.now) began jobs (jobs_of c.run_turn.new.claims) c.args.failed.now c.loop-k.failed c.run_turn.new.failed start now after c.loop-k.invariant.turns.paid c.in_ok-offers.ensures.paid)
 
 pub returns-in_err-keep-clause-ratio : goal.returns-in_err-keep-clause-ratio
 returns-in_err-keep-clause-ratio g c ads small =
@@ -116,7 +116,7 @@ loop-k-preserved g c =
       turns = turns-more c.args.scene.now began c.loop-k.invariant.turns c.index-queues-active.result.user (get_or c.args.slices.now c.loop-k.k 0) us ss user refl
           c.in_ok-offers.offers c.in_ok-offers.ensures.offers c.keep.new.turns c.in_ok-keep.ensures (jobs_of c.run_turn.new.claims) c.in_ok-offers.ensures.table
           c.run_turn.new.failed after c.in_ok-offers.ensures.ready
-          (paid-on c.args.scene.now.moment (stock_in c.args.scene.now) began jobs (jobs_of c.run_turn.new.claims) c.args.failed.now c.loop-k.failed c.run_turn.new.failed start now after c.loop-k.invariant.turns.paid c.in_ok-offers.ensures.paid);
+          (paid-on c.args.scene.now.moment (stock_in c.args.scene.now) (settings_in c.args.scene.now) began jobs (jobs_of c.run_turn.new.claims) c.args.failed.now c.loop-k.failed c.run_turn.new.failed start now after c.loop-k.invariant.turns.paid c.in_ok-offers.ensures.paid);
       clusters = c.in_ok-offers.ensures.clusters;
       ratio = λ ads small. omega (arith, c.loop-k.invariant.ratio ads small, c.run_turn.ensures.ratio ads (small-offers (offers_in c.loop-k.invariant.turns.done) began jobs c.loop-k.invariant.turns.table small));
     }
@@ -142,7 +142,7 @@ returns-clause-paid g c = c.loop-k.invariant.turns.paid
 
 pub returns-clause-within : goal.returns-clause-within
 returns-clause-within g c =
-    paid-within c.args.scene.now.moment (stock_in c.args.scene.now) (jobs_of c.args.claims.now) (jobs_of c.loop-k.claims) c.args.failed.now c.loop-k.failed
+    paid-within c.args.scene.now.moment (stock_in c.args.scene.now) (settings_in c.args.scene.now) (jobs_of c.args.claims.now) (jobs_of c.loop-k.claims) c.args.failed.now c.loop-k.failed
     (counts c.args.tops.now c.args.entry.now c.args.touch.now) (counts c.loop-k.tops c.loop-k.entry c.loop-k.touch) c.loop-k.invariant.turns.paid
 
 pub returns-clause-ratio : goal.returns-clause-ratio

@@ -1,8 +1,8 @@
 use Rattle.std.proofs.Common.{subst}
-use Rattle.negotiator.specs.declared.answers.PriorityFault.{PriorityFault}
-use Rattle.negotiator.specs.Causes.{IsCause}
-use Rattle.negotiator.specs.Priorities.{lacks_place}
-use Rattle.negotiator.specs.Settings.{settings_of}
+use Rattle.claim_table.specs.declared.answers.PriorityFault.{PriorityFault}
+use Rattle.claim_table.specs.Causes.{IsCause}
+use Rattle.claim_table.specs.Priorities.{lacks_place}
+use Rattle.claim_table.specs.Settings.{settings_of}
 use Rattle.pool_state.specs.Pool.{state_with}
 use Rattle.pool_state.proofs.SubmitLemmas.{priority-full, priority-set}
 use Rattle.pool_state.proofs.jobs.set_priority.Goals as goal

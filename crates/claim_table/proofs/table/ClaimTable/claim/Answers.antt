@@ -8,13 +8,15 @@ use Rattle.claim_table.specs.declared.answers.ClaimFault.{ClaimFault}
 use Rattle.claim_table.specs.declared.answers.JobState.{JobState}
 use Rattle.claim_table.specs.declared.job.Job.{Job}
 use Rattle.claim_table.specs.Jobs.{IsFilled, slots_of, state_of}
+use Rattle.claim_table.specs.Priorities.{priority_of}
+use Rattle.claim_table.specs.Settings.{settings_of}
 use Rattle.claim_table.specs.Table.{jobs_of}
 use Rattle.claim_table.proofs.ClaimLemmas.{claimed-granted, claimed-nobody, claimed-stale, claimed-unmatched, entered-named, offer-few, offer-listed, offer-named, undecided-named}
 use Rattle.claim_table.proofs.HolderLemmas.{All-found}
 use Rattle.claim_table.proofs.table.ClaimTable.claim.Goals as goal
 
 pub returns-in_default-clause-claim : goal.returns-in_default-clause-claim
-returns-in_default-clause-claim g c = claimed-nobody c.args.moment (stock_of c.args.store.now) c.args.name.now (jobs_of c.args.self.now) (sym c.find.ensures.number ∙ c.in_default.is)
+returns-in_default-clause-claim g c = claimed-nobody c.args.moment (stock_of c.args.store.now) (settings_of c.args.priorities.now) c.args.name.now (jobs_of c.args.self.now) (sym c.find.ensures.number ∙ c.in_default.is)
 
 pub returns-in_default-clause-evaluations : goal.returns-in_default-clause-evaluations
 returns-in_default-clause-evaluations g c = omega arith
@@ -32,7 +34,7 @@ returns-then-ne-clause-claim g c =
     let job = c.index-job.result.now in
     let at : slice_get jobs i ≡ Some job = slice_get_read jobs (length jobs) i job refl c.in-Some.ensures.within c.index-job.ensures in
     let other : state_of job.standing ≢ JobState.Matched = search rules in
-    claimed-unmatched c.args.moment (stock_of c.args.store.now) c.args.name.now jobs i job (sym c.in-Some.ensures.number) at other
+    claimed-unmatched c.args.moment (stock_of c.args.store.now) (settings_of c.args.priorities.now) c.args.name.now jobs i job (sym c.in-Some.ensures.number) at other
     ∙ ap (λ state. (Err (ClaimFault.WrongState state), jobs)) (sym c.state-state.ensures)
 
 pub returns-then-ne-clause-evaluations : goal.returns-then-ne-clause-evaluations
@@ -67,7 +69,7 @@ returns-in_default-first_failing-clause-evaluations g c =
     let i = c.in-Some.i in
     let job = c.index-job.result.now in
     let at : slice_get jobs i ≡ Some job = slice_get_read jobs (length jobs) i job refl c.in-Some.ensures.within c.index-job.ensures in
-    let named = undecided-named c.args.moment (stock_of c.args.store.now) c.args.name.now jobs i job (sym c.in-Some.ensures.number) at in
+    let named = undecided-named c.args.moment (stock_of c.args.store.now) (settings_of c.args.priorities.now) c.args.name.now jobs i job (sym c.in-Some.ensures.number) at in
     omega (arith, named, c.first_failing.ensures.evaluations)
 
 pub returns-in_default-first_failing-clause-entries : goal.returns-in_default-first_failing-clause-entries
@@ -76,7 +78,7 @@ returns-in_default-first_failing-clause-entries g c =
     let i = c.in-Some.i in
     let job = c.index-job.result.now in
     let at : slice_get jobs i ≡ Some job = slice_get_read jobs (length jobs) i job refl c.in-Some.ensures.within c.index-job.ensures in
-    let named = entered-named c.args.moment (stock_of c.args.store.now) c.args.name.now jobs i job (sym c.in-Some.ensures.number) at in
+    let named = entered-named c.args.moment (stock_of c.args.store.now) (settings_of c.args.priorities.now) c.args.name.now jobs i job (sym c.in-Some.ensures.number) at in
     omega (arith, named, c.first_failing.ensures.entries)
 
 pub returns-in_default-first_failing-clause-ratio : goal.returns-in_default-first_failing-clause-ratio
@@ -94,7 +96,7 @@ returns-in_default-first_failing-clause-looks g c =
     let i = c.in-Some.i in
     let job = c.index-job.result.now in
     let at : slice_get jobs i ≡ Some job = slice_get_read jobs (length jobs) i job refl c.in-Some.ensures.within c.index-job.ensures in
-    let named = ap {B = ℕ} length (offer-named c.args.moment (stock_of c.args.store.now) c.args.name.now jobs i job (sym c.in-Some.ensures.number) at) in
+    let named = ap {B = ℕ} length (offer-named c.args.moment (stock_of c.args.store.now) (settings_of c.args.priorities.now) c.args.name.now jobs i job (sym c.in-Some.ensures.number) at) in
     omega (arith, named, c.first_failing.ensures.looks)
 
 pub returns-in-Some-failing-clause-claim : goal.returns-in-Some-failing-clause-claim
@@ -104,8 +106,9 @@ returns-in-Some-failing-clause-claim g c =
     let job = c.index-job.result.now in
     let at : slice_get jobs i ≡ Some job = slice_get_read jobs (length jobs) i job refl c.in-Some.ensures.within c.index-job.ensures in
     let matched : state_of job.standing ≡ JobState.Matched = search rules in
+    let mine = c.get-number.ensures.number ∙ ap (λ user. priority_of user (settings_of c.args.priorities.now)) c.bytes.ensures in
     let failing = sym c.in-Ok.ensures.failing ∙ c.in-Some-failing.is in
-    claimed-stale c.args.moment (stock_of c.args.store.now) c.args.name.now jobs i job (sym c.in-Some.ensures.number) at matched c.in-Some-failing.slot failing
+    claimed-stale c.args.moment (stock_of c.args.store.now) (settings_of c.args.priorities.now) c.args.name.now jobs i job (sym c.in-Some.ensures.number) at matched c.get-number.result c.in-Some-failing.slot mine failing
     ∙ ap (λ js. (Err (ClaimFault.Stale c.in-Some-failing.slot), js)) (sym c.free-slots.ensures.jobs)
 
 pub returns-in-Some-failing-clause-evaluations : goal.returns-in-Some-failing-clause-evaluations
@@ -114,7 +117,7 @@ returns-in-Some-failing-clause-evaluations g c =
     let i = c.in-Some.i in
     let job = c.index-job.result.now in
     let at : slice_get jobs i ≡ Some job = slice_get_read jobs (length jobs) i job refl c.in-Some.ensures.within c.index-job.ensures in
-    let named = undecided-named c.args.moment (stock_of c.args.store.now) c.args.name.now jobs i job (sym c.in-Some.ensures.number) at in
+    let named = undecided-named c.args.moment (stock_of c.args.store.now) (settings_of c.args.priorities.now) c.args.name.now jobs i job (sym c.in-Some.ensures.number) at in
     omega (arith, named, c.first_failing.ensures.evaluations)
 
 pub returns-in-Some-failing-clause-entries : goal.returns-in-Some-failing-clause-entries
@@ -123,7 +126,7 @@ returns-in-Some-failing-clause-entries g c =
     let i = c.in-Some.i in
     let job = c.index-job.result.now in
     let at : slice_get jobs i ≡ Some job = slice_get_read jobs (length jobs) i job refl c.in-Some.ensures.within c.index-job.ensures in
-    let named = entered-named c.args.moment (stock_of c.args.store.now) c.args.name.now jobs i job (sym c.in-Some.ensures.number) at in
+    let named = entered-named c.args.moment (stock_of c.args.store.now) (settings_of c.args.priorities.now) c.args.name.now jobs i job (sym c.in-Some.ensures.number) at in
     omega (arith, named, c.first_failing.ensures.entries)
 
 pub returns-in-Some-failing-clause-ratio : goal.returns-in-Some-failing-clause-ratio
@@ -141,7 +144,7 @@ returns-in-Some-failing-clause-looks g c =
     let i = c.in-Some.i in
     let job = c.index-job.result.now in
     let at : slice_get jobs i ≡ Some job = slice_get_read jobs (length jobs) i job refl c.in-Some.ensures.within c.index-job.ensures in
-    let named = ap {B = ℕ} length (offer-named c.args.moment (stock_of c.args.store.now) c.args.name.now jobs i job (sym c.in-Some.ensures.number) at) in
+    let named = ap {B = ℕ} length (offer-named c.args.moment (stock_of c.args.store.now) (settings_of c.args.priorities.now) c.args.name.now jobs i job (sym c.in-Some.ensures.number) at) in
     omega (arith, named, c.first_failing.ensures.looks)
 
 pub grant-requires : goal.grant-requires
@@ -159,7 +162,7 @@ returns-in_default-grant-clause-evaluations g c =
     let i = c.in-Some.i in
     let job = c.index-job.result.now in
     let at : slice_get jobs i ≡ Some job = slice_get_read jobs (length jobs) i job refl c.in-Some.ensures.within c.index-job.ensures in
-    let named = undecided-named c.args.moment (stock_of c.args.store.now) c.args.name.now jobs i job (sym c.in-Some.ensures.number) at in
+    let named = undecided-named c.args.moment (stock_of c.args.store.now) (settings_of c.args.priorities.now) c.args.name.now jobs i job (sym c.in-Some.ensures.number) at in
     omega (arith, named, c.first_failing.ensures.evaluations)
 
 pub returns-in_default-grant-clause-entries : goal.returns-in_default-grant-clause-entries
@@ -168,7 +171,7 @@ returns-in_default-grant-clause-entries g c =
     let i = c.in-Some.i in
     let job = c.index-job.result.now in
     let at : slice_get jobs i ≡ Some job = slice_get_read jobs (length jobs) i job refl c.in-Some.ensures.within c.index-job.ensures in
-    let named = entered-named c.args.moment (stock_of c.args.store.now) c.args.name.now jobs i job (sym c.in-Some.ensures.number) at in
+    let named = entered-named c.args.moment (stock_of c.args.store.now) (settings_of c.args.priorities.now) c.args.name.now jobs i job (sym c.in-Some.ensures.number) at in
     omega (arith, named, c.first_failing.ensures.entries)
 
 pub returns-in_default-grant-clause-ratio : goal.returns-in_default-grant-clause-ratio
@@ -186,7 +189,7 @@ returns-in_default-grant-clause-looks g c =
     let i = c.in-Some.i in
     let job = c.index-job.result.now in
     let at : slice_get jobs i ≡ Some job = slice_get_read jobs (length jobs) i job refl c.in-Some.ensures.within c.index-job.ensures in
-    let named = ap {B = ℕ} length (offer-named c.args.moment (stock_of c.args.store.now) c.args.name.now jobs i job (sym c.in-Some.ensures.number) at) in
+    let named = ap {B = ℕ} length (offer-named c.args.moment (stock_of c.args.store.now) (settings_of c.args.priorities.now) c.args.name.now jobs i job (sym c.in-Some.ensures.number) at) in
     omega (arith, named, c.first_failing.ensures.looks)
 
 pub returns-clause-claim : goal.returns-clause-claim
@@ -196,8 +199,9 @@ returns-clause-claim g c =
     let job = c.index-job.result.now in
     let at : slice_get jobs i ≡ Some job = slice_get_read jobs (length jobs) i job refl c.in-Some.ensures.within c.index-job.ensures in
     let matched : state_of job.standing ≡ JobState.Matched = search rules in
+    let mine = c.get-number.ensures.number ∙ ap (λ user. priority_of user (settings_of c.args.priorities.now)) c.bytes.ensures in
     let failing = sym c.in-Ok.ensures.failing ∙ c.in_default-failing.is in
-    claimed-granted c.args.moment (stock_of c.args.store.now) c.args.name.now jobs i job (sym c.in-Some.ensures.number) at matched c.in-Ok-grant.freed (jobs_of c.grant.new.self) failing c.in-Ok-grant.ensures.freed c.in-Ok-grant.ensures.ok
+    claimed-granted c.args.moment (stock_of c.args.store.now) (settings_of c.args.priorities.now) c.args.name.now jobs i job (sym c.in-Some.ensures.number) at matched c.get-number.result c.in-Ok-grant.freed (jobs_of c.grant.new.self) mine failing c.in-Ok-grant.ensures.freed c.in-Ok-grant.ensures.ok
 
 pub returns-clause-evaluations : goal.returns-clause-evaluations
 returns-clause-evaluations g c =
@@ -205,7 +209,7 @@ returns-clause-evaluations g c =
     let i = c.in-Some.i in
     let job = c.index-job.result.now in
     let at : slice_get jobs i ≡ Some job = slice_get_read jobs (length jobs) i job refl c.in-Some.ensures.within c.index-job.ensures in
-    let named = undecided-named c.args.moment (stock_of c.args.store.now) c.args.name.now jobs i job (sym c.in-Some.ensures.number) at in
+    let named = undecided-named c.args.moment (stock_of c.args.store.now) (settings_of c.args.priorities.now) c.args.name.now jobs i job (sym c.in-Some.ensures.number) at in
     omega (arith, named, c.first_failing.ensures.evaluations)
 
 pub returns-clause-entries : goal.returns-clause-entries
@@ -214,7 +218,7 @@ returns-clause-entries g c =
     let i = c.in-Some.i in
     let job = c.index-job.result.now in
     let at : slice_get jobs i ≡ Some job = slice_get_read jobs (length jobs) i job refl c.in-Some.ensures.within c.index-job.ensures in
-    let named = entered-named c.args.moment (stock_of c.args.store.now) c.args.name.now jobs i job (sym c.in-Some.ensures.number) at in
+    let named = entered-named c.args.moment (stock_of c.args.store.now) (settings_of c.args.priorities.now) c.args.name.now jobs i job (sym c.in-Some.ensures.number) at in
     omega (arith, named, c.first_failing.ensures.entries)
 
 pub returns-clause-ratio : goal.returns-clause-ratio
@@ -232,5 +236,5 @@ returns-clause-looks g c =
     let i = c.in-Some.i in
     let job = c.index-job.result.now in
     let at : slice_get jobs i ≡ Some job = slice_get_read jobs (length jobs) i job refl c.in-Some.ensures.within c.index-job.ensures in
-    let named = ap {B = ℕ} length (offer-named c.args.moment (stock_of c.args.store.now) c.args.name.now jobs i job (sym c.in-Some.ensures.number) at) in
+    let named = ap {B = ℕ} length (offer-named c.args.moment (stock_of c.args.store.now) (settings_of c.args.priorities.now) c.args.name.now jobs i job (sym c.in-Some.ensures.number) at) in
     omega (arith, named, c.first_failing.ensures.looks)

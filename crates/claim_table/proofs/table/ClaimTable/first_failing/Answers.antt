@@ -8,6 +8,7 @@ use Rattle.bilateral_match.specs.Docks.{is_last_decided, last_ad}
 use Rattle.bilateral_match.proofs.DockingLemmas.{ad-looked, dock-next, docked-few, last-docked}
 use Rattle.bilateral_match.proofs.SmallLemmas.{slots-small}
 use Rattle.claim_table.specs.Claims.{entered_in, passes, world_at}
+use Rattle.claim_table.specs.Settings.{settings_of}
 use Rattle.claim_table.specs.Table.{jobs_of}
 use Rattle.claim_table.proofs.FailingLemmas.{all-pass, counted-most, counted-within, docked-at, docked-ports, docked-request, docked-some, first-found, upto-next}
 use Rattle.claim_table.proofs.table.ClaimTable.first_failing.Goals as goal
@@ -60,7 +61,7 @@ returns-in_err-passes-clause-entries g c =
     let all = subst (All (Contains stock.slots)) (sym c.offer-slots.ensures) c.requires.offered in
     let looked = ad-looked stock (get_or slots i 0) (ad_frames c.look-ad.result.now) (all i 0 c.loop-slot-test.true) c.look-ad.ensures.ad in
     let world = docked-at c.args.moment stock c.args.job.now.request slots i (world_of c.loop-slot.world) v (ad_frames c.look-ad.result.now) c.loop-slot-test.true c.loop-slot.invariant.world looked c.dock.ensures in
-    let most = counted-within c.args.moment stock c.args.job.now slots c.offer-slots.ensures (entered_in c.args.moment stock (jobs_of c.args.self.now)) i v c.loop-slot-test.true world in
+    let most = counted-within c.args.moment stock c.args.job.now slots c.offer-slots.ensures (entered_in c.args.moment stock (settings_of c.args.priorities.now) (jobs_of c.args.self.now)) i v c.loop-slot-test.true world in
     omega (arith, most, c.loop-slot.invariant.entries, c.passes.ensures.entries)
 
 pub returns-in_err-passes-clause-ratio : goal.returns-in_err-passes-clause-ratio
@@ -84,8 +85,8 @@ returns-then-not-branch-clause-failing g c =
     let all = subst (All (Contains stock.slots)) (sym c.offer-slots.ensures) c.requires.offered in
     let looked = ad-looked stock (get_or slots i 0) (ad_frames c.look-ad.result.now) (all i 0 c.loop-slot-test.true) c.look-ad.ensures.ad in
     let world = docked-at c.args.moment stock c.args.job.now.request slots i (world_of c.loop-slot.world) v (ad_frames c.look-ad.result.now) c.loop-slot-test.true c.loop-slot.invariant.world looked c.dock.ensures in
-    let here = ap (passes c.args.moment stock (jobs_of c.args.self.now) (get_or slots i 0)) (sym world) ∙ sym c.in_ok-passes.ensures.passes ∙ c.if-not-branch.true in
-    first-found c.args.moment stock (jobs_of c.args.self.now) c.args.job.now slots c.offer-slots.ensures i c.loop-slot-test.true c.loop-slot.invariant.passed here
+    let here = ap (passes c.args.moment stock (settings_of c.args.priorities.now) (jobs_of c.args.self.now) c.args.number (get_or slots i 0)) (sym world) ∙ sym c.in_ok-passes.ensures.passes ∙ c.if-not-branch.true in
+    first-found c.args.moment stock (settings_of c.args.priorities.now) (jobs_of c.args.self.now) c.args.number c.args.job.now slots c.offer-slots.ensures i c.loop-slot-test.true c.loop-slot.invariant.passed here
 
 pub returns-then-not-branch-clause-evaluations : goal.returns-then-not-branch-clause-evaluations
 returns-then-not-branch-clause-evaluations g c =
@@ -108,7 +109,7 @@ returns-then-not-branch-clause-entries g c =
     let all = subst (All (Contains stock.slots)) (sym c.offer-slots.ensures) c.requires.offered in
     let looked = ad-looked stock (get_or slots i 0) (ad_frames c.look-ad.result.now) (all i 0 c.loop-slot-test.true) c.look-ad.ensures.ad in
     let world = docked-at c.args.moment stock c.args.job.now.request slots i (world_of c.loop-slot.world) v (ad_frames c.look-ad.result.now) c.loop-slot-test.true c.loop-slot.invariant.world looked c.dock.ensures in
-    let most = counted-within c.args.moment stock c.args.job.now slots c.offer-slots.ensures (entered_in c.args.moment stock (jobs_of c.args.self.now)) i v c.loop-slot-test.true world in
+    let most = counted-within c.args.moment stock c.args.job.now slots c.offer-slots.ensures (entered_in c.args.moment stock (settings_of c.args.priorities.now) (jobs_of c.args.self.now)) i v c.loop-slot-test.true world in
     omega (arith, most, c.loop-slot.invariant.entries, c.passes.ensures.entries)
 
 pub returns-then-not-branch-clause-ratio : goal.returns-then-not-branch-clause-ratio
@@ -132,16 +133,16 @@ loop-slot-preserved g c =
     let all = subst (All (Contains stock.slots)) (sym c.offer-slots.ensures) c.requires.offered in
     let looked = ad-looked stock (get_or slots i 0) (ad_frames c.look-ad.result.now) (all i 0 c.loop-slot-test.true) c.look-ad.ensures.ad in
     let world = docked-at c.args.moment stock c.args.job.now.request slots i (world_of c.loop-slot.world) v (ad_frames c.look-ad.result.now) c.loop-slot-test.true c.loop-slot.invariant.world looked c.dock.ensures in
-    let here = ap (passes c.args.moment stock (jobs_of c.args.self.now) (get_or slots i 0)) (sym world) ∙ sym c.in_ok-passes.ensures.passes ∙ c.if-not-branch.false in
+    let here = ap (passes c.args.moment stock (settings_of c.args.priorities.now) (jobs_of c.args.self.now) c.args.number (get_or slots i 0)) (sym world) ∙ sym c.in_ok-passes.ensures.passes ∙ c.if-not-branch.false in
     let undecided : ℕ → PlainWorld → ℕ = λ slot u. if is_last_decided u then 0 else 1 in
-    let entered : ℕ → PlainWorld → ℕ = entered_in c.args.moment stock (jobs_of c.args.self.now) in
+    let entered : ℕ → PlainWorld → ℕ = entered_in c.args.moment stock (settings_of c.args.priorities.now) (jobs_of c.args.self.now) in
     let evaluated = upto-next c.args.moment stock c.args.job.now.request slots undecided i in
     let evaluations = ap (undecided (get_or slots i 0)) world in
     let entries = ap (entered (get_or slots i 0)) world in
     let attributes = upto-next c.args.moment stock c.args.job.now.request slots entered i in
     record {
       world = dock-next c.args.moment stock c.args.job.now.request slots i 0 (world_of c.loop-slot.world) v (ad_frames c.look-ad.result.now) c.loop-slot-test.true c.loop-slot.invariant.world looked c.dock.ensures;
-      passed = below_more (λ k. passes c.args.moment stock (jobs_of c.args.self.now) (get_or slots k 0) (world_at c.args.moment stock c.args.job.now.request slots k) ≡ true) i c.loop-slot.invariant.passed here;
+      passed = below_more (λ k. passes c.args.moment stock (settings_of c.args.priorities.now) (jobs_of c.args.self.now) c.args.number (get_or slots k 0) (world_at c.args.moment stock c.args.job.now.request slots k) ≡ true) i c.loop-slot.invariant.passed here;
       evaluations = omega (arith, evaluated, evaluations, c.loop-slot.invariant.evaluations, c.passes.ensures.evaluations);
       entries = omega (arith, attributes, entries, c.loop-slot.invariant.entries, c.passes.ensures.entries);
       ratio = λ small ads jobs.
@@ -152,7 +153,7 @@ loop-slot-preserved g c =
 
 pub returns-clause-failing : goal.returns-clause-failing
 returns-clause-failing g c =
-    all-pass c.args.moment (stock_of c.args.store.now) (jobs_of c.args.self.now) c.args.job.now c.offer-slots.result.now c.offer-slots.ensures c.loop-slot.slot-index c.loop-slot-test.false c.loop-slot.invariant.passed
+    all-pass c.args.moment (stock_of c.args.store.now) (settings_of c.args.priorities.now) (jobs_of c.args.self.now) c.args.number c.args.job.now c.offer-slots.result.now c.offer-slots.ensures c.loop-slot.slot-index c.loop-slot-test.false c.loop-slot.invariant.passed
 
 pub returns-clause-evaluations : goal.returns-clause-evaluations
 returns-clause-evaluations g c =
@@ -162,5 +163,5 @@ returns-clause-evaluations g c =
 pub returns-clause-entries : goal.returns-clause-entries
 returns-clause-entries g c =
     let stock = stock_of c.args.store.now in
-    let most = counted-most c.args.moment stock c.args.job.now c.offer-slots.result.now c.offer-slots.ensures (entered_in c.args.moment stock (jobs_of c.args.self.now)) c.loop-slot.slot-index c.loop-slot.auto.slot-index-end in
+    let most = counted-most c.args.moment stock c.args.job.now c.offer-slots.result.now c.offer-slots.ensures (entered_in c.args.moment stock (settings_of c.args.priorities.now) (jobs_of c.args.self.now)) c.loop-slot.slot-index c.loop-slot.auto.slot-index-end in
     omega (arith, most, c.loop-slot.invariant.entries)

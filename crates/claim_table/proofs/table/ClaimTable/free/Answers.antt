@@ -2,7 +2,7 @@ use Rattle.std.proofs.Common.{◌≡◌, cond, length, refl, sym, subst, slice_g
 use Rattle.std.specs.Prelude.{option_map}
 use Rattle.std.specs.Option.{option_map_or}
 use Rattle.std.proofs.lemmas.Option.{slice_get_read}
-use Rattle.claim_table.specs.declared.job.Standing.{Standing}
+use Rattle.claim_table.specs.declared.job.Stage.{Stage}
 use Rattle.claim_table.specs.Jobs.{claim_of, lists, offer_of, slots_of}
 use Rattle.claim_table.specs.Kept.{IsKept, note_at}
 use Rattle.claim_table.proofs.ChangeLemmas.{freed_kept}
@@ -38,4 +38,4 @@ returns-clause-jobs c =
     let job = c.index_mut.result.now in
     let at : slice_get t.jobs.items c.args.i ≡ Some job = slice_get_read t.jobs.items (length t.jobs.items) c.args.i job refl c.requires c.index_mut.ensures.value in
     ap (λ s. slice_set t.jobs.items c.args.i (record job { standing = s })) c.replace-was.ensures.after
-    ∙ sym (ap (λ o. option_map_or (λ j. slice_set t.jobs.items c.args.i (record j { standing = Standing.Idle })) o t.jobs.items) at)
+    ∙ sym (ap (λ o. option_map_or (λ j. slice_set t.jobs.items c.args.i (record j { standing = Stage.Idle })) o t.jobs.items) at)

@@ -2,7 +2,7 @@ use Rattle.std.proofs.Common.{◌≡◌, ◌<◌, ◌∙◌, All, List, None, So
 use Rattle.std.specs.Prelude.{option_map}
 use Rattle.claim_table.specs.declared.answers.JobState.{JobState}
 use Rattle.claim_table.specs.declared.job.Job.{Job}
-use Rattle.claim_table.specs.declared.job.Standing.{Standing}
+use Rattle.claim_table.specs.declared.job.Stage.{Stage}
 use Rattle.claim_table.specs.Claims as claims
 use Rattle.claim_table.specs.Jobs.{claimed_by, state_of, with_standing}
 use Rattle.claim_table.specs.Table.{jobs_of}
@@ -58,5 +58,5 @@ returns-clause-ok c =
     let losers = c.in_ok-losers.ensures ∙ ap (claims.losers jobs) (c.offer.ensures ∙ sym (offer-found jobs i c.index.result.now at)) in
     let idle = c.make_all_idle.ensures ∙ ap (claims.all_idle jobs) (c.as_slice-2.ensures ∙ losers) in
     let rest = claims.all_idle jobs (claims.losers jobs (claims.offer_at i jobs)) in
-    c.settle.ensures ∙ ap (λ (js : List Job). with_standing js i (Standing.Claimed (claims.offer_at i js))) idle
-    ∙ ap (λ slots. with_standing rest i (Standing.Claimed slots)) (same-offer t.claims.items jobs t.kept.claimed i c.requires)
+    c.settle.ensures ∙ ap (λ (js : List Job). with_standing js i (Stage.Claimed (claims.offer_at i js))) idle
+    ∙ ap (λ slots. with_standing rest i (Stage.Claimed slots)) (same-offer t.claims.items jobs t.kept.claimed i c.requires)

@@ -1,6 +1,6 @@
 use Rattle.std.proofs.Common.{◌≡◌, ◌+◌, ◌∙◌, ◌∷◌, ◌++◌, [], ap, map, refl, subst, sym}
 use Rattle.claim_table.specs.declared.job.Job.{Job}
-use Rattle.claim_table.specs.declared.job.Standing.{Standing}
+use Rattle.claim_table.specs.declared.job.Stage.{Stage}
 use Rattle.claim_table.specs.Kept.{IsKept}
 use Rattle.claim_table.proofs.ChangeLemmas.{entered_kept}
 use Rattle.claim_table.proofs.table.ClaimTable.submit.Goals as goal
@@ -9,7 +9,7 @@ pub invariant_of-self-2 : goal.invariant_of-self-2
 invariant_of-self-2 c =
     let t = c.args.self.now in
     let titles = c.in-Ok.titles in
-    let job : Job = record { name = titles.job; user = titles.user; text_len = c.args.text_len; request = c.args.request; standing = Standing.Idle } in
+    let job : Job = record { name = titles.job; user = titles.user; text_len = c.args.text_len; request = c.args.request; standing = Stage.Idle } in
     let items : c.push_reserved.new.self.items ≡ t.jobs.items ++ job ∷ [] = c.push_reserved.ensures.items ∙ ap (λ l. l ++ job ∷ []) c.enter.ensures.jobs in
     record {
       kept = subst (λ l. IsKept c.enter.new.names.keys l t.offers.items t.claims.items (t.text + c.args.text_len)) (sym items)

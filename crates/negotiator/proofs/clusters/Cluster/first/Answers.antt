@@ -3,7 +3,7 @@ use Rattle.std.proofs.lemmas.Option.{gets}
 use Rattle.bilateral_match.specs.Shortlists.{first_left}
 use Rattle.claim_table.specs.Table.{jobs_of}
 use Rattle.negotiator.specs.Clusters.{is_offered}
-use Rattle.negotiator.specs.Scenes.{stock_in}
+use Rattle.negotiator.specs.Scenes.{settings_in, stock_in}
 use Rattle.negotiator.proofs.ClusterLemmas.{further, left-best, left-free}
 use Rattle.negotiator.proofs.clusters.Cluster.first.Goals as goal
 
@@ -15,7 +15,7 @@ pub returns-clause-best : goal.returns-clause-best
 returns-clause-best c =
     let jobs = jobs_of c.args.claims.now in
     let found : c.copied.result ≡ slice_get c.as_slice-2.result.now c.first_left-self.result = search (rules, gets) in
-    left-best c.args.scene.now.moment (stock_in c.args.scene.now) jobs c.args.self.now c.requires c.copied.result
+    left-best c.args.scene.now.moment (stock_in c.args.scene.now) (settings_in c.args.scene.now) jobs c.args.self.now c.requires c.copied.result
     (found ∙ ap (λ s. slice_get s c.first_left-self.result) (c.as_slice-2.ensures ∙ sym c.as_slice.ensures) ∙ c.first_left-self.ensures.first ∙ ap (first_left (is_offered jobs)) c.as_slice.ensures)
 
 pub returns-clause-free : goal.returns-clause-free
@@ -28,5 +28,5 @@ returns-clause-free c =
 pub returns-clause-kept : goal.returns-clause-kept
 returns-clause-kept c =
     let jobs = jobs_of c.args.claims.now in
-    further c.args.scene.now.moment (stock_in c.args.scene.now) jobs c.args.self.now c.requires c.first_left-self.result
+    further c.args.scene.now.moment (stock_in c.args.scene.now) (settings_in c.args.scene.now) jobs c.args.self.now c.requires c.first_left-self.result
     (subst (λ (slots : List ℕ). All (λ slot. is_offered jobs slot ≡ true) (take c.first_left-self.result slots)) c.as_slice.ensures c.first_left-self.ensures.passed)

@@ -1,5 +1,6 @@
 use Rattle.std.proofs.Common.{ℕ, ◌*◌, ◌≤◌, ◌+◌, Contains, sym, subst}
 use Rattle.ad_store.specs.Store.{stock_of}
+use Rattle.claim_table.specs.Settings.{settings_of}
 use Rattle.claim_table.specs.Table.{jobs_of}
 use Rattle.claim_table.proofs.StoredLemmas.{claim-keeps}
 use Rattle.pool_state.specs.Ports.{HasOwnPorts}
@@ -17,18 +18,19 @@ pub invariant_of-self : goal.invariant_of-self
 invariant_of-self g c =
     let books = c.args.self.now in
     let stock = stock_of books.ads.store in
+    let settings = settings_of c.args.priorities.now in
     let jobs = jobs_of books.claims in
-    let listed = held-all stock.slots (jobs_of c.claim.new.self) (claim-keeps (Contains stock.slots) c.args.moment stock c.args.name.now jobs (all-held stock.slots jobs books.listed) c.claim.result (jobs_of c.claim.new.self) c.claim.ensures.claim) in
-    let owned = claim-kept HasOwnPorts c.args.moment stock c.args.name.now jobs books.owned c.claim.result (jobs_of c.claim.new.self) c.claim.ensures.claim in
-    let small = claim-kept IsSmallRequest c.args.moment stock c.args.name.now jobs books.small c.claim.result (jobs_of c.claim.new.self) c.claim.ensures.claim in
+    let listed = held-all stock.slots (jobs_of c.claim.new.self) (claim-keeps (Contains stock.slots) c.args.moment stock settings c.args.name.now jobs (all-held stock.slots jobs books.listed) c.claim.result (jobs_of c.claim.new.self) c.claim.ensures.claim) in
+    let owned = claim-kept HasOwnPorts c.args.moment stock settings c.args.name.now jobs books.owned c.claim.result (jobs_of c.claim.new.self) c.claim.ensures.claim in
+    let small = claim-kept IsSmallRequest c.args.moment stock settings c.args.name.now jobs books.small c.claim.result (jobs_of c.claim.new.self) c.claim.ensures.claim in
     record { listed = listed; owned = owned; small = small }
 
 pub returns-clause-claim : goal.returns-clause-claim
-returns-clause-claim g c = λ priorities.
+returns-clause-claim g c =
     let books = c.args.self.now in
     let stock = stock_of books.ads.store in
     let beside : AreBeside stock.ads stock.slots = record { long = stock-length books.ads.store; names = c.names_are_apart.ensures; apart = c.slots_are_apart.ensures } in
-    claim-seen stock c.args.moment priorities beside c.args.name.now (jobs_of books.claims) books.listed books.owned c.names_are_apart-2.ensures c.resources_are_apart.ensures.claims c.claim.result (jobs_of c.claim.new.self) c.claim.ensures.claim
+    claim-seen stock c.args.moment (settings_of c.args.priorities.now) beside c.args.name.now (jobs_of books.claims) books.listed books.owned c.names_are_apart-2.ensures c.resources_are_apart.ensures.claims c.claim.result (jobs_of c.claim.new.self) c.claim.ensures.claim
 
 pub returns-clause-cost : goal.returns-clause-cost
 returns-clause-cost g c = λ priorities.

@@ -3,7 +3,7 @@ use Rattle.ad_store.specs.Store.{stock_of}
 use Rattle.claim_table.specs.Table.{jobs_of}
 use Rattle.negotiator.specs.Cycle.{cycle_of, offers_of}
 use Rattle.negotiator.specs.Markets.{IsPart, market_of, spin_named}
-use Rattle.negotiator.specs.Settings.{settings_of}
+use Rattle.claim_table.specs.Settings.{settings_of}
 use Rattle.pool_state.specs.Ports.{HasOwnPorts}
 use Rattle.pool_state.specs.Rows.{IsSpinHeld}
 use Rattle.pool_state.proofs.DockLemmas.{holders-stored}
@@ -22,7 +22,7 @@ if_ok-both (Ok x) P Q more a p = more a x p
 if_ok-both (Err e) P Q more a p = tt
 
 pub cycle-requires-clause-stored : goal.cycle-requires-clause-stored
-cycle-requires-clause-stored g c = holders-stored (stock_of c.args.self.now.ads.store) (jobs_of c.args.self.now.claims) c.args.self.now.listed
+cycle-requires-clause-stored g c = holders-stored (stock_of c.args.self.now.ads.store) (settings_of c.args.priorities.now) (jobs_of c.args.self.now.claims) c.args.self.now.listed
 
 pub cycle-requires-clause-ports : goal.cycle-requires-clause-ports
 cycle-requires-clause-ports g c = all-own (jobs_of c.args.self.now.claims) c.args.self.now.owned

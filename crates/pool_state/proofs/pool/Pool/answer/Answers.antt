@@ -1,6 +1,6 @@
 use Rattle.std.proofs.Common.{ℕ, List, length, sym, ◌∙◌, ap}
 use Rattle.ad_parser.proofs.Outcomes.{ad_outcome}
-use Rattle.negotiator.specs.Settings.{settings_of}
+use Rattle.claim_table.specs.Settings.{settings_of}
 use Rattle.pool_state.specs.Pool.{state_of}
 use Rattle.pool_state.specs.State.{State}
 use Rattle.pool_state.specs.Step.{advertise, step}

@@ -1,6 +1,6 @@
 use Rattle.std.proofs.Common.{◌≡◌, ◌≤◌, ◌+◌, ℕ, List, IfOk, length, sym, ◌∙◌, ap, subst}
 use Rattle.ad_parser.proofs.Outcomes.{ad_outcome}
-use Rattle.negotiator.specs.Settings.{settings_of}
+use Rattle.claim_table.specs.Settings.{settings_of}
 use Rattle.pool_state.specs.Pool.{state_of}
 use Rattle.pool_state.specs.State.{State}
 use Rattle.pool_state.specs.Claiming.{undecided_for_claim}
@@ -28,7 +28,7 @@ returns-in-Priority-clause-step g c =
 pub returns-in-Claim-clause-step : goal.returns-in-Claim-clause-step
 unfolding state_of
 returns-in-Claim-clause-step g c =
-    if_ok c.claim.result _ _ (λ reply is. ap (step (state_of c.args.self.now)) c.in-Claim.is ∙ step-Claim (state_of c.args.self.now) c.in-Claim.job ∙ is (settings_of c.args.self.now.priorities)) c.claim.ensures.step
+    if_ok c.claim.result _ _ (λ reply is. ap (step (state_of c.args.self.now)) c.in-Claim.is ∙ step-Claim (state_of c.args.self.now) c.in-Claim.job ∙ is) c.claim.ensures.step
 
 pub returns-in-Claim-clause-cost : goal.returns-in-Claim-clause-cost
 unfolding state_of

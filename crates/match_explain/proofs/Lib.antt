@@ -1,0 +1,5 @@
+mod CountLemmas
+mod FailingLemmas
+mod JudgeLemmas
+mod LawLemmas
+mod ReportLemmas

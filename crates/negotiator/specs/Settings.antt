@@ -1,8 +1,0 @@
--- What contracts see of priorities.
-use Rattle.std.specs.Prelude.{List, map}
-use Rattle.negotiator.specs.declared.priorities.Priorities.{Priorities}
-use Rattle.negotiator.specs.Priorities.{Setting, setting_of}
-
--- the users whose priority is set, in the order in which they were first set
-abbrev pub settings_of : Priorities → List Setting
-settings_of priorities = map setting_of priorities.numbers.entries

@@ -18,11 +18,11 @@ pub enum Kind {
 }
 
 /// The place of an attribute of an ad: by the digest of its name, then by what its expression is, then by the number or
-/// the digest of its literal. The ad's slot and the attribute's place in the ad come last and keep equal ones apart.
+/// the digest of its literal, where a number counts in millionths, so that one of each kind has one place. The ad's slot and the attribute's place in the ad come last and keep equal ones apart.
 #[derive(Clone, Copy)]
 pub struct Place {
     pub name: u64,
-    pub value: i64,
+    pub value: i128,
     pub slot: usize,
     pub attr: u32,
     pub kind: Kind,

@@ -26,11 +26,6 @@ abbrev pub events_of : Heard → List Command → List Event
 events_of s [] = []
 events_of s (command ∷ commands) = event_of s command ∷ events_of (step_heard s command).0 commands
 
--- the state behind commands
-abbrev pub state_after : Heard → List Command → Heard
-state_after s [] = s
-state_after s (command ∷ commands) = state_after (step_heard s command).0 commands
-
 -- the text of the replies
 abbrev pub replies_text : List Event → List ℕ
 replies_text events = flat_map (λ event. reply_text event.reply) events

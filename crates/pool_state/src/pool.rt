@@ -69,7 +69,8 @@ impl Pool {
     }
 
     /// Runs a command and posts its notices to a desk, whose names listen; `unlisten` takes one of them off. A box that fails is
-    /// dropped before the next post, and changes neither the reply nor the state. Where memory is wanting nothing is posted.
+    /// dropped before the next post, and changes neither the reply nor the state. Where memory is wanting nothing is posted, and the
+    /// pool is spent: a further step answers `OutOfMemory` and changes nothing, neither the pool nor the desk nor a counter.
     ///
     /// It counts in `tops` the whole evaluations, one at most for `eval` and `evalin`, for `why` one at most for each ad and
     /// conjunct of either side, and for any other command five at most for each dock that it meets and that literal attributes
@@ -96,7 +97,8 @@ impl Pool {
         ensures cost { tops.new ≤ tops.old + steps.allowance (state_of self.old) command.now }
         ensures ratio { entry.new + 9216 * tops.old ≤ entry.old + 9216 * tops.new }
         ensures looks { touch.new ≤ touch.old + steps.looks (state_of self.old) command.now }
-        ensures spent { is_spent self.old ≡ true → IsErr result × (self.new ≡ self.old) }
+        ensures spent { is_spent self.old ≡ true → IsErr result × (self.new ≡ self.old) × (desk.new ≡ desk.old)
+            × (tops.new ≡ tops.old) × (entry.new ≡ entry.old) × (touch.new ≡ touch.old) }
     {
         if self.spent {
             return Err(OutOfMemory);

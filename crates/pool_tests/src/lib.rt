@@ -4,6 +4,8 @@
 #[cfg(test)]
 mod crowds;
 #[cfg(test)]
+mod faults;
+#[cfg(test)]
 mod mail;
 #[cfg(test)]
 mod runs;

@@ -3,7 +3,7 @@ use Rattle.std.proofs.Common.{◌≡◌, ◌≤◌, ◌+◌, ◌-◌, ℕ, zero,
 use Rattle.std.specs.Option.{option_and_then}
 use Rattle.pool_text.specs.declared.language.AdPlace.{AdPlace}
 use Rattle.pool_text.specs.declared.language.Pos.{Pos}
-use Rattle.ad_value.specs.Plain.{Plain, undefined, error, boolean, integer, text, list, ad_at}
+use Rattle.ad_value.specs.Plain.{Plain, undefined, error, boolean, integer, decimal, text, list, ad_at}
 use Rattle.ad_value.specs.Logic.{and_is_decided, and_value, or_is_decided, or_value}
 use Rattle.ad_value.specs.Operators.{binary_value, unary_value}
 use Rattle.ad_value.specs.Demands.{all_demanded, chosen, conjunction, disjunction, list_value, selected, subscripted}
@@ -72,6 +72,7 @@ chosen-below a b c d error h k = Below-itself (Some error)
 chosen-below a b c d (boolean true) h k = h
 chosen-below a b c d (boolean false) h k = k
 chosen-below a b c d (integer n) h k = Below-itself (Some error)
+chosen-below a b c d (decimal m) h k = Below-itself (Some error)
 chosen-below a b c d (text bytes) h k = Below-itself (Some error)
 chosen-below a b c d (list items) h k = Below-itself (Some error)
 chosen-below a b c d (ad_at place) h k = Below-itself (Some error)
@@ -97,6 +98,7 @@ module _ (at later : Pos → Option Plain) (above : (s : Pos) → Below (at s) (
   selected-below x error = Below-itself (Some error)
   selected-below x (boolean b) = Below-itself (Some error)
   selected-below x (integer n) = Below-itself (Some error)
+  selected-below x (decimal m) = Below-itself (Some error)
   selected-below x (text bytes) = Below-itself (Some error)
   selected-below x (list items) = Below-itself (Some error)
   selected-below x (ad_at place) = attribute-below place x
@@ -107,6 +109,7 @@ module _ (at later : Pos → Option Plain) (above : (s : Pos) → Below (at s) (
   subscripted-below undefined error = λ u e. e
   subscripted-below undefined (boolean b) = λ u e. e
   subscripted-below undefined (integer n) = λ u e. e
+  subscripted-below undefined (decimal n) = λ u e. e
   subscripted-below undefined (text bytes) = λ u e. e
   subscripted-below undefined (list items) = λ u e. e
   subscripted-below undefined (ad_at place) = λ u e. e
@@ -114,6 +117,7 @@ module _ (at later : Pos → Option Plain) (above : (s : Pos) → Below (at s) (
   subscripted-below (boolean b) error = λ u e. e
   subscripted-below (boolean b) (boolean c) = λ u e. e
   subscripted-below (boolean b) (integer n) = λ u e. e
+  subscripted-below (boolean b) (decimal n) = λ u e. e
   subscripted-below (boolean b) (text bytes) = λ u e. e
   subscripted-below (boolean b) (list items) = λ u e. e
   subscripted-below (boolean b) (ad_at place) = λ u e. e
@@ -121,13 +125,23 @@ module _ (at later : Pos → Option Plain) (above : (s : Pos) → Below (at s) (
   subscripted-below (integer m) error = λ u e. e
   subscripted-below (integer m) (boolean c) = λ u e. e
   subscripted-below (integer m) (integer n) = λ u e. e
+  subscripted-below (integer m) (decimal n) = λ u e. e
   subscripted-below (integer m) (text bytes) = λ u e. e
   subscripted-below (integer m) (list items) = λ u e. e
   subscripted-below (integer m) (ad_at place) = λ u e. e
+  subscripted-below (decimal m) undefined = λ u e. e
+  subscripted-below (decimal m) error = λ u e. e
+  subscripted-below (decimal m) (boolean c) = λ u e. e
+  subscripted-below (decimal m) (integer n) = λ u e. e
+  subscripted-below (decimal m) (decimal n) = λ u e. e
+  subscripted-below (decimal m) (text bytes) = λ u e. e
+  subscripted-below (decimal m) (list items) = λ u e. e
+  subscripted-below (decimal m) (ad_at place) = λ u e. e
   subscripted-below (text t) undefined = λ u e. e
   subscripted-below (text t) error = λ u e. e
   subscripted-below (text t) (boolean c) = λ u e. e
   subscripted-below (text t) (integer n) = λ u e. e
+  subscripted-below (text t) (decimal n) = λ u e. e
   subscripted-below (text t) (text bytes) = λ u e. e
   subscripted-below (text t) (list items) = λ u e. e
   subscripted-below (text t) (ad_at place) = λ u e. e
@@ -135,6 +149,7 @@ module _ (at later : Pos → Option Plain) (above : (s : Pos) → Below (at s) (
   subscripted-below (list l) error = λ u e. e
   subscripted-below (list l) (boolean c) = λ u e. e
   subscripted-below (list l) (integer n) = λ u e. e
+  subscripted-below (list l) (decimal n) = λ u e. e
   subscripted-below (list l) (text bytes) = λ u e. e
   subscripted-below (list l) (list items) = λ u e. e
   subscripted-below (list l) (ad_at place) = λ u e. e
@@ -142,6 +157,7 @@ module _ (at later : Pos → Option Plain) (above : (s : Pos) → Below (at s) (
   subscripted-below (ad_at p) error = λ u e. e
   subscripted-below (ad_at p) (boolean c) = λ u e. e
   subscripted-below (ad_at p) (integer n) = λ u e. e
+  subscripted-below (ad_at p) (decimal n) = λ u e. e
   subscripted-below (ad_at p) (text bytes) = attribute-below p bytes
   subscripted-below (ad_at p) (list items) = λ u e. e
   subscripted-below (ad_at p) (ad_at place) = λ u e. e

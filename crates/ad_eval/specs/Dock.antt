@@ -1,9 +1,10 @@
 -- Requirements, ranks and docks.
-use Rattle.std.specs.Prelude.{ℕ, Bool, true, false, ◌&&◌, ℤ, pos}
+use Rattle.std.specs.Prelude.{ℕ, Bool, true, false, ◌&&◌, ℤ, pos, ◌*ℤ◌}
 use Rattle.std.specs.Option.{option_map_or}
 use Rattle.pool_text.specs.declared.language.AdPlace.{AdPlace}
 use Rattle.pool_text.specs.declared.language.Pos.{Pos}
-use Rattle.ad_value.specs.Plain.{Plain, boolean, integer}
+use Rattle.ad_value.specs.Numbers.{million}
+use Rattle.ad_value.specs.Plain.{Plain, boolean, decimal, integer}
 use Rattle.ad_value.specs.Logic.{is_true}
 use Rattle.ad_tree.specs.Special.{requirement_of, rank_of}
 use Rattle.eval_scope.specs.World.{PlainWorld, frames_of_ad, request_side, resource_side}
@@ -17,10 +18,11 @@ attribute_of p k = record { ad = p.ad; frame = p.frame; attr = k }
 abbrev pub meets_requirement : PlainWorld → AdPlace → Bool
 meets_requirement w p = option_map_or (λ k. is_true (evaluation_at w (attribute_of p k))) (requirement_of (frames_of_ad w p.ad) p.frame) false
 
--- a rank: an Integer itself, true as 1, and 0 for all else
+-- a rank in millionths: an Integer's, a Decimal's, those of 1 for true, and 0 for all else
 abbrev pub rank_number : Plain → ℤ
-rank_number (integer n) = n
-rank_number (boolean true) = pos 1
+rank_number (integer n) = n *ℤ million
+rank_number (decimal m) = m
+rank_number (boolean true) = million
 rank_number value = pos 0
 
 -- the rank by the frame at a place, 0 where it has none

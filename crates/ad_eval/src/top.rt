@@ -16,7 +16,7 @@ use crate::outcome::Outcome;
 use crate::scene::Scene;
 use crate::stop::Stop;
 use ad_tree::Expr;
-use ad_value::Value;
+use ad_value::{MILLION, Value};
 use cycle_guard::Guard;
 use eval_scope::World;
 use pool_steps::Steps;
@@ -105,8 +105,8 @@ pub fn requirement<F: Ledger, E: Ledger>(
     holds(value_at(alloc, world, pos, tops, entry))
 }
 
-/// The rank by the frame `at`: its attribute `Rank` where that is an Integer, 1 where it is true, and 0 for all else. The
-/// reference to it is the first of the 24.
+/// The rank by the frame `at`, in millionths: its attribute `Rank` where that is an Integer or a Decimal, 1 where it is true,
+/// and 0 for all else. The reference to it is the first of the 24.
 ///
 /// It counts one in `tops` where there is a rank.
 pub fn rank<F: Ledger, E: Ledger>(
@@ -115,7 +115,7 @@ pub fn rank<F: Ledger, E: Ledger>(
     at: AdPlace,
     tops: &mut Steps<F>,
     entry: &mut Steps<E>,
-) -> Result<i64, OutOfMemory>
+) -> Result<i128, OutOfMemory>
     ensures value { IfOk result (λ n. n ≡ rank_by (world_of world.now) at) }
     ensures evaluations { tops.new ≤ tops.old + 1 }
     ensures entries { entry.new ≤ entry.old + attribute_count (world_of world.now) }
@@ -218,7 +218,7 @@ fn holds(value: Result<Value, OutOfMemory>) -> Result<bool, OutOfMemory>
 }
 
 // The rank that a value stands for.
-fn number(value: Result<Value, OutOfMemory>) -> Result<i64, OutOfMemory>
+fn number(value: Result<Value, OutOfMemory>) -> Result<i128, OutOfMemory>
     ensures { (v : Plain) → IfOk value (λ found. plain found ≡ v) → IfOk result (λ n. n ≡ rank_number v) }
 {
     let value = value?;
@@ -238,13 +238,14 @@ fn requirement_in(world: &World<'_>, at: AdPlace) -> Option<Pos>
     }
 }
 
-// The rank that a value stands for.
-fn rank_number(value: &Value) -> i64
+// The rank that a value stands for, in millionths.
+fn rank_number(value: &Value) -> i128
     ensures { result ≡ rank_number (plain value.now) }
 {
     match value {
-        Value::Integer(n) => *n,
-        Value::Boolean(true) => 1,
+        Value::Integer(n) => i128::from(*n) * MILLION,
+        Value::Decimal(millionths) => i128::from(*millionths),
+        Value::Boolean(true) => MILLION,
         _ => 0,
     }
 }

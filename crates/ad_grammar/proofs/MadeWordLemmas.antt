@@ -11,6 +11,7 @@ use Rattle.ad_lexer.specs.Texts.{MeansText, MeanTexts}
 use Rattle.ad_lexer.specs.Tokens.{Item, blank, token, Divides, lexemes, Tokens}
 use Rattle.ad_lexer.specs.declared.token.TokenKind.{TokenKind}
 use Rattle.ad_lexer.specs.declared.token.TokenKind.TheVariants as kinds
+use Rattle.ad_lexer.proofs.FractionLemmas.{decimal_small}
 use Rattle.ad_lexer.proofs.TextLemmas.{tokens_mean}
 use Rattle.ad_lexer.specs.declared.mark.Mark.{Mark}
 use Rattle.ad_grammar.specs.Made.{IsMadeWord, AreMade}
@@ -40,6 +41,7 @@ word-made kinds.Reserved bytes is means = meaning-made reserved_words (folded by
 word-made kinds.Quoted bytes is means = means
 word-made kinds.Str bytes is means = means
 word-made kinds.Int bytes is means = ltb-true (value bytes) (2 ^ 63) (and_parts _ _ is).1
+word-made kinds.Dec bytes is means = decimal_small bytes is
 word-made kinds.Symbol bytes is means = mark-made (meaning_of marks bytes)
 
 items-made : (text : List ℕ) (items : List Item) (at : ℕ) → Divides text items [] → MeanTexts (lexemes at items) → AreMade (words (lexemes at items))

@@ -10,7 +10,7 @@ use Rattle.pool_text.specs.declared.language.Lit.TheVariants.{Undefined, Error, 
 use Rattle.ad_lexer.specs.Content.{content}
 use Rattle.ad_lexer.specs.Lexeme.{Lexeme}
 use Rattle.ad_lexer.specs.Marks.{meaning_of, marks, mark_words, mark_of_kind, mark_of_lexeme, marks_of}
-use Rattle.ad_lexer.specs.Numbers.{value}
+use Rattle.ad_lexer.specs.Numbers.{digits_len, millionths, value}
 use Rattle.ad_lexer.specs.Spelling.{Spells}
 use Rattle.ad_lexer.specs.declared.mark.Mark.{Mark}
 use Rattle.ad_lexer.specs.declared.mark.Mark.TheVariants.{Binary}
@@ -18,6 +18,7 @@ use Rattle.ad_lexer.specs.declared.token.TokenKind.{TokenKind}
 use Rattle.ad_lexer.specs.declared.token.TokenKind.TheVariants as kinds
 use Rattle.ad_grammar.specs.Meaning.{AreSpelled}
 use Rattle.ad_lexer.specs.Quoted.{IsQuotation}
+use Rattle.ad_lexer.proofs.FractionLemmas.{decimal_small, decimal_within}
 use Rattle.ad_grammar.specs.HeldMarks.{front_mark, mark_in, unmarked}
 use Rattle.ad_grammar.specs.Words.{Word, plain, quoted, constant, mark, or_undefined, mark_word, reserved_words, word, word_of_kind, words}
 
@@ -54,6 +55,7 @@ kind-mark kinds.Reserved bytes = reserved-mark (folded bytes)
 kind-mark kinds.Quoted bytes = refl
 kind-mark kinds.Str bytes = refl
 kind-mark kinds.Int bytes = refl
+kind-mark kinds.Dec bytes = refl
 kind-mark kinds.Symbol bytes = symbol-mark (meaning_of marks bytes)
 
 -- the word at a place, with what stands behind it, and the mark that it is
@@ -120,6 +122,7 @@ plain-kind kinds.Reserved bytes text e =
 plain-kind kinds.Quoted bytes text e = absurd (cc)
 plain-kind kinds.Str bytes text e = absurd (cc)
 plain-kind kinds.Int bytes text e = absurd (cc)
+plain-kind kinds.Dec bytes text e = absurd (cc)
 plain-kind kinds.Symbol bytes text e = absurd (no-plain-mark (meaning_of marks bytes) text e)
 
 pub plain-at : (ts : List Lexeme) (i : ℕ) (t : Lexeme) (text : List ℕ) (rest : List Word) → slice_get ts i ≡ Some t → drop i (words ts) ≡ plain text ∷ rest → t.kind ≡ kinds.Plain
@@ -160,6 +163,11 @@ name-word kind bytes is = ap (λ k. word_of_kind k bytes) is
 -- the token at a place is one
 pub same-token : (ts : List Lexeme) (i : ℕ) (t u : Lexeme) → slice_get ts i ≡ Some t → slice_get ts i ≡ Some u → t ≡ u
 same-token ts i t u e f = cc (e, f)
+
+pub decimal-fits : (kind : TokenKind) (bytes : List ℕ) → kind ≡ kinds.Dec → Spells kind bytes → (digits_len bytes < length bytes) × (millionths bytes < 2 ^ 63)
+decimal-fits kind bytes is spells =
+    let spelled : Spells kinds.Dec bytes = subst (λ k. Spells k bytes) is spells in
+    (decimal_within bytes spelled, decimal_small bytes spelled)
 
 pub integer-fits : (kind : TokenKind) (bytes : List ℕ) → kind ≡ kinds.Int → Spells kind bytes → value bytes < 2 ^ 63
 integer-fits kind bytes is spells = ltb-true (value bytes) (2 ^ 63) (and_parts _ _ (subst (λ k. Spells k bytes) is spells)).1

@@ -1,7 +1,7 @@
 -- What every parsed tree keeps.
 use Rattle.std.specs.Prelude.{◌≡◌, ℕ, suc, ◌<◌, ◌≤◌, ◌^◌, pos, negsuc, Bool, true, false, List, [], ◌∷◌, length}
 use Rattle.pool_text.specs.declared.language.Lit.{Lit}
-use Rattle.pool_text.specs.declared.language.Lit.TheVariants.{Integer, Str}
+use Rattle.pool_text.specs.declared.language.Lit.TheVariants.{Integer, Decimal, Str}
 use Rattle.ad_lexer.specs.Spelling.{Spells}
 use Rattle.ad_lexer.specs.Texts.{IsText}
 use Rattle.ad_lexer.specs.declared.token.TokenKind.TheVariants as kinds
@@ -13,10 +13,12 @@ use Rattle.ad_grammar.specs.Words.{Word, plain, quoted, constant, mark}
 abbrev pub IsNameText : List ℕ → Type 0
 IsNameText bytes = IsText bytes × (0 < length bytes)
 
--- a literal that a text can hold: no integer is negative, and a string is UTF-8 without byte 0
+-- a literal that a text can hold: no number is negative, and a string is UTF-8 without byte 0
 abbrev pub IsWritten : Lit → Type 0
 IsWritten (Integer (pos n)) = n < 2 ^ 63
 IsWritten (Integer (negsuc n)) = ⊥
+IsWritten (Decimal (pos n)) = n < 2 ^ 63
+IsWritten (Decimal (negsuc n)) = ⊥
 IsWritten (Str bytes) = IsText bytes
 IsWritten lit = Unit {0}
 

@@ -3,13 +3,13 @@ use Rattle.std.specs.Prelude.{ℕ, true, false, pos, List, [], ◌∷◌, map, c
 use Rattle.pool_text.specs.Folding.{folded}
 use Rattle.pool_text.specs.declared.language.BinOp.TheVariants.{Same, NotSame}
 use Rattle.pool_text.specs.declared.language.Lit.{Lit}
-use Rattle.pool_text.specs.declared.language.Lit.TheVariants.{Undefined, Error, Boolean, Integer, Str}
+use Rattle.pool_text.specs.declared.language.Lit.TheVariants.{Undefined, Error, Boolean, Integer, Decimal, Str}
 use Rattle.ad_tree.specs.declared.tree.Scope.{Scope}
 use Rattle.ad_tree.specs.declared.tree.Scope.TheVariants.{My, Target}
 use Rattle.ad_lexer.specs.Content.{content}
 use Rattle.ad_lexer.specs.Lexeme.{Lexeme}
 use Rattle.ad_lexer.specs.Marks.{marks, meaning_of}
-use Rattle.ad_lexer.specs.Numbers.{value}
+use Rattle.ad_lexer.specs.Numbers.{millionths, value}
 use Rattle.ad_lexer.specs.declared.token.TokenKind.{TokenKind}
 use Rattle.ad_lexer.specs.declared.token.TokenKind.TheVariants as kinds
 use Rattle.ad_lexer.specs.declared.mark.Mark.{Mark}
@@ -51,6 +51,7 @@ word_of_kind kinds.Reserved bytes = or_undefined (meaning_of reserved_words (fol
 word_of_kind kinds.Quoted bytes = quoted (content bytes)
 word_of_kind kinds.Str bytes = constant (Str (content bytes))
 word_of_kind kinds.Int bytes = constant (Integer (pos (value bytes)))
+word_of_kind kinds.Dec bytes = constant (Decimal (pos (millionths bytes)))
 word_of_kind kinds.Symbol bytes = mark_word (meaning_of marks bytes)
 
 abbrev pub word : Lexeme → Word

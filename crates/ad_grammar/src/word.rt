@@ -9,7 +9,7 @@ ghost use Rattle.ad_grammar.specs.Words.{or_undefined, constant, reserved_words,
 ghost use Rattle.pool_text.specs.Folding.{folded};
 ghost use Rattle.pool_text.specs.declared.language.Lit.{Lit as MeantLit};
 
-use ad_lexer::{Token, TokenKind, integer};
+use ad_lexer::{Token, TokenKind, decimal, integer};
 use pool_text::Lit;
 
 /// The literal that a token is, of those that are neither marks nor strings.
@@ -22,6 +22,7 @@ pub fn literal(token: &Token<'_>) -> Option<Lit>
     let text = token.text;
     match token.kind {
         TokenKind::Int => Some(Lit::Integer(integer(text))),
+        TokenKind::Dec => Some(Lit::Decimal(decimal(text))),
         TokenKind::Reserved => Some(reserved(text)),
         TokenKind::Symbol => Some(Lit::Undefined),
         TokenKind::Str => None,

@@ -1,28 +1,31 @@
 -- What is spelled as a token is one, before bytes that don't change it.
 use Rattle.std.proofs.Common.{◌≡◌, ℕ, zero, suc, ◌<◌, ◌≤◌, Bool, true, false, cond, eqb, leb, not, ◌&&◌, ◌||◌, List, [], ◌∷◌, ◌++◌, length, take, drop, slice_index, refl, sym, ◌∙◌, ap, subst, inl, inr, arith, length-append}
-use Rattle.std.proofs.lemmas.Bool.{cases_Bool, cases_lt, and_parts, or_parts, or_cases, and_left, and_right, or_left, or_right, not-true, true≢false, eq-eqb}
+use Rattle.std.proofs.lemmas.Bool.{cases_Bool, cases_lt, and_parts, and_from, or_parts, or_cases, and_left, and_right, or_left, or_right, not-true, not_from_false, true≢false, eq-eqb}
 use Rattle.std.proofs.lemmas.Bool.Decides.{nat_tests}
 use Rattle.std.proofs.lemmas.List.{take_at, append_cancel_left}
 use Rattle.std.proofs.lemmas.Slice.Eq.{bytes_eq-Decides}
 use Rattle.std.specs.Char.{is_ascii_digit, is_ascii_hexdigit}
 use Rattle.std.specs.List.{list_all, list_any, prefix_len}
 use Rattle.std.specs.Str.{bytes_eq}
+use Rattle.ad_lexer.specs.declared.fault.LexKind.TheVariants as faults
 use Rattle.ad_lexer.specs.declared.next.Begin.TheVariants as begins
 use Rattle.ad_lexer.specs.declared.next.Step.TheVariants as steps
 use Rattle.ad_lexer.specs.declared.token.TokenKind.{TokenKind}
-use Rattle.ad_lexer.specs.declared.token.TokenKind.TheVariants.{Plain, Reserved, Quoted, Str, Int, Symbol}
-use Rattle.ad_lexer.specs.Alone.{ends_word, ends_integer, goes_on, ends_symbol, Ends}
+use Rattle.ad_lexer.specs.declared.token.TokenKind.TheVariants.{Plain, Reserved, Quoted, Str, Int, Dec, Symbol}
+use Rattle.ad_lexer.specs.Alone.{ends_word, ends_integer, ends_decimal, goes_on, ends_symbol, Ends}
 use Rattle.ad_lexer.specs.Faults.{behind_number, is_dot_digit}
-use Rattle.ad_lexer.specs.Numbers.{is_hexadecimal, is_integer, number_len}
+use Rattle.ad_lexer.specs.Numbers.{has_fraction, is_decimal_number, is_hexadecimal, is_integer, is_number, number_len}
 use Rattle.ad_lexer.specs.Spelling.{Spells}
 use Rattle.ad_lexer.specs.Symbols.{symbols, is_symbol}
 use Rattle.ad_lexer.specs.Tokens.{IsToken}
 use Rattle.ad_lexer.specs.Words.{is_word, is_word_byte, is_reserved}
-use Rattle.ad_lexer.specs.Reading.{begin_of, next, symbol, symbol_len, symbol_of, slash, is_decimal_mark}
+use Rattle.ad_lexer.specs.Reading.{begin_of, next, number_kind, symbol, symbol_len, symbol_of, slash, is_decimal_mark}
 use Rattle.ad_lexer.proofs.Begins.{begin_is}
+use Rattle.ad_lexer.proofs.DecimalLemmas.{plain_len}
+use Rattle.ad_lexer.proofs.FractionLemmas.{at_behind, decimal_begins, decimal_exact, decimal_fraction, digits_plain, hexadecimal_whole}
 use Rattle.ad_lexer.proofs.ItemLemmas.{symbol_begins, string_whole, name_whole, first_same, slash_alone, same_first, token_found}
 use Rattle.ad_lexer.proofs.Steps.{next_at, number_next, next_stands}
-use Rattle.ad_lexer.proofs.NumberLemmas.{integer_begins, integer_decimal, integer_hexadecimal, number_is}
+use Rattle.ad_lexer.proofs.NumberLemmas.{integer_begins, integer_decimal, integer_hexadecimal, is_marked, is_token, number_is}
 use Rattle.ad_lexer.proofs.Runs.{run_exact}
 use Rattle.ad_lexer.proofs.Fronts.{TokenAt, Stands}
 use Rattle.ad_lexer.proofs.SymbolLemmas.{symbol_passes, symbol_short, symbol_reaches, symbol_found}
@@ -66,44 +69,73 @@ decimal_isnt [] after some isnt ends = absurd (omega arith)
 decimal_isnt (a ∷ []) after some isnt ends = grind (arith, nat_tests)
 decimal_isnt (a ∷ b ∷ bytes) after some isnt ends = isnt
 
-decimal_more : (bytes after : List ℕ) → is_integer bytes ≡ true → is_hexadecimal bytes ≡ false → is_word_byte (slice_index after 0) ≡ false → (is_hexadecimal (bytes ++ after) ≡ false) × (number_len (bytes ++ after) ≡ length bytes)
-decimal_more bytes after is isnt ends =
-    let parts = integer_decimal bytes is isnt in
-    let other = decimal_isnt bytes after parts.0 isnt ends in
-    let run : prefix_len is_ascii_digit (bytes ++ after) ≡ length bytes = run_exact is_ascii_digit bytes after parts.1 (λ some. grind (arith, nat_tests)) in
-    (other, rw other run)
+no_digit : (byte : ℕ) → is_word_byte byte ≡ false → is_ascii_digit byte ≡ false
+no_digit byte ends = grind (arith, nat_tests)
 
--- the byte behind the first part of a text
-at_behind : (bytes after : List ℕ) → slice_index (bytes ++ after) (length bytes) ≡ slice_index after 0
-at_behind [] after = refl
-at_behind (byte ∷ bytes) after = at_behind bytes after
+decimal_more : (bytes after : List ℕ) → is_integer bytes ≡ true → is_hexadecimal bytes ≡ false → is_word_byte (slice_index after 0) ≡ false → eqb (slice_index after 0) 46 ≡ false
+    → (is_hexadecimal (bytes ++ after) ≡ false) × (has_fraction (bytes ++ after) ≡ false) × (number_len (bytes ++ after) ≡ length bytes)
+decimal_more bytes after is isnt ends no_dot =
+    let parts = integer_decimal bytes is isnt in
+    let text : List ℕ = bytes ++ after in
+    let other = decimal_isnt bytes after parts.0 isnt ends in
+    let whole = digits_plain bytes after parts.1 (no_digit (slice_index after 0) ends) no_dot in
+    let run : prefix_len is_ascii_digit text ≡ length bytes = run_exact is_ascii_digit bytes after parts.1 (λ some. no_digit (slice_index after 0) ends) in
+    (other, whole, plain_len (is_hexadecimal text) (has_fraction text) _ _ (prefix_len is_ascii_digit text) other whole ∙ run)
 
 mark_off : (byte : ℕ) (hexadecimal : Bool) → is_word_byte byte ≡ false → (hexadecimal || not (eqb byte 46)) ≡ true → (is_decimal_mark byte && not hexadecimal) ≡ false
 mark_off byte true isnt ends = and_right (is_decimal_mark byte) false refl
 mark_off byte false isnt ends = grind (arith, nat_tests)
 
-number_alone : (bytes after : List ℕ) → is_integer bytes ≡ true → ends_integer bytes (slice_index after 0) ≡ true → is_hexadecimal (bytes ++ after) ≡ is_hexadecimal bytes → number_len (bytes ++ after) ≡ length bytes → next (bytes ++ after) ≡ steps.Token Int (length bytes)
-number_alone bytes after is ends same len =
+mark_same : (byte : ℕ) (here other : Bool) → here ≡ other → is_word_byte byte ≡ false → (other || not (eqb byte 46)) ≡ true → (is_decimal_mark byte && not here) ≡ false
+mark_same byte here other same isnt ends = ap (λ (h : Bool). is_decimal_mark byte && not h) same ∙ mark_off byte other isnt ends
+
+no_dot_behind : (hexadecimal dot : Bool) → hexadecimal ≡ false → (hexadecimal || not dot) ≡ true → dot ≡ false
+no_dot_behind false dot isnt is = not-true dot is
+no_dot_behind true dot isnt is = absurd (true≢false isnt)
+
+-- a number that stands first is a token where nothing behind it goes on with it
+token_by_number : (marked whole : Bool) (kind : TokenKind) (len : ℕ) → marked ≡ false → whole ≡ true → cond marked (steps.Fault faults.Decimal 0) (cond whole (steps.Token kind len) (steps.Fault faults.Number 0)) ≡ steps.Token kind len
+token_by_number false true kind len off is = refl
+token_by_number true whole kind len off is = absurd (true≢false off)
+token_by_number false false kind len off is = absurd (true≢false (sym is))
+
+number_alone : (bytes after : List ℕ) (decimal : Bool) → is_ascii_digit (slice_index (bytes ++ after) 0) ≡ true → is_number decimal bytes ≡ true → is_word_byte (slice_index after 0) ≡ false
+    → (is_decimal_mark (slice_index after 0) && not (is_hexadecimal (bytes ++ after))) ≡ false → has_fraction (bytes ++ after) ≡ decimal → number_len (bytes ++ after) ≡ length bytes → next (bytes ++ after) ≡ steps.Token (number_kind decimal) (length bytes)
+number_alone bytes after decimal digit is isnt off same len =
     let text : List ℕ = bytes ++ after in
-    let both = and_parts (not (is_word_byte (slice_index after 0))) _ ends in
-    let isnt : is_word_byte (slice_index after 0) ≡ false = not-true _ both.0 in
     let behind : behind_number text ≡ slice_index after 0 = ap (λ (n : ℕ). slice_index text n) len ∙ at_behind bytes after in
-    let off : (is_decimal_mark (behind_number text) && not (is_hexadecimal text)) ≡ false =
-    ap (λ (b : ℕ). is_decimal_mark b && not (is_hexadecimal text)) behind ∙ ap (λ (h : Bool). is_decimal_mark (slice_index after 0) && not h) same ∙ mark_off (slice_index after 0) (is_hexadecimal bytes) isnt both.1 in
-    let whole : is_integer (take (number_len text) text) ≡ true = ap (λ (n : ℕ). is_integer (take n text)) len ∙ ap is_integer (take_at bytes after (length bytes) refl) ∙ is in
-    number_next text (integer_begins bytes after is) ∙ number_is text ∙ rw (off, ap is_word_byte behind ∙ isnt, whole) (ap (λ (n : ℕ). steps.Token Int n) len)
+    let marked : (is_decimal_mark (behind_number text) && not (is_hexadecimal text)) ≡ false = ap (λ (b : ℕ). is_decimal_mark b && not (is_hexadecimal text)) behind ∙ off in
+    let front : take (number_len text) text ≡ bytes = ap (λ (n : ℕ). take n text) len ∙ take_at bytes after (length bytes) refl in
+    let whole : is_number (has_fraction text) (take (number_len text) text) ≡ true = ap (λ (d : Bool). is_number d (take (number_len text) text)) same ∙ ap (is_number decimal) front ∙ is in
+    let ends : not (is_word_byte (behind_number text)) ≡ true = ap (λ (b : ℕ). not (is_word_byte b)) behind ∙ not_from_false (is_word_byte (slice_index after 0)) isnt in
+    number_next text digit ∙ number_is text
+    ∙ token_by_number (is_marked text) (is_token text) (number_kind (has_fraction text)) (number_len text) marked (and_from (not (is_word_byte (behind_number text))) _ ends whole)
+    ∙ ap (λ (d : Bool). steps.Token (number_kind d) (number_len text)) same ∙ ap (λ (n : ℕ). steps.Token (number_kind decimal) n) len
 
 pub integer_alone : (bytes after : List ℕ) → is_integer bytes ≡ true → ends_integer bytes (slice_index after 0) ≡ true → next (bytes ++ after) ≡ steps.Token Int (length bytes)
 integer_alone bytes after is ends =
-    let isnt : is_word_byte (slice_index after 0) ≡ false = not-true _ (and_parts (not (is_word_byte (slice_index after 0))) _ ends).0 in
+    let byte : ℕ = slice_index after 0 in
+    let both = and_parts (not (is_word_byte byte)) (is_hexadecimal bytes || not (eqb byte 46)) ends in
+    let isnt : is_word_byte byte ≡ false = not-true _ both.0 in
+    let digit = integer_begins bytes after is in
     elim (cases_Bool (is_hexadecimal bytes)) [
       | inl hexadecimal ↦
           let more = hexadecimal_more bytes after hexadecimal (integer_hexadecimal bytes is hexadecimal) isnt in
-          number_alone bytes after is ends (more.0 ∙ sym hexadecimal) more.1
+          number_alone bytes after false digit is isnt (mark_same byte (is_hexadecimal (bytes ++ after)) (is_hexadecimal bytes) (more.0 ∙ sym hexadecimal) isnt both.1) (hexadecimal_whole (bytes ++ after) more.0) more.1
       | inr other ↦
-          let more = decimal_more bytes after is other isnt in
-          number_alone bytes after is ends (more.0 ∙ sym other) more.1
+          let more = decimal_more bytes after is other isnt (no_dot_behind (is_hexadecimal bytes) (eqb byte 46) other both.1) in
+          number_alone bytes after false digit is isnt (mark_same byte (is_hexadecimal (bytes ++ after)) (is_hexadecimal bytes) (more.0 ∙ sym other) isnt both.1) more.1 more.2
     ]
+
+pub decimal_alone : (bytes after : List ℕ) → is_decimal_number bytes ≡ true → ends_decimal (slice_index after 0) ≡ true → next (bytes ++ after) ≡ steps.Token Dec (length bytes)
+decimal_alone bytes after is ends =
+    let byte : ℕ = slice_index after 0 in
+    let both = and_parts (not (is_word_byte byte)) (not (eqb byte 46)) ends in
+    let isnt : is_word_byte byte ≡ false = not-true _ both.0 in
+    let fraction = decimal_fraction bytes after is in
+    let plain : is_hexadecimal (bytes ++ after) ≡ false = not-true _ (and_parts (not (is_hexadecimal (bytes ++ after))) _ fraction).0 in
+    let off : (is_decimal_mark byte && not (is_hexadecimal (bytes ++ after))) ≡ false = ap (λ (h : Bool). is_decimal_mark byte && not h) plain ∙ mark_off byte false isnt both.1 in
+    number_alone bytes after true (decimal_begins bytes after is) is isnt off fraction (decimal_exact bytes after is (no_digit byte isnt))
 
 -- ---- symbols
 
@@ -209,6 +241,7 @@ alone_next Reserved bytes after spells ends = word_alone bytes after spells.0 en
 alone_next Quoted bytes after spells ends = name_whole bytes spells.0 after spells.1 spells.2
 alone_next Str bytes after spells ends = string_whole bytes spells.0 after spells.1
 alone_next Int bytes after spells ends = integer_alone bytes after spells ends
+alone_next Dec bytes after spells ends = decimal_alone bytes after spells ends
 alone_next Symbol bytes after spells ends = symbol_alone bytes after spells ends
 
 pub alone_token : (kind : TokenKind) (bytes after : List ℕ) → Spells kind bytes → Ends kind bytes (slice_index after 0) → IsToken kind bytes after

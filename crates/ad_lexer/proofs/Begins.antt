@@ -6,7 +6,7 @@ use Rattle.std.specs.List.{prefix_len}
 use Rattle.ad_lexer.specs.declared.next.Begin.{Begin}
 use Rattle.ad_lexer.specs.declared.next.Begin.TheVariants as begins
 use Rattle.ad_lexer.specs.Blanks.{is_space}
-use Rattle.ad_lexer.specs.Numbers.{is_hexadecimal, number_len}
+use Rattle.ad_lexer.specs.Numbers.{has_fraction, is_hexadecimal, number_len}
 use Rattle.ad_lexer.specs.Words.{begins_word, is_word_byte}
 use Rattle.ad_lexer.specs.Reading.{begin_of}
 
@@ -56,11 +56,12 @@ word_some text some is =
     let b : ℕ = slice_index text 0 in
     run_some is_word_byte text (word_byte b word) some
 
-number_by : (hexadecimal : Bool) (a b : ℕ) → 0 < b → 0 < cond hexadecimal (2 + a) b
-number_by true a b some = omega arith
-number_by false a b some = some
+number_by : (hexadecimal fraction : Bool) (a b c : ℕ) → 0 < b → 0 < cond hexadecimal (2 + a) (cond fraction (b + 1 + c) b)
+number_by true fraction a b c some = omega arith
+number_by false true a b c some = omega arith
+number_by false false a b c some = some
 
 pub number_some : (text : List ℕ) → 0 < length text → begin_of (slice_index text 0) ≡ begins.Number → 0 < number_len text
 number_some text some is =
     let run = run_some is_ascii_digit text (begin_is (slice_index text 0) begins.Number is) some in
-    number_by (is_hexadecimal text) _ _ run
+    number_by (is_hexadecimal text) (has_fraction text) _ _ _ run

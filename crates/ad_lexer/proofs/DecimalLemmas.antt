@@ -1,5 +1,5 @@
 -- Numbers of few digits are integers, and the decimal text of a number below 2^63 spells it.
-use Rattle.std.proofs.Common.{◌≡◌, ℕ, zero, suc, decimal, ◌+◌, ◌^◌, ◌<◌, ◌≤◌, true, false, eqb, ltb, List, [], ◌∷◌, length, take, slice_index, refl, sym, subst, arith, length-take-le, get_or-take}
+use Rattle.std.proofs.Common.{◌≡◌, ℕ, zero, suc, decimal, ◌+◌, ◌^◌, ◌<◌, ◌≤◌, Bool, true, false, cond, eqb, ltb, List, [], ◌∷◌, length, take, slice_index, refl, sym, ◌∙◌, subst, arith, length-take-le, get_or-take}
 use Rattle.std.proofs.Math.Nat.{pow-le-pow_right}
 use Rattle.std.proofs.lemmas.Bool.{and_from, and_parts, lt-ltb}
 use Rattle.std.proofs.lemmas.Bool.Decides.{nat_tests}
@@ -9,7 +9,7 @@ use Rattle.std.proofs.lemmas.List.Sums.{prefix_len-le-length}
 use Rattle.std.specs.Char.{is_ascii_digit, is_ascii_hexdigit, is_digit, digit_value}
 use Rattle.std.specs.List.{list_all, prefix_len}
 use Rattle.std.specs.Str.Parse.{AllDigits, digits_value}
-use Rattle.ad_lexer.specs.Numbers.{is_hexadecimal, is_integer, number_len, value}
+use Rattle.ad_lexer.specs.Numbers.{has_fraction, is_hexadecimal, is_integer, number_len, value}
 use Rattle.ad_lexer.proofs.Runs.{run_passes}
 
 digits_pass : (ds : List ℕ) → AllDigits 10 ds → list_all (λ c. is_digit c 10) ds ≡ true
@@ -31,11 +31,17 @@ all_digits : (ds : List ℕ) → list_all is_ascii_digit ds ≡ true → AllDigi
 all_digits [] each = tt
 all_digits (c ∷ ds) each = let both = and_parts (is_ascii_digit c) _ each in (digit_below c both.0, all_digits ds both.1)
 
+-- the length of a number that is an integer of base ten
+pub plain_len : (hexadecimal fraction : Bool) (a b c : ℕ) → hexadecimal ≡ false → fraction ≡ false → cond hexadecimal a (cond fraction b c) ≡ c
+plain_len false false a b c isnt whole = refl
+plain_len true fraction a b c isnt whole = absurd (cc)
+plain_len false true a b c isnt whole = absurd (cc)
+
 -- a number of at most 18 decimal digits, of which the first isn't 0, is an integer
-pub short_integer : (text : List ℕ) (len : ℕ) → len ≡ number_len text → 0 < len → len ≤ 18 → 48 < slice_index text 0 → is_integer (take len text) ≡ true
-short_integer text len number some short first =
+pub short_integer : (text : List ℕ) (len : ℕ) → len ≡ number_len text → has_fraction text ≡ false → 0 < len → len ≤ 18 → 48 < slice_index text 0 → is_integer (take len text) ≡ true
+short_integer text len number integer some short first =
     let isnt : is_hexadecimal text ≡ false = grind (arith, nat_tests) in
-    let run : len ≡ prefix_len is_ascii_digit text = rw isnt at number in
+    let run : len ≡ prefix_len is_ascii_digit text = number ∙ plain_len (is_hexadecimal text) (has_fraction text) _ _ (prefix_len is_ascii_digit text) isnt integer in
     let ds : List ℕ = take len text in
     let each : AllDigits 10 ds = all_digits ds (subst (λ n. list_all is_ascii_digit (take n text) ≡ true) (sym run) (run_passes is_ascii_digit text)) in
     let long : length ds ≡ len = length-take-le len text (omega (arith, prefix_len-le-length is_ascii_digit text)) in

@@ -1,5 +1,5 @@
 -- An item stands at the front of a text exactly where it is read there.
-use Rattle.std.proofs.Common.{◌≡◌, ◌⊎◌, ℕ, zero, suc, ◌<◌, ◌≤◌, Bool, true, false, cond, eqb, leb, not, ◌||◌, List, [], ◌∷◌, ◌++◌, length, take, drop, slice_index, refl, sym, ◌∙◌, ap, subst, inl, inr, arith, length-append, append_assoc}
+use Rattle.std.proofs.Common.{◌≡◌, ◌⊎◌, ℕ, zero, suc, ◌<◌, ◌≤◌, Bool, true, false, cond, eqb, leb, not, ◌||◌, List, [], ◌∷◌, ◌++◌, length, take, drop, slice_index, refl, sym, ◌∙◌, ap, subst, inl, inr, arith, length-append, append-nil, append_assoc}
 use Rattle.std.proofs.lemmas.Bool.{or_parts, not-true, true≢false}
 use Rattle.std.proofs.lemmas.Bool.Decides.{nat_tests}
 use Rattle.std.proofs.lemmas.List.{take_at, length-map}
@@ -11,9 +11,9 @@ use Rattle.ad_lexer.specs.declared.next.Begin.TheVariants as begins
 use Rattle.ad_lexer.specs.declared.next.Step.{Step}
 use Rattle.ad_lexer.specs.declared.next.Step.TheVariants as steps
 use Rattle.ad_lexer.specs.declared.token.TokenKind.{TokenKind}
-use Rattle.ad_lexer.specs.declared.token.TokenKind.TheVariants.{Plain, Reserved, Quoted, Str, Int, Symbol}
+use Rattle.ad_lexer.specs.declared.token.TokenKind.TheVariants.{Plain, Reserved, Quoted, Str, Int, Dec, Symbol}
 use Rattle.ad_lexer.specs.Blanks.{is_space, begins_comment, IsBlank}
-use Rattle.ad_lexer.specs.Numbers.{is_integer}
+use Rattle.ad_lexer.specs.Numbers.{has_fraction, is_decimal_number, number_len}
 use Rattle.ad_lexer.specs.Quoted.{spellings, meaning, IsQuoted}
 use Rattle.ad_lexer.specs.Spelling.{Spells}
 use Rattle.ad_lexer.specs.Symbols.{is_symbol}
@@ -22,9 +22,10 @@ use Rattle.ad_lexer.specs.Words.{begins_word, is_word, is_word_byte, is_reserved
 use Rattle.ad_lexer.specs.Reading as reading
 use Rattle.ad_lexer.specs.Reading.{begin_of, at_begin, next, word, number, symbol, symbol_len, symbol_of, slash}
 use Rattle.ad_lexer.proofs.Begins.{begin_is, begin_number}
+use Rattle.ad_lexer.proofs.FractionLemmas.{decimal_begins, decimal_fraction, decimal_nonempty, decimal_reaches}
 use Rattle.ad_lexer.proofs.Fronts.{BlankAt, TokenAt, Stands}
 use Rattle.ad_lexer.proofs.Steps.{next_at, begin_39, begin_34, name_next, string_next, begin_space, number_next, wrong_next, blank_next, next_stands}
-use Rattle.ad_lexer.proofs.NumberLemmas.{number_read, integer_begins, integer_nonempty, integer_reaches}
+use Rattle.ad_lexer.proofs.NumberLemmas.{number_read, integer_begins, integer_nonempty, integer_reaches, integer_whole}
 use Rattle.ad_lexer.proofs.QuotedLemmas.{letters_first, quoted_met, same_letters}
 use Rattle.ad_lexer.proofs.Runs.{run_reaches}
 use Rattle.ad_lexer.proofs.SymbolLemmas.{symbol_passes, is_other, symbol_other, symbol_short, symbol_reaches}
@@ -38,6 +39,7 @@ BeginsBy Reserved begin = begin ≡ begins.Word
 BeginsBy Quoted begin = begin ≡ begins.Name
 BeginsBy Str begin = begin ≡ begins.String
 BeginsBy Int begin = begin ≡ begins.Number
+BeginsBy Dec begin = begin ≡ begins.Number
 BeginsBy Symbol begin = (begin ≡ begins.Slash) ⊎ (begin ≡ begins.Symbol)
 
 by_slash : (byte : ℕ) (is : Bool) → eqb byte 47 ≡ is → (cond is begins.Slash begins.Symbol ≡ begins.Slash) ⊎ (cond is begins.Slash begins.Symbol ≡ begins.Symbol)
@@ -66,6 +68,7 @@ spelled_begins Reserved bytes after spells = word_begins bytes after spells.0
 spelled_begins Quoted bytes after spells = ap begin_of (first_byte bytes _ after 39 spells.1.1) ∙ begin_39
 spelled_begins Str bytes after spells = ap begin_of (first_byte bytes _ after 34 spells.1.1) ∙ begin_34
 spelled_begins Int bytes after spells = begin_number _ (integer_begins bytes after spells)
+spelled_begins Dec bytes after spells = begin_number _ (decimal_begins bytes after spells)
 spelled_begins Symbol bytes after spells = symbol_begins bytes after spells
 
 pub spelled_some : (kind : TokenKind) (bytes : List ℕ) → Spells kind bytes → 0 < length bytes
@@ -74,26 +77,33 @@ spelled_some Reserved bytes spells = word_nonempty bytes spells.0
 spelled_some Quoted bytes spells = omega (arith, ap (λ (l : List ℕ). length l) spells.1.1)
 spelled_some Str bytes spells = omega (arith, ap (λ (l : List ℕ). length l) spells.1.1)
 spelled_some Int bytes spells = integer_nonempty bytes spells
+spelled_some Dec bytes spells = decimal_nonempty bytes spells
 spelled_some Symbol bytes spells = (symbol_short bytes spells).0
 
 -- bytes spell one kind only
-abbrev kind_of : Begin → Bool → TokenKind
-kind_of begins.Word true = Reserved
-kind_of begins.Word false = Plain
-kind_of begins.Name reserved = Quoted
-kind_of begins.String reserved = Str
-kind_of begins.Number reserved = Int
-kind_of begins.Space reserved = Symbol
-kind_of begins.Slash reserved = Symbol
-kind_of begins.Symbol reserved = Symbol
+abbrev kind_of : Begin → Bool → Bool → TokenKind
+kind_of begins.Word true decimal = Reserved
+kind_of begins.Word false decimal = Plain
+kind_of begins.Name reserved decimal = Quoted
+kind_of begins.String reserved decimal = Str
+kind_of begins.Number reserved true = Dec
+kind_of begins.Number reserved false = Int
+kind_of begins.Space reserved decimal = Symbol
+kind_of begins.Slash reserved decimal = Symbol
+kind_of begins.Symbol reserved decimal = Symbol
 
-kind_is : (kind : TokenKind) (begin : Begin) (bytes : List ℕ) → BeginsBy kind begin → Spells kind bytes → kind_of begin (is_reserved bytes) ≡ kind
-kind_is Plain begin bytes by spells = ap (λ b. kind_of b (is_reserved bytes)) by ∙ ap (λ r. kind_of begins.Word r) spells.1
-kind_is Reserved begin bytes by spells = ap (λ b. kind_of b (is_reserved bytes)) by ∙ ap (λ r. kind_of begins.Word r) spells.1
-kind_is Quoted begin bytes by spells = ap (λ b. kind_of b (is_reserved bytes)) by
-kind_is Str begin bytes by spells = ap (λ b. kind_of b (is_reserved bytes)) by
-kind_is Int begin bytes by spells = ap (λ b. kind_of b (is_reserved bytes)) by
-kind_is Symbol begin bytes by spells = elim by [ inl slashed ↦ ap (λ b. kind_of b (is_reserved bytes)) slashed | inr other ↦ ap (λ b. kind_of b (is_reserved bytes)) other ]
+-- bytes are a decimal exactly where a dot and a digit follow their digits
+decimal_whole : (bytes : List ℕ) → is_decimal_number bytes ≡ true → has_fraction bytes ≡ true
+decimal_whole bytes is = ap has_fraction (sym (append-nil bytes)) ∙ decimal_fraction bytes [] is
+
+kind_is : (kind : TokenKind) (begin : Begin) (bytes : List ℕ) → BeginsBy kind begin → Spells kind bytes → kind_of begin (is_reserved bytes) (has_fraction bytes) ≡ kind
+kind_is Plain begin bytes by spells = ap (λ b. kind_of b (is_reserved bytes) (has_fraction bytes)) by ∙ ap (λ r. kind_of begins.Word r (has_fraction bytes)) spells.1
+kind_is Reserved begin bytes by spells = ap (λ b. kind_of b (is_reserved bytes) (has_fraction bytes)) by ∙ ap (λ r. kind_of begins.Word r (has_fraction bytes)) spells.1
+kind_is Quoted begin bytes by spells = ap (λ b. kind_of b (is_reserved bytes) (has_fraction bytes)) by
+kind_is Str begin bytes by spells = ap (λ b. kind_of b (is_reserved bytes) (has_fraction bytes)) by
+kind_is Int begin bytes by spells = ap (λ b. kind_of b (is_reserved bytes) (has_fraction bytes)) by ∙ ap (λ d. kind_of begins.Number (is_reserved bytes) d) (integer_whole bytes spells)
+kind_is Dec begin bytes by spells = ap (λ b. kind_of b (is_reserved bytes) (has_fraction bytes)) by ∙ ap (λ d. kind_of begins.Number (is_reserved bytes) d) (decimal_whole bytes spells)
+kind_is Symbol begin bytes by spells = elim by [ inl slashed ↦ ap (λ b. kind_of b (is_reserved bytes) (has_fraction bytes)) slashed | inr other ↦ ap (λ b. kind_of b (is_reserved bytes) (has_fraction bytes)) other ]
 
 pub same_kind : (kind other : TokenKind) (bytes : List ℕ) → Spells kind bytes → Spells other bytes → kind ≡ other
 same_kind kind other bytes spells again =
@@ -118,11 +128,10 @@ word_reaches bytes after read n is reads =
     let len : prefix_len is_word_byte (bytes ++ after) ≡ n = ap len_of (sym here ∙ reads) in
     omega (arith, run_reaches is_word_byte bytes after (word_bytes bytes is))
 
-number_reaches : (bytes after : List ℕ) (read : TokenKind) (n : ℕ) → is_integer bytes ≡ true → next (bytes ++ after) ≡ steps.Token read n → length bytes ≤ n
-number_reaches bytes after read n is reads =
-    let digit = integer_begins bytes after is in
+number_reaches : (bytes after : List ℕ) (read : TokenKind) (n : ℕ) → is_ascii_digit (slice_index (bytes ++ after) 0) ≡ true → length bytes ≤ number_len (bytes ++ after) → next (bytes ++ after) ≡ steps.Token read n → length bytes ≤ n
+number_reaches bytes after read n digit reach reads =
     let len = number_read (bytes ++ after) read n (sym (number_next (bytes ++ after) digit) ∙ reads) in
-    omega (arith, integer_reaches bytes after is)
+    omega arith
 
 -- a symbol that begins with `/` is `/`
 pub slash_alone : (bytes : List ℕ) → is_symbol bytes ≡ true → slice_index bytes 0 ≡ 47 → length bytes ≤ 1
@@ -187,7 +196,8 @@ token_reaches Quoted bytes after read n spells reads =
 token_reaches Str bytes after read n spells reads =
     let len : length bytes ≡ n = ap len_of (sym (string_whole bytes spells.0 after spells.1) ∙ reads) in
     omega arith
-token_reaches Int bytes after read n spells reads = number_reaches bytes after read n spells reads
+token_reaches Int bytes after read n spells reads = number_reaches bytes after read n (integer_begins bytes after spells) (integer_reaches bytes after spells) reads
+token_reaches Dec bytes after read n spells reads = number_reaches bytes after read n (decimal_begins bytes after spells) (decimal_reaches bytes after spells) reads
 token_reaches Symbol bytes after read n spells reads = symbol_next_reaches bytes after read n spells reads
 
 -- ---- what is read is a token
@@ -222,6 +232,7 @@ no_space Reserved begin by space = cc
 no_space Quoted begin by space = cc
 no_space Str begin by space = cc
 no_space Int begin by space = cc
+no_space Dec begin by space = cc
 no_space Symbol begin by space = elim by [ inl slashed ↦ cc | inr other ↦ cc ]
 
 comment_begins : (text bytes after : List ℕ) → text ≡ bytes ++ after → begins_comment (bytes ++ after) ≡ true → begins_comment text ≡ false → ⊥

@@ -3,11 +3,13 @@ pub mod Begins
 pub mod BlankLemmas
 pub mod ContentLemmas
 pub mod DecimalLemmas
+pub mod FractionLemmas
 mod Fronts
 pub mod ItemLemmas
 pub mod LaneLemmas
 pub mod LetterLemmas
 pub mod MarkLemmas
+pub mod MillionthLemmas
 pub mod NumberLemmas
 pub mod QuotedLemmas
 pub mod Runs

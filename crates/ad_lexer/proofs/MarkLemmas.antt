@@ -12,10 +12,10 @@ use Rattle.ad_lexer.specs.declared.next.Step.TheVariants as steps
 use Rattle.ad_lexer.specs.declared.quoted.Front.{Front}
 use Rattle.ad_lexer.specs.declared.quoted.Front.TheVariants as fronts
 use Rattle.ad_lexer.specs.declared.token.TokenKind.{TokenKind}
-use Rattle.ad_lexer.specs.declared.token.TokenKind.TheVariants.{Quoted, Str, Int, Symbol}
+use Rattle.ad_lexer.specs.declared.token.TokenKind.TheVariants.{Quoted, Str, Symbol}
 use Rattle.ad_lexer.specs.Marks.{mark_of_kind, marks, meaning_of}
-use Rattle.ad_lexer.specs.Numbers.{number_len}
-use Rattle.ad_lexer.specs.Reading.{alone, begin_of, begins_more, front, name, next, number, quoted, quoted_by, string, symbol, symbol_len, IsMarked}
+use Rattle.ad_lexer.specs.Numbers.{has_fraction, number_len}
+use Rattle.ad_lexer.specs.Reading.{alone, begin_of, begins_more, front, name, next, number, number_kind, quoted, quoted_by, string, symbol, symbol_len, IsMarked}
 use Rattle.ad_lexer.specs.Symbols.{is_symbol}
 use Rattle.ad_lexer.proofs.Begins.{begin_is}
 use Rattle.ad_lexer.proofs.ItemLemmas.{symbol_begins}
@@ -35,14 +35,15 @@ first_three (a ∷ b ∷ c ∷ text) (suc (suc (suc (suc n)))) few within = absu
 
 -- ---- what has no mark
 
-number_by : (text : List ℕ) (decimal whole : Bool) (len : ℕ) → IsMarked text (cond decimal (steps.Fault kinds.Decimal 0) (cond whole (steps.Token Int len) (steps.Fault kinds.Number 0))) None
-number_by text true whole len = tt
-number_by text false true len = refl
-number_by text false false len = tt
+number_by : (text : List ℕ) (marked whole decimal : Bool) (len : ℕ) → IsMarked text (cond marked (steps.Fault kinds.Decimal 0) (cond whole (steps.Token (number_kind decimal) len) (steps.Fault kinds.Number 0))) None
+number_by text true whole decimal len = tt
+number_by text false true true len = refl
+number_by text false true false len = refl
+number_by text false false decimal len = tt
 
 pub number_unmarked : (text : List ℕ) → IsMarked text (number text) None
 unfolding number
-number_unmarked text = number_by text _ _ (number_len text)
+number_unmarked text = number_by text _ _ (has_fraction text) (number_len text)
 
 quoted_by_unmarked : (text : List ℕ) (kind : TokenKind) (at : ℕ) (f : Front) (more : ℕ → Step) → ((bytes : List ℕ) → mark_of_kind kind bytes ≡ None) → ((len : ℕ) → IsMarked text (more len) None) → IsMarked text (quoted_by kind at f more) None
 quoted_by_unmarked text kind at (fronts.Letter len meant) more none each = each len

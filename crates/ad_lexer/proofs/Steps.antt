@@ -8,9 +8,9 @@ use Rattle.std.specs.List.{prefix_len}
 use Rattle.ad_lexer.specs.declared.fault.LexKind.{LexKind}
 use Rattle.ad_lexer.specs.declared.next.Begin.{Begin}
 use Rattle.ad_lexer.specs.declared.token.TokenKind.{TokenKind}
-use Rattle.ad_lexer.specs.declared.token.TokenKind.TheVariants.{Quoted, Str, Int, Symbol, Plain, Reserved}
+use Rattle.ad_lexer.specs.declared.token.TokenKind.TheVariants.{Quoted, Str, Int, Dec, Symbol, Plain, Reserved}
 use Rattle.ad_lexer.specs.Blanks.{is_space, IsBlank, begins_comment}
-use Rattle.ad_lexer.specs.Faults.{ReadsTo, BeginsNothing, HasNul, IsEmptyName, IsOpenString, HasBadEscape, is_decimal, is_dot_digit, is_bad_number, Wrong}
+use Rattle.ad_lexer.specs.Faults.{ReadsTo, BeginsNothing, HasNul, IsEmptyName, IsOpenString, HasBadEscape, is_bad_decimal, is_dot_digit, is_bad_number, Wrong}
 use Rattle.ad_lexer.specs.Numbers.{is_integer}
 use Rattle.ad_lexer.specs.Quoted.{plain, spellings, Letter, meaning, IsQuoted}
 use Rattle.ad_lexer.specs.Spelling.{Spells}
@@ -23,6 +23,7 @@ use Rattle.ad_lexer.specs.declared.next.Begin.TheVariants as begins
 use Rattle.ad_lexer.specs.declared.next.Step.TheVariants as steps
 use Rattle.ad_lexer.proofs.Begins.{begin_is, begin_number, Tells, word_some}
 use Rattle.ad_lexer.proofs.BlankLemmas.{line_met, block_met, open_met, slash_stands}
+use Rattle.ad_lexer.proofs.FractionLemmas.{decimal_begins}
 use Rattle.ad_lexer.proofs.LetterLemmas.{is_quote, quote_differs}
 use Rattle.ad_lexer.proofs.NumberLemmas.{decimal_met, number_met, number_stands, integer_begins}
 use Rattle.ad_lexer.proofs.QuotedLemmas.{letters_first, nul_met, end_met, escape_met, QuotedAt, quoted_stands}
@@ -130,7 +131,7 @@ number_next text is = next_at text begins.Number (some_first text is) (begin_num
 bad_next : (text : List ℕ) → is_bad_number text ≡ true → next text ≡ steps.Fault kinds.Number 0
 bad_next text is = number_next text (and_parts _ _ (and_parts _ _ is).0).0 ∙ number_met text is
 
-decimal_next : (text : List ℕ) → is_decimal text ≡ true → next text ≡ steps.Fault kinds.Decimal 0
+decimal_next : (text : List ℕ) → is_bad_decimal text ≡ true → next text ≡ steps.Fault kinds.Decimal 0
 decimal_next text is = number_next text (and_parts _ _ (and_parts _ _ is).0).0 ∙ decimal_met text is
 
 dot_next : (text : List ℕ) → is_dot_digit text ≡ true → next text ≡ steps.Fault kinds.Decimal 0
@@ -189,7 +190,7 @@ wrong_next kinds.StringEnd text place wrong = end_next text wrong.0 ∙ ap (λ (
 wrong_next kinds.Escape text place wrong = escape_next text place wrong
 wrong_next kinds.Number text place wrong = bad_next text wrong.0 ∙ ap (λ (p : ℕ). steps.Fault kinds.Number p) (sym wrong.1)
 wrong_next kinds.Decimal text place wrong =
-    elim (or_cases (is_decimal text) (is_dot_digit text) wrong.0) [
+    elim (or_cases (is_bad_decimal text) (is_dot_digit text) wrong.0) [
       | inl decimal ↦ decimal_next text decimal ∙ ap (λ (p : ℕ). steps.Fault kinds.Decimal p) (sym wrong.1)
       | inr dot ↦ dot_next text dot ∙ ap (λ (p : ℕ). steps.Fault kinds.Decimal p) (sym wrong.1)
     ]
@@ -276,6 +277,7 @@ begins_none byte tells none Reserved more spells = true≢false (sym (and_parts 
 begins_none byte tells none Quoted more spells = true≢false (sym (eq-eqb byte 39 (ap (λ (l : List ℕ). slice_index l 0) spells.1.1)) ∙ tells.3)
 begins_none byte tells none Str more spells = true≢false (sym (eq-eqb byte 34 (ap (λ (l : List ℕ). slice_index l 0) spells.1.1)) ∙ tells.4)
 begins_none byte tells none Int more spells = true≢false (sym (integer_begins (byte ∷ more) [] spells) ∙ tells.2)
+begins_none byte tells none Dec more spells = true≢false (sym (decimal_begins (byte ∷ more) [] spells) ∙ tells.2)
 begins_none byte tells none Symbol more spells = none (symbol_first byte more spells)
 
 symbol_by : (byte : ℕ) (bytes : List ℕ) (n : ℕ) → Tells byte begins.Symbol → symbol_len byte (slice_index bytes 0) (slice_index bytes 1) ≡ n → Stands (byte ∷ bytes) (symbol_of n)
@@ -287,7 +289,7 @@ symbol_by byte bytes (suc n) tells is =
     rw positive (first_bytes Symbol (byte ∷ bytes) (suc n) found.1 found.0 (no_slash byte bytes tells.5))
 
 symbol_choice : (byte : ℕ) (bytes : List ℕ) (dot : Bool) → Tells byte begins.Symbol → is_dot_digit (byte ∷ bytes) ≡ dot → Stands (byte ∷ bytes) (cond dot (steps.Fault kinds.Decimal 0) (symbol_of (symbol_len byte (slice_index bytes 0) (slice_index bytes 1))))
-symbol_choice byte bytes true tells is = (or_right (is_decimal (byte ∷ bytes)) _ is, refl)
+symbol_choice byte bytes true tells is = (or_right (is_bad_decimal (byte ∷ bytes)) _ is, refl)
 symbol_choice byte bytes false tells is = symbol_by byte bytes (symbol_len byte (slice_index bytes 0) (slice_index bytes 1)) tells refl
 
 symbol_stands : (byte : ℕ) (bytes : List ℕ) → begin_of byte ≡ begins.Symbol → Stands (byte ∷ bytes) (symbol (byte ∷ bytes))

@@ -10,7 +10,7 @@ use Rattle.std.specs.Str.{IsAscii}
 use Rattle.simdutf8.proofs.StepsLemmas.{IsUtf8-after_ascii}
 use Rattle.std.specs.Str.Parse.{digits_value}
 use Rattle.ad_lexer.specs.declared.token.TokenKind.{TokenKind}
-use Rattle.ad_lexer.specs.declared.token.TokenKind.TheVariants.{Plain, Reserved, Quoted, Str, Int, Symbol}
+use Rattle.ad_lexer.specs.declared.token.TokenKind.TheVariants.{Plain, Reserved, Quoted, Str, Int, Dec, Symbol}
 use Rattle.ad_lexer.specs.Blanks.{is_space, IsBlank}
 use Rattle.ad_lexer.specs.Lexeme.{Lexeme}
 use Rattle.ad_lexer.specs.Numbers.{is_hexadecimal, is_integer}
@@ -18,6 +18,7 @@ use Rattle.ad_lexer.specs.Spelling.{Spells}
 use Rattle.ad_lexer.specs.Tokens.{Item, blank, token, Divides, lexemes, Tokens}
 use Rattle.ad_lexer.specs.Words.{is_word_byte}
 use Rattle.ad_lexer.proofs.ContentLemmas.{quoted_content}
+use Rattle.ad_lexer.proofs.FractionLemmas.{decimal_ascii}
 use Rattle.ad_lexer.proofs.LetterLemmas.{is_quote}
 use Rattle.ad_lexer.proofs.NumberLemmas.{integer_decimal, integer_hexadecimal}
 use Rattle.ad_lexer.proofs.Runs.{all_weaker}
@@ -179,6 +180,7 @@ spelled_rest Reserved bytes after spells is = drop_ascii bytes after (all_weaker
 spelled_rest Quoted bytes after spells is = (quoted_cut 39 bytes spells.0 after refl spells.1 is).1
 spelled_rest Str bytes after spells is = (quoted_cut 34 bytes spells.0 after refl spells.1 is).1
 spelled_rest Int bytes after spells is = drop_ascii bytes after (integer_ascii bytes spells) is
+spelled_rest Dec bytes after spells is = drop_ascii bytes after (decimal_ascii bytes spells) is
 spelled_rest Symbol bytes after spells is = drop_ascii bytes after (symbol_passes (λ s. list_all is_ascii s) bytes refl spells) is
 
 spelled_means : (kind : TokenKind) (bytes after : List ℕ) → Spells kind bytes → IsUtf8 (bytes ++ after) → MeansText kind bytes
@@ -189,6 +191,7 @@ spelled_means Quoted bytes after spells is =
     (subst IsText text_is (quoted_text 39 bytes spells.0 refl spells.1 (quoted_cut 39 bytes spells.0 after refl spells.1 is).0), subst (λ (l : List ℕ). 0 < length l) text_is spells.2)
 spelled_means Str bytes after spells is = subst IsText (sym (quoted_content 34 bytes spells.0 refl spells.1)) (quoted_text 34 bytes spells.0 refl spells.1 (quoted_cut 34 bytes spells.0 after refl spells.1 is).0)
 spelled_means Int bytes after spells is = tt
+spelled_means Dec bytes after spells is = tt
 spelled_means Symbol bytes after spells is = tt
 
 -- ---- whole texts

@@ -17,6 +17,10 @@ ends_word byte = not (is_word_byte byte)
 abbrev pub ends_integer : List ℕ → ℕ → Bool
 ends_integer bytes byte = not (is_word_byte byte) && (is_hexadecimal bytes || not (byte == 46))
 
+-- behind a decimal: no letter, digit or `_`, and no dot
+abbrev pub ends_decimal : ℕ → Bool
+ends_decimal byte = not (is_word_byte byte) && not (byte == 46)
+
 -- some symbol begins with the bytes and then this byte
 abbrev pub goes_on : List ℕ → ℕ → Bool
 goes_on bytes byte = list_any (λ symbol. starts_with nat_eq symbol (bytes ++ byte ∷ [])) symbols
@@ -34,4 +38,5 @@ Ends kinds.Reserved bytes byte = ends_word byte ≡ true
 Ends kinds.Quoted bytes byte = Unit {0}
 Ends kinds.Str bytes byte = Unit {0}
 Ends kinds.Int bytes byte = ends_integer bytes byte ≡ true
+Ends kinds.Dec bytes byte = ends_decimal byte ≡ true
 Ends kinds.Symbol bytes byte = ends_symbol bytes byte ≡ true

@@ -5,7 +5,7 @@ use Rattle.ad_lexer.specs.declared.fault.LexKind.{LexKind}
 use Rattle.ad_lexer.specs.declared.fault.LexKind.TheVariants as kinds
 use Rattle.ad_lexer.specs.declared.token.TokenKind.{TokenKind}
 use Rattle.ad_lexer.specs.Blanks.{is_space, has_close}
-use Rattle.ad_lexer.specs.Numbers.{is_hexadecimal, is_integer, number_len}
+use Rattle.ad_lexer.specs.Numbers.{has_fraction, is_hexadecimal, is_number, number_len}
 use Rattle.ad_lexer.specs.Quoted.{Letter, spelling, spellings, IsLetter, AreLetters}
 use Rattle.ad_lexer.specs.Spelling.{Spells}
 use Rattle.ad_lexer.specs.Words.{is_word_byte}
@@ -47,9 +47,9 @@ HasBadEscape text place =
 abbrev pub behind_number : List ℕ → ℕ
 behind_number text = slice_index text (number_len text)
 
--- `.`, `e` or `E` is directly behind a number that isn't hexadecimal
-abbrev pub is_decimal : List ℕ → Bool
-is_decimal text =
+-- `.`, `e` or `E` is directly behind a number that isn't hexadecimal; a dot before a digit belongs to the number, but for a second
+abbrev pub is_bad_decimal : List ℕ → Bool
+is_bad_decimal text =
     (is_ascii_digit (slice_index text 0) && not (is_hexadecimal text))
     && (behind_number text == 46 || behind_number text == 101 || behind_number text == 69)
 
@@ -57,11 +57,11 @@ is_decimal text =
 abbrev pub is_dot_digit : List ℕ → Bool
 is_dot_digit text = slice_index text 0 == 46 && is_ascii_digit (slice_index text 1)
 
--- a number that is no decimal, and is no integer or has a letter, digit or `_` directly behind it
+-- a number with none of these behind it, which is no integer and no decimal, or has a letter, digit or `_` directly behind it
 abbrev pub is_bad_number : List ℕ → Bool
 is_bad_number text =
-    (is_ascii_digit (slice_index text 0) && not (is_decimal text))
-    && (is_word_byte (behind_number text) || not (is_integer (take (number_len text) text)))
+    (is_ascii_digit (slice_index text 0) && not (is_bad_decimal text))
+    && (is_word_byte (behind_number text) || not (is_number (has_fraction text) (take (number_len text) text)))
 
 -- `/*` with no `*/` behind it
 abbrev pub IsOpenComment : List ℕ → Type 0
@@ -74,6 +74,6 @@ Wrong kinds.Character text place =
 Wrong kinds.StringEnd text place = IsOpenString text × (place ≡ 0)
 Wrong kinds.Escape text place = HasBadEscape text place
 Wrong kinds.Number text place = (is_bad_number text ≡ true) × (place ≡ 0)
-Wrong kinds.Decimal text place = ((is_decimal text || is_dot_digit text) ≡ true) × (place ≡ 0)
+Wrong kinds.Decimal text place = ((is_bad_decimal text || is_dot_digit text) ≡ true) × (place ≡ 0)
 Wrong kinds.CommentEnd text place = IsOpenComment text × (place ≡ 0)
 Wrong kinds.Encoding text place = ⊥

@@ -12,12 +12,12 @@ use Rattle.ad_lexer.specs.declared.next.Step.TheVariants as steps
 use Rattle.ad_lexer.specs.declared.quoted.Front.{Front}
 use Rattle.ad_lexer.specs.declared.quoted.Front.TheVariants as fronts
 use Rattle.ad_lexer.specs.declared.token.TokenKind.{TokenKind}
-use Rattle.ad_lexer.specs.declared.token.TokenKind.TheVariants.{Plain, Reserved, Quoted, Str, Int, Symbol}
+use Rattle.ad_lexer.specs.declared.token.TokenKind.TheVariants.{Plain, Reserved, Quoted, Str, Int, Dec, Symbol}
 use Rattle.ad_lexer.specs.Blanks.{is_space, is_line_byte}
 use Rattle.ad_lexer.specs.Content.{octal_len, octal_value}
 use Rattle.ad_lexer.specs.declared.mark.Mark.{Mark}
 use Rattle.ad_lexer.specs.Marks.{marks, mark_of_kind, meaning_of}
-use Rattle.ad_lexer.specs.Numbers.{is_hexadecimal, is_integer, number_len}
+use Rattle.ad_lexer.specs.Numbers.{has_fraction, is_hexadecimal, is_number, number_len}
 use Rattle.ad_lexer.specs.Quoted.{escaped, is_octal_digit, is_plain}
 use Rattle.ad_lexer.specs.Symbols.{is_symbol}
 use Rattle.ad_lexer.specs.Words.{begins_word, is_word_byte, is_reserved}
@@ -55,18 +55,22 @@ word text =
 
 -- ---- numbers
 
--- `.`, `e` or `E`, of a decimal or an exponent
+-- the kind of a number
+abbrev pub number_kind : Bool → TokenKind
+number_kind decimal = if decimal then Dec else Int
+
+-- `.`, `e` or `E`, of a second dot, one without digits behind it, or an exponent
 abbrev pub is_decimal_mark : ℕ → Bool
 is_decimal_mark byte = byte == 46 || byte == 101 || byte == 69
 
--- the first bytes are an integer, with no letter, digit or `_` behind them
+-- the first bytes are an integer or a decimal, with no letter, digit or `_` behind them
 unfoldable pub is_whole : List ℕ → ℕ → Bool
-is_whole text len = not (is_word_byte (slice_index text len)) && is_integer (take len text)
+is_whole text len = not (is_word_byte (slice_index text len)) && is_number (has_fraction text) (take len text)
 
 unfoldable pub number : List ℕ → Step
 number text =
     if is_decimal_mark (slice_index text (number_len text)) && not (is_hexadecimal text) then steps.Fault kinds.Decimal 0
-    else (if is_whole text (number_len text) then steps.Token Int (number_len text)
+    else (if is_whole text (number_len text) then steps.Token (number_kind (has_fraction text)) (number_len text)
     else steps.Fault kinds.Number 0)
 
 -- ---- symbols

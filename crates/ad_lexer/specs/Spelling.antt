@@ -2,7 +2,7 @@
 use Rattle.std.specs.Prelude.{◌≡◌, ℕ, ◌<◌, true, false, List, length}
 use Rattle.ad_lexer.specs.declared.token.TokenKind.{TokenKind}
 use Rattle.ad_lexer.specs.declared.token.TokenKind.TheVariants as kinds
-use Rattle.ad_lexer.specs.Numbers.{is_integer}
+use Rattle.ad_lexer.specs.Numbers.{is_decimal_number, is_integer}
 use Rattle.ad_lexer.specs.Quoted.{IsQuoted}
 use Rattle.ad_lexer.specs.Symbols.{is_symbol}
 use Rattle.ad_lexer.specs.Words.{is_word, is_reserved}
@@ -14,4 +14,5 @@ Spells kinds.Reserved bytes = (is_word bytes ≡ true) × (is_reserved bytes ≡
 Spells kinds.Quoted bytes = (text : List ℕ) × IsQuoted 39 bytes text × (0 < length text)
 Spells kinds.Str bytes = (text : List ℕ) × IsQuoted 34 bytes text
 Spells kinds.Int bytes = is_integer bytes ≡ true
+Spells kinds.Dec bytes = is_decimal_number bytes ≡ true
 Spells kinds.Symbol bytes = is_symbol bytes ≡ true

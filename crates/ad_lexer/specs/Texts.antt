@@ -17,6 +17,7 @@ MeansText kinds.Reserved bytes = Unit {0}
 MeansText kinds.Quoted bytes = IsText (content bytes) × (0 < length (content bytes))
 MeansText kinds.Str bytes = IsText (content bytes)
 MeansText kinds.Int bytes = Unit {0}
+MeansText kinds.Dec bytes = Unit {0}
 MeansText kinds.Symbol bytes = Unit {0}
 
 -- each token of a list does

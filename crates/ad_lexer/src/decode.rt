@@ -43,7 +43,7 @@ pub fn integer(spelling: &[u8]) -> i64
 }
 
 /// The value of digits of a base.
-fn digits_value(base: u64, digits: &[u8]) -> u64
+pub fn digits_value(base: u64, digits: &[u8]) -> u64
     requires some { 1 ≤ base }
     requires high { base ≤ 16 }
     requires fits { digits_value base digits.now < 2 ^ 63 }

@@ -16,11 +16,11 @@ pub enum LexKind {
     StringEnd,
     /// A backslash that no escape follows, or an octal escape of 0 or over 127, at the backslash.
     Escape,
-    /// No hexadecimal digit behind `0x`, an octal number with 8 or 9, a value over 9223372036854775807, or a letter,
-    /// digit or `_` directly behind the number, at its first digit.
+    /// No hexadecimal digit behind `0x`, an octal number with 8 or 9, an integer over 9223372036854775807, a decimal of more
+    /// millionths than that, or a letter, digit or `_` directly behind the number, at its first digit.
     Number,
-    /// `.`, `e` or `E` directly behind a number that isn't hexadecimal, at its first digit, or a digit directly behind
-    /// `.`, at the dot.
+    /// `e`, `E`, or a `.` that no digit follows directly behind an integer that isn't hexadecimal, or `.`, `e` or `E` directly
+    /// behind a decimal, at its first digit; or a digit directly behind a `.` that is no decimal's, at the dot.
     Decimal,
     /// `/*` with no `*/` behind it, at the slash.
     CommentEnd,

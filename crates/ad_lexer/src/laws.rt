@@ -1,11 +1,12 @@
 // Laws of the definitions, each on a function that does nothing.
 ghost use Rattle.std.specs.Prelude.{◌≡◌, ◌⊎◌, ◌<◌, ◌^◌, ◌↔◌, ℕ, List, IsUtf8, decimal, slice_index};
+ghost use Rattle.pool_text.specs.Number.{size_text};
 ghost use Rattle.ad_lexer.specs.declared.fault.LexKind.{LexKind};
 ghost use Rattle.ad_lexer.specs.declared.token.TokenKind.{TokenKind};
 ghost use Rattle.ad_lexer.specs.Alone.{Ends};
 ghost use Rattle.ad_lexer.specs.Content.{content};
 ghost use Rattle.ad_lexer.specs.Lexeme.{Lexeme};
-ghost use Rattle.ad_lexer.specs.Numbers.{value};
+ghost use Rattle.ad_lexer.specs.Numbers.{millionths, value};
 ghost use Rattle.ad_lexer.specs.Quoted.{IsQuoted};
 ghost use Rattle.ad_lexer.specs.Slices.{AreTokensOf};
 ghost use Rattle.ad_lexer.specs.Spelling.{Spells};
@@ -27,7 +28,7 @@ pub fn tokens_are_slices(text: &[u8])
 {}
 
 /// What is spelled as a token of a kind is one, whatever follows a string or a quoted name, and before a byte that
-/// doesn't go on with a word, an integer or a symbol.
+/// doesn't go on with a word, a number or a symbol.
 #[tactic(auto, using(crate::proofs::AloneLemmas::alone_token))]
 pub fn spelling_stands(spelling: &[u8], after: &[u8])
     ensures { (kind : TokenKind) → Spells kind spelling.now → Ends kind spelling.now (slice_index after.now 0) → IsToken kind spelling.now after.now }
@@ -50,11 +51,24 @@ pub fn integer_fits(spelling: &[u8])
     ensures { Spells TokenKind.Int spelling.now → value spelling.now < 2 ^ 63 }
 {}
 
+/// The millionths of a decimal fit 63 bits.
+#[tactic(auto, using(crate::proofs::FractionLemmas::decimal_small))]
+pub fn decimal_fits(spelling: &[u8])
+    ensures { Spells TokenKind.Dec spelling.now → millionths spelling.now < 2 ^ 63 }
+{}
+
 /// The decimal text of a number below 2^63 is an integer with that value.
 pub fn decimal_spells(number: u64)
     requires { number < 2 ^ 63 }
     ensures spells { Spells TokenKind.Int (decimal number) }
     ensures value { value (decimal number) ≡ number }
+{}
+
+/// The text of fewer than 2^63 millionths is a decimal of so many.
+pub fn millionths_spell(number: u64)
+    requires { number < 2 ^ 63 }
+    ensures spells { Spells TokenKind.Dec (size_text number) }
+    ensures value { millionths (size_text number) ≡ number }
 {}
 
 /// Each string and each quoted name of a text means UTF-8 without byte 0, and a quoted name means some byte.

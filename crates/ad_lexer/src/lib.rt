@@ -2,6 +2,7 @@
 #![tactic(auto)]
 
 mod bytes;
+mod decimals;
 mod decode;
 mod escape;
 mod fault;
@@ -14,11 +15,12 @@ mod quoted;
 mod symbol;
 mod token;
 
+pub use decimals::decimal;
 pub use decode::integer;
 pub use fault::{LexFault, LexKind};
 pub use laws::{
-    decimal_spells, integer_fits, one_answer, one_content, one_kind, quoted_in_utf8,
-    spelling_stands, tokens_are_slices, tokens_mean_texts,
+    decimal_fits, decimal_spells, integer_fits, millionths_spell, one_answer, one_content,
+    one_kind, quoted_in_utf8, spelling_stands, tokens_are_slices, tokens_mean_texts,
 };
 pub use lexer::lex;
 pub use mark::Mark;

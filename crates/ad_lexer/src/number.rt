@@ -1,12 +1,13 @@
-// Integers, and the numbers that are none.
-ghost use Rattle.std.specs.Prelude.{◌≡◌, ◌<◌, ◌≤◌, ◌^◌, ◌&&◌, nat_lt, length, slice_index, take, true};
-ghost use Rattle.std.specs.Char.{digit_value, is_ascii_hexdigit, is_digit};
+// Integers and decimals, and the numbers that are neither.
+ghost use Rattle.std.specs.Prelude.{◌≡◌, ◌<◌, ◌≤◌, ◌^◌, ◌&&◌, nat_lt, length, slice_index, take, true, false};
+ghost use Rattle.std.specs.Char.{digit_value, is_ascii_digit, is_ascii_hexdigit, is_digit};
 ghost use Rattle.std.specs.List.{list_all, prefix_len};
 ghost use Rattle.std.specs.Str.Parse.{digits_value};
 ghost use Rattle.ad_lexer.specs.Numbers as numbers;
 ghost use Rattle.ad_lexer.specs.Reading as spec;
 
 use crate::bytes::{Class, behind, byte_at, front, is_in, run_len};
+use crate::decimals::is_decimal;
 use crate::fault::LexKind;
 use crate::next::{Begin, Step};
 use crate::token::TokenKind;
@@ -41,16 +42,31 @@ fn is_hexadecimal(text: &[u8]) -> bool
     byte_at(text, 0) == b'0' && (mark == b'x' || mark == b'X')
 }
 
-/// The length of the number that the text begins with.
-fn number_len(text: &[u8]) -> usize
-    ensures value { result ≡ numbers.number_len text.now }
-    ensures within { result ≤ length text.now }
+/// The length of the number that the text begins with, and whether it is a decimal.
+fn number_at(text: &[u8]) -> (usize, bool)
+    ensures len { result.0 ≡ numbers.number_len text.now }
+    ensures decimal { result.1 ≡ numbers.has_fraction text.now }
+    ensures within { result.0 ≤ length text.now }
 {
     if is_hexadecimal(text) {
-        2 + hexadecimal_len(behind(text, 2))
-    } else {
-        run_len(Class::Decimal, text)
+        return (2 + hexadecimal_len(behind(text, 2)), false);
     }
+    let len = run_len(Class::Decimal, text);
+    if byte_at(text, len) == b'.' && byte_at(text, len + 1).is_ascii_digit() {
+        (len + 1 + fraction_len(behind(text, len + 1)), true)
+    } else {
+        (len, false)
+    }
+}
+
+/// How many decimal digits the text begins with. Few numbers have digits behind a dot, so that it stays out of the loop over a
+/// text.
+#[inline(never)]
+fn fraction_len(text: &[u8]) -> usize
+    ensures value { result ≡ numbers.digits_len text.now }
+    ensures within { result ≤ length text.now }
+{
+    run_len(Class::Decimal, text)
 }
 
 /// How many hexadecimal digits the text begins with. Few numbers have them, so that it stays out of the loop over a text.
@@ -62,7 +78,7 @@ fn hexadecimal_len(text: &[u8]) -> usize
     run_len(Class::Hexadecimal, text)
 }
 
-/// The integer that the text begins with, or its fault.
+/// The integer or decimal that the text begins with, or its fault.
 #[tactic(auto, using(crate::proofs::Begins::number_some), unfolding(crate::specs::Reading::number))]
 pub fn number(text: &[u8]) -> Step
     requires some { 0 < length text.now }
@@ -70,27 +86,55 @@ pub fn number(text: &[u8]) -> Step
     ensures value { result ≡ spec.number text.now }
     ensures within { spec.IsWithin (length text.now) result }
 {
-    let len = number_len(text);
+    let (len, decimal) = number_at(text);
     let next = byte_at(text, len);
     let is_mark = next == b'.' || next == b'e' || next == b'E';
     if is_mark && !is_hexadecimal(text) {
         Step::Fault(LexKind::Decimal, 0)
-    } else if is_whole(text, len) {
-        Step::Token(TokenKind::Int, len)
+    } else if is_whole(text, len, decimal) {
+        Step::Token(number_kind(decimal), len)
     } else {
         Step::Fault(LexKind::Number, 0)
     }
 }
 
-/// Whether the first `len` bytes are an integer with no letter, digit or `_` behind it.
+fn number_kind(decimal: bool) -> TokenKind
+    ensures { result ≡ spec.number_kind decimal }
+{
+    if decimal {
+        TokenKind::Dec
+    } else {
+        TokenKind::Int
+    }
+}
+
+/// Whether the first `len` bytes are an integer or a decimal with no letter, digit or `_` behind it.
 #[tactic(auto, unfolding(crate::specs::Reading::is_whole))]
-fn is_whole(text: &[u8], len: usize) -> bool
+fn is_whole(text: &[u8], len: usize, decimal: bool) -> bool
     requires some { 0 < len }
+    requires digit { is_ascii_digit (slice_index text.now 0) ≡ true }
     requires within { len ≤ length text.now }
     requires number { len ≡ numbers.number_len text.now }
+    requires decimal { decimal ≡ numbers.has_fraction text.now }
     ensures { result ≡ spec.is_whole text.now len }
 {
-    !is_in(Class::Word, byte_at(text, len)) && (is_short(text, len) || is_integer(front(text, len)))
+    !is_in(Class::Word, byte_at(text, len)) && is_number(text, len, decimal)
+}
+
+/// Whether the first `len` bytes are an integer or a decimal.
+fn is_number(text: &[u8], len: usize, decimal: bool) -> bool
+    requires some { 0 < len }
+    requires digit { is_ascii_digit (slice_index text.now 0) ≡ true }
+    requires within { len ≤ length text.now }
+    requires number { len ≡ numbers.number_len text.now }
+    requires decimal { decimal ≡ numbers.has_fraction text.now }
+    ensures { result ≡ numbers.is_number decimal (take len text.now) }
+{
+    if decimal {
+        is_decimal(front(text, len))
+    } else {
+        is_short(text, len) || is_integer(front(text, len))
+    }
 }
 
 /// Whether the number is one digit, or has decimal digits of which the first isn't 0 or hexadecimal ones, and so few that their
@@ -98,6 +142,7 @@ fn is_whole(text: &[u8], len: usize) -> bool
 fn is_short(text: &[u8], len: usize) -> bool
     requires some { 0 < len }
     requires number { len ≡ numbers.number_len text.now }
+    requires integer { numbers.has_fraction text.now ≡ false }
     ensures { result ≡ true → numbers.is_integer (take len text.now) ≡ true }
 {
     if is_hexadecimal(text) {
@@ -134,7 +179,7 @@ pub fn digits(number: &[u8]) -> (u64, &[u8])
 }
 
 /// Whether the bytes are digits of the base, and their value is below 2^63.
-fn has_value(base: u64, digits: &[u8]) -> bool
+pub fn has_value(base: u64, digits: &[u8]) -> bool
     requires low { 2 ≤ base }
     requires high { base ≤ 16 }
     ensures { result ≡ (list_all (λ c. is_digit c base) digits.now && nat_lt (digits_value base digits.now) (2 ^ 63)) }

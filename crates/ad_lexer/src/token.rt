@@ -6,8 +6,8 @@ use pool_text::{OutOfMemory, Text};
 use std::alloc::Global;
 use std::marker::Model;
 
-/// What a token is: a plain name, a reserved word, a name in single quotes, a string in double quotes, an integer or a
-/// symbol.
+/// What a token is: a plain name, a reserved word, a name in single quotes, a string in double quotes, an integer, a decimal or
+/// a symbol.
 #[derive(Clone, Copy, PartialEq, Eq)]
 pub enum TokenKind {
     Plain,
@@ -15,6 +15,7 @@ pub enum TokenKind {
     Quoted,
     Str,
     Int,
+    Dec,
     Symbol,
 }
 

@@ -114,6 +114,7 @@ literal_flat n literals.Error = flat-word n (constant literals.Error) refl refl
 literal_flat n (literals.Boolean true) = flat-word n (constant (literals.Boolean true)) refl refl
 literal_flat n (literals.Boolean false) = flat-word n (constant (literals.Boolean false)) refl refl
 literal_flat n (literals.Integer i) = flat-word n _ refl refl
+literal_flat n (literals.Decimal i) = flat-word n _ refl refl
 literal_flat n (literals.Str text) = flat-word n _ refl refl
 
 -- ---- rows

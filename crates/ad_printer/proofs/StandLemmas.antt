@@ -1,5 +1,5 @@
 -- Pieces stand side by side as the lexer's items: each stands before the text of those behind it.
-use Rattle.std.proofs.Common.{◌≡◌, ℕ, suc, ◌<◌, ◌≤◌, ◌^◌, Bool, true, false, not, eqb, pos, negsuc, decimal, codes, List, [], ◌∷◌, ◌++◌, slice_index, refl, sym, ◌∙◌, ap, subst, inl, inr, arith, append_assoc, append-nil, IsUtf8}
+use Rattle.std.proofs.Common.{◌≡◌, ℕ, suc, ◌<◌, ◌≤◌, Bool, true, false, not, eqb, pos, negsuc, decimal, codes, List, [], ◌∷◌, ◌++◌, slice_index, refl, sym, ◌∙◌, ap, subst, inl, inr, arith, append_assoc, append-nil, IsUtf8}
 use Rattle.std.proofs.lemmas.Bool.{cases_Bool, and_parts, or_right, true≢false}
 use Rattle.std.proofs.lemmas.Bool.Decides.{nat_tests}
 use Rattle.std.proofs.lemmas.Grind.{flat_map-append}
@@ -7,11 +7,12 @@ use Rattle.std.proofs.lemmas.Str.{IsUtf8-append, IsUtf8-nil, IsUtf8-from_ascii}
 use Rattle.std.proofs.lemmas.Fmt.{IsAscii-decimal}
 use Rattle.std.specs.Char.{is_ascii, is_ascii_digit}
 use Rattle.std.specs.List.{list_all}
+use Rattle.pool_text.specs.Number.{size_text}
 use Rattle.pool_text.specs.declared.language.BinOp.{BinOp}
 use Rattle.pool_text.specs.declared.language.BinOp.TheVariants as between
 use Rattle.pool_text.specs.declared.language.Lit.{Lit}
 use Rattle.pool_text.specs.declared.language.Lit.TheVariants as literals
-use Rattle.ad_lexer.specs.Alone.{Ends, ends_word, ends_integer, ends_symbol}
+use Rattle.ad_lexer.specs.Alone.{Ends, ends_word, ends_integer, ends_decimal, ends_symbol}
 use Rattle.ad_lexer.specs.Numbers.{is_hexadecimal}
 use Rattle.ad_lexer.specs.Spelling.{Spells}
 use Rattle.ad_lexer.specs.Symbols.{is_symbol}
@@ -21,6 +22,8 @@ use Rattle.ad_lexer.specs.declared.token.TokenKind.{TokenKind}
 use Rattle.ad_lexer.specs.declared.token.TokenKind.TheVariants as kinds
 use Rattle.ad_lexer.proofs.AloneLemmas.{alone_token}
 use Rattle.ad_lexer.proofs.DecimalLemmas.{decimal_integer}
+use Rattle.ad_lexer.proofs.FractionLemmas.{decimal_ascii, decimal_begins}
+use Rattle.ad_lexer.proofs.MillionthLemmas.{size_text_decimal}
 use Rattle.ad_lexer.proofs.NumberLemmas.{integer_begins}
 use Rattle.ad_lexer.proofs.TextLemmas.{put_ascii, quoted_spelling}
 use Rattle.ad_tree.specs.Tree.{literal}
@@ -146,13 +149,17 @@ no_dot k after a =
       | inr isnt ↦ isnt
     ]
 
-decimal_first : (n : ℕ) (after : List ℕ) → n < 2 ^ 63 → eqb (slice_index (text_of (token kinds.Int (decimal n) ∷ []) ++ after) 0) 61 ≡ false
-decimal_first n after small =
-    let same : text_of (token kinds.Int (decimal n) ∷ []) ++ after ≡ decimal n ++ after = ap (λ (t : List ℕ). t ++ after) (append-nil (decimal n)) in
-    rw same (digit_no_equals (slice_index (decimal n ++ after) 0) (integer_begins (decimal n) after (decimal_integer n small).0))
+-- a number begins with no `=`
+digit_first : (kind : TokenKind) (bytes after : List ℕ) → is_ascii_digit (slice_index (bytes ++ after) 0) ≡ true → eqb (slice_index (text_of (token kind bytes ∷ []) ++ after) 0) 61 ≡ false
+digit_first kind bytes after digit =
+    let same : text_of (token kind bytes ∷ []) ++ after ≡ bytes ++ after = ap (λ (t : List ℕ). t ++ after) (append-nil bytes) in
+    rw same (digit_no_equals (slice_index (bytes ++ after) 0) digit)
 
 integer_ends : (bytes : List ℕ) (byte : ℕ) → is_word_byte byte ≡ false → eqb byte 46 ≡ false → ends_integer bytes byte ≡ true
 integer_ends bytes byte word dot = rw (word, dot) (or_right (is_hexadecimal bytes) true refl)
+
+decimal_ends : (byte : ℕ) → is_word_byte byte ≡ false → eqb byte 46 ≡ false → ends_decimal byte ≡ true
+decimal_ends byte word dot = rw (word, dot) refl
 
 -- a reserved word's bytes begin with no `=`
 reserved_stands : (bytes : List ℕ) → Spells kinds.Reserved bytes → IsUtf8 bytes → ((after : List ℕ) → eqb (slice_index (text_of (token kinds.Reserved bytes ∷ []) ++ after) 0) 61 ≡ false) → Stands 0 (token kinds.Reserved bytes ∷ [])
@@ -168,9 +175,16 @@ literal_stands (literals.Boolean true) made = reserved_stands (codes "true") (re
 literal_stands (literals.Boolean false) made = reserved_stands (codes "false") (refl, refl) (ascii_utf8 (codes "false") refl) (λ after. refl)
 literal_stands (literals.Integer (pos n)) made = record {
   stand = λ after a. put-token kinds.Int (decimal n) [] after (decimal_integer n made).0 (IsUtf8-from_ascii (decimal n) (IsAscii-decimal n (omega arith))) (integer_ends (decimal n) (slice_index after 0) a.no_word (no_dot 0 after a)) tt;
-  begins = λ after. decimal_first n after made;
+  begins = λ after. digit_first kinds.Int (decimal n) after (integer_begins (decimal n) after (decimal_integer n made).0);
 }
 literal_stands (literals.Integer (negsuc n)) made = absurd made
+literal_stands (literals.Decimal (pos n)) made =
+    let spells = (size_text_decimal n made).0 in
+    record {
+      stand = λ after a. put-token kinds.Dec (size_text n) [] after spells (ascii_utf8 (size_text n) (decimal_ascii (size_text n) spells)) (decimal_ends (slice_index after 0) a.no_word (no_dot 0 after a)) tt;
+      begins = λ after. digit_first kinds.Dec (size_text n) after (decimal_begins (size_text n) after spells);
+    }
+literal_stands (literals.Decimal (negsuc n)) made = absurd made
 literal_stands (literals.Str text) made =
     let quoted = quotes_stand 34 text refl made.1 in
     record {

@@ -13,6 +13,7 @@ use Rattle.ad_lexer.specs.Words.{is_word, is_reserved}
 use Rattle.ad_lexer.specs.declared.token.TokenKind.TheVariants as kinds
 use Rattle.ad_lexer.proofs.ContentLemmas.{quoted_content}
 use Rattle.ad_lexer.proofs.DecimalLemmas.{decimal_integer}
+use Rattle.ad_lexer.proofs.MillionthLemmas.{size_text_decimal}
 use Rattle.ad_grammar.specs.Grammar.{IsName, plain_name, quoted_name, IsNoScope}
 use Rattle.ad_grammar.specs.Made.{IsNameText, IsWritten}
 use Rattle.ad_grammar.specs.Words.{Word, plain, quoted, constant, mark, word_of_kind, words, scope_of}
@@ -79,6 +80,8 @@ literal_word (literals.Boolean true) made = refl
 literal_word (literals.Boolean false) made = refl
 literal_word (literals.Integer (pos n)) made = ap (λ (v : ℕ). constant (literals.Integer (pos v)) ∷ []) (decimal_integer n made).1
 literal_word (literals.Integer (negsuc n)) made = absurd made
+literal_word (literals.Decimal (pos n)) made = ap (λ (v : ℕ). constant (literals.Decimal (pos v)) ∷ []) (size_text_decimal n made).1
+literal_word (literals.Decimal (negsuc n)) made = absurd made
 literal_word (literals.Str text) made = ap (λ t. constant (literals.Str t) ∷ []) (quoted_content 34 (in_quotes 34 text) text refl (quotes_stand 34 text refl made.1))
 
 -- ---- operators between operands

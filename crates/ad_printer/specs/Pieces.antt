@@ -2,6 +2,7 @@
 use Rattle.std.specs.Prelude.{ℕ, Bool, true, false, not, ◌&&◌, is_some, List, [], ◌∷◌, ◌++◌, codes, if◌then◌else◌}
 use Rattle.std.specs.Fmt.{signed_decimal}
 use Rattle.std.specs.List.{flat_map}
+use Rattle.pool_text.specs.Number.{decimal_text}
 use Rattle.pool_text.specs.declared.language.BinOp.{BinOp}
 use Rattle.pool_text.specs.declared.language.BinOp.TheVariants as between
 use Rattle.pool_text.specs.declared.language.Lit.{Lit}
@@ -54,6 +55,7 @@ literal_piece literals.Error = token kinds.Reserved (codes "error")
 literal_piece (literals.Boolean true) = token kinds.Reserved (codes "true")
 literal_piece (literals.Boolean false) = token kinds.Reserved (codes "false")
 literal_piece (literals.Integer n) = token kinds.Int (signed_decimal n)
+literal_piece (literals.Decimal n) = token kinds.Dec (decimal_text n)
 literal_piece (literals.Str text) = token kinds.Str (in_quotes 34 text)
 
 -- ---- operators

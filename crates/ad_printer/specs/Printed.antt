@@ -1,6 +1,6 @@
 -- The printed text of a spelled tree.
 use Rattle.std.specs.Prelude.{ℕ, ◌+◌, Bool, true, false, nat_le, List, [], ◌∷◌, ◌++◌, codes}
-use Rattle.pool_text.specs.declared.language.Lit.TheVariants.{Integer}
+use Rattle.pool_text.specs.declared.language.Lit.TheVariants.{Integer, Decimal}
 use Rattle.ad_lexer.specs.Tokens.{Item, token}
 use Rattle.ad_lexer.specs.declared.token.TokenKind.TheVariants as kinds
 use Rattle.ad_tree.specs.Inline.{Inline, shape, inner, Inlines, end, next, Defs, no_defs, def}
@@ -8,10 +8,11 @@ use Rattle.ad_tree.specs.Tree.{Label, literal, name, unary, binary, all, any, ch
 use Rattle.ad_grammar.specs.Operators.{precedence}
 use Rattle.ad_printer.specs.Pieces.{text_of, symbol, spaced, then_space, name_piece, scoped, literal_piece, prefix_bytes, infix_bytes, divided, enclosed}
 
--- how loosely a node binds: 0 before a dot and all, 1 an integer, 2 an operator before its operand, then the operators
+-- how loosely a node binds: 0 before a dot and all, 1 an integer or a decimal, 2 an operator before its operand, then the operators
 -- between two operands, then `&&`, `||` and last `? :`
 abbrev pub label_precedence : Label → ℕ
 label_precedence (literal (Integer n)) = 1
+label_precedence (literal (Decimal n)) = 1
 label_precedence (unary op) = 2
 label_precedence (binary op) = 2 + precedence op
 label_precedence all = 11

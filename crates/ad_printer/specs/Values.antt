@@ -1,10 +1,11 @@
 -- The printed text of a value.
 use Rattle.std.specs.Prelude.{ℕ, zero, suc, true, false, List, [], ◌++◌, length, codes, Option, None, Some}
 use Rattle.std.specs.Fmt.{signed_decimal}
+use Rattle.pool_text.specs.Number.{decimal_text}
 use Rattle.pool_text.specs.declared.language.AdPlace.{AdPlace}
 use Rattle.ad_tree.specs.Frames.{Frame}
 use Rattle.ad_tree.specs.Inline.{opened}
-use Rattle.ad_value.specs.Plain.{Plain, undefined, error, boolean, integer, text, list, ad_at, Plains, no_plains, plain_then}
+use Rattle.ad_value.specs.Plain.{Plain, undefined, error, boolean, integer, decimal, text, list, ad_at, Plains, no_plains, plain_then}
 use Rattle.ad_printer.specs.Printed.{printed}
 use Rattle.ad_printer.specs.Quotes.{in_quotes}
 
@@ -20,6 +21,7 @@ abbrev mutual
   value_text (boolean true) = codes "true"
   value_text (boolean false) = codes "false"
   value_text (integer n) = signed_decimal n
+  value_text (decimal n) = decimal_text n
   value_text (text bytes) = in_quotes 34 bytes
   value_text (list no_plains) = codes "{ }"
   value_text (list (plain_then p ps)) = codes "{ " ++ (value_text p ++ (texts_behind ps ++ codes " }"))

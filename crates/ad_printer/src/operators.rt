@@ -69,7 +69,7 @@ pub fn loose(expr: &Expr) -> u8
     ensures { (open_frame : ℕ → Defs) → result ≡ loose (inlined open_frame (tree expr.now)) }
 {
     match expr {
-        Expr::Literal(Lit::Integer(_)) => 1,
+        Expr::Literal(Lit::Integer(_) | Lit::Decimal(_)) => 1,
         Expr::Unary(..) => 2,
         Expr::Binary(op, _, _) => 2 + precedence(*op),
         Expr::And(_) => 11,

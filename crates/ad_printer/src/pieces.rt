@@ -1,8 +1,9 @@
 // Pieces at the end of a text, which grows as a list of bytes: most pieces have a few bytes, and are added in a few steps.
 ghost use Rattle.std.specs.Prelude.{◌≡◌, ◌<◌, ◌∷◌, [], ◌++◌, decimal, OnOk};
 ghost use Rattle.std.specs.Fmt.{signed_decimal};
+ghost use Rattle.pool_text.specs.Number.{decimal_text};
 
-use pool_text::{OutOfMemory, Text, append_number};
+use pool_text::{OutOfMemory, Text, append_decimal, append_number};
 
 /// Adds bytes, most often some that the caller knows.
 #[inline(always)]
@@ -74,5 +75,15 @@ fn add_long_number(out: &mut Vec<u8>, n: i64) -> Result<(), OutOfMemory>
 {
     let mut digits = Text::new(*out.allocator());
     append_number(&mut digits, n)?;
+    add(out, digits.bytes())
+}
+
+/// Adds the text of a decimal, which stands in a text of its own first and takes no memory there: it has 21 bytes at most.
+#[inline(never)]
+pub fn add_decimal(out: &mut Vec<u8>, millionths: i64) -> Result<(), OutOfMemory>
+    ensures { OnOk result (out.new.items ≡ out.old.items ++ decimal_text millionths) }
+{
+    let mut digits = Text::new(*out.allocator());
+    append_decimal(&mut digits, i128::from(millionths))?;
     add(out, digits.bytes())
 }

@@ -9,7 +9,7 @@ ghost use Rattle.ad_printer.specs.Pieces.{is_plain_name, literal_piece, name_pie
 ghost use Rattle.ad_printer.specs.Quotes.{in_quotes, letter_for, octal_digits};
 ghost use Rattle.ad_printer.specs.Writing.{Adds, stands_plain};
 
-use crate::pieces::{add, add_byte, add_few, add_number};
+use crate::pieces::{add, add_byte, add_decimal, add_few, add_number};
 use ad_tree::Scope;
 use pool_text::{Lit, OutOfMemory};
 
@@ -24,6 +24,7 @@ pub fn write_literal(out: &mut Vec<u8>, literal: &Lit) -> Result<(), OutOfMemory
         Lit::Boolean(true) => add_few(out, b"true")?,
         Lit::Boolean(false) => add_few(out, b"false")?,
         Lit::Integer(n) => add_number(out, *n)?,
+        Lit::Decimal(millionths) => add_decimal(out, *millionths)?,
         Lit::Str(text) => write_quoted(out, b'"', text.bytes())?,
     }
     Ok(())

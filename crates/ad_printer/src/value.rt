@@ -3,7 +3,7 @@ ghost use Rattle.std.specs.Prelude.{◌≡◌, ◌++◌, OnOk};
 ghost use Rattle.ad_value.specs.Plain.{list as list_value, plain, plains, plains_of};
 ghost use Rattle.ad_printer.specs.Values.{place_of, value_text};
 
-use crate::pieces::{add, add_number};
+use crate::pieces::{add, add_decimal, add_number};
 use crate::quoting::write_quoted;
 use ad_value::{Value, Values};
 use pool_text::{AdPlace, OutOfMemory};
@@ -17,6 +17,7 @@ pub fn place_of(v: &Value) -> Option<AdPlace>
         Value::Error => None,
         Value::Boolean(_) => None,
         Value::Integer(_) => None,
+        Value::Decimal(_) => None,
         Value::Str(_) => None,
         Value::List(_) => None,
         Value::Ad(place) => Some(*place),
@@ -34,6 +35,7 @@ pub fn write_value(out: &mut Vec<u8>, v: &Value) -> Result<(), OutOfMemory>
         Value::Boolean(true) => add(out, b"true"),
         Value::Boolean(false) => add(out, b"false"),
         Value::Integer(n) => add_number(out, *n),
+        Value::Decimal(millionths) => add_decimal(out, *millionths),
         Value::Str(text) => write_quoted(out, b'"', text.bytes()),
         Value::List(values) => write_values(out, values),
         Value::Ad(_) => add(out, b"[...]"),

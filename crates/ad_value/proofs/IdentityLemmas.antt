@@ -4,7 +4,7 @@ use Rattle.std.specs.Cmp.{booleans_Decides, signed_Decides}
 use Rattle.std.specs.Cmp.Lexicographic.{bytes_decides}
 use Rattle.std.proofs.lemmas.Bool.Decides.{nat_tests}
 use Rattle.pool_text.specs.declared.language.AdPlace.{AdPlace}
-use Rattle.ad_value.specs.Plain.{Plain, undefined, error, boolean, integer, text, list, ad_at, Plains, no_plains, plain_then, plains_of}
+use Rattle.ad_value.specs.Plain.{Plain, undefined, error, boolean, integer, decimal, text, list, ad_at, Plains, no_plains, plain_then, plains_of}
 use Rattle.ad_value.specs.Operators.{is_same, are_same}
 
 both : (a b : Bool) → (a && b) ≡ true → (a ≡ true) × (b ≡ true)
@@ -40,6 +40,7 @@ mutual
   is_same-equal error error same = refl
   is_same-equal (boolean a) (boolean b) same = ap boolean ((booleans_Decides a b).0 same)
   is_same-equal (integer a) (integer b) same = ap integer ((signed_Decides a b).0 same)
+  is_same-equal (decimal a) (decimal b) same = ap decimal ((signed_Decides a b).0 same)
   is_same-equal (text a) (text b) same = ap text ((bytes_decides a b).0 same)
   is_same-equal (list a) (list b) same = ap list (are_same-equal a b same)
   is_same-equal (ad_at a) (ad_at b) same = ap ad_at (same_place a b same)
@@ -60,6 +61,7 @@ mutual
   is_same-itself error = refl
   is_same-itself (boolean a) = (booleans_Decides a a).1 refl
   is_same-itself (integer a) = (signed_Decides a a).1 refl
+  is_same-itself (decimal a) = (signed_Decides a a).1 refl
   is_same-itself (text a) = (bytes_decides a a).1 refl
   is_same-itself (list a) = are_same-itself a
   is_same-itself (ad_at a) = same_place-itself a

@@ -7,7 +7,9 @@ use Rattle.std.specs.Str.{bytes_eq}
 use Rattle.pool_text.specs.Folding.{text_order}
 use Rattle.pool_text.specs.declared.language.BinOp.{BinOp}
 use Rattle.pool_text.specs.declared.language.UnOp.{UnOp}
-use Rattle.ad_value.specs.Plain.{Plain, undefined, error, boolean, integer, text, list, ad_at, Plains, no_plains, plain_then}
+use Rattle.ad_value.specs.declared.number.Number.{Number}
+use Rattle.ad_value.specs.Plain.{Plain, undefined, error, boolean, integer, decimal, text, list, ad_at, Plains, no_plains, plain_then}
+use Rattle.ad_value.specs.Numbers.{decimal_or_error, in_millionths, integer_or_error, million, number_of, number_value}
 
 -- ---- `is`
 
@@ -18,6 +20,7 @@ abbrev mutual
   is_same error error = true
   is_same (boolean a) (boolean b) = beq a b
   is_same (integer a) (integer b) = int_eq a b
+  is_same (decimal a) (decimal b) = int_eq a b
   is_same (text a) (text b) = bytes_eq a b
   is_same (list a) (list b) = are_same a b
   is_same (ad_at a) (ad_at b) = a.ad == b.ad && a.frame == b.frame
@@ -30,13 +33,6 @@ abbrev mutual
 
 -- ---- operands
 
--- the number of a value: an Integer itself, and a Boolean as 1 or 0
-abbrev pub number_of : Plain → Option ℤ
-number_of (integer n) = Some n
-number_of (boolean true) = Some (pos 1)
-number_of (boolean false) = Some (pos 0)
-number_of other = None
-
 -- Error wins over Undefined, and Undefined over the row of the operator
 abbrev pub strict : (Plain → Plain → Plain) → Plain → Plain → Plain
 strict row error b = error
@@ -46,16 +42,11 @@ strict row a undefined = undefined
 strict row a b = row a b
 
 -- a row for two numbers: Error where a side is none
-abbrev pub on_numbers : (ℤ → ℤ → Plain) → Option ℤ → Option ℤ → Plain
+abbrev pub on_numbers : (Number → Number → Plain) → Option Number → Option Number → Plain
 on_numbers row (Some x) (Some y) = row x y
 on_numbers row x y = error
 
 -- ---- results
-
--- a whole number as an Integer of 64 bits, Error where it is out of them; `negsuc n` is -(n + 1)
-abbrev pub integer_or_error : ℤ → Plain
-integer_or_error (pos n) = if nat_lt n (2 ^ 63) then integer (pos n) else error
-integer_or_error (negsuc n) = if nat_lt n (2 ^ 63) then integer (negsuc n) else error
 
 -- a shift by a number of places: Error where it is below 0 or over 63
 abbrev pub shifted : (ℕ → ℤ) → ℤ → Plain
@@ -68,26 +59,46 @@ divided result divisor = if int_eq divisor (pos 0) then error else result
 
 -- ---- the table of the strict operators
 
--- two numbers; `is` and `isnt` aren't strict, and have rows of their own
-abbrev pub number_row : BinOp → ℤ → ℤ → Plain
-number_row BinOp.BitOr x y = integer (int_bit_or w64 x y)
-number_row BinOp.BitXor x y = integer (int_bit_xor w64 x y)
-number_row BinOp.BitAnd x y = integer (int_bit_and w64 x y)
-number_row BinOp.Equal x y = boolean (int_eq x y)
-number_row BinOp.Unequal x y = boolean (not (int_eq x y))
-number_row BinOp.Less x y = boolean (int_lt x y)
-number_row BinOp.AtMost x y = boolean (int_le x y)
-number_row BinOp.Greater x y = boolean (int_lt y x)
-number_row BinOp.AtLeast x y = boolean (int_le y x)
-number_row BinOp.ShiftLeft x y = shifted (int_shl w64 x) y
-number_row BinOp.ShiftRight x y = shifted (int_shr x) y
-number_row BinOp.ShiftZero x y = shifted (λ places. cast_signed w64 (cast_unsigned w64 x / 2 ^ places)) y
-number_row BinOp.Add x y = integer_or_error (x +ℤ y)
-number_row BinOp.Sub x y = integer_or_error (x -ℤ y)
-number_row BinOp.Mul x y = integer_or_error (x *ℤ y)
-number_row BinOp.Div x y = divided (integer_or_error (int_div x y)) y
-number_row BinOp.Rem x y = divided (integer (int_rem x y)) y
-number_row op x y = error
+-- two whole numbers; `is` and `isnt` aren't strict, and have rows of their own
+abbrev pub integer_row : BinOp → ℤ → ℤ → Plain
+integer_row BinOp.BitOr x y = integer (int_bit_or w64 x y)
+integer_row BinOp.BitXor x y = integer (int_bit_xor w64 x y)
+integer_row BinOp.BitAnd x y = integer (int_bit_and w64 x y)
+integer_row BinOp.Equal x y = boolean (int_eq x y)
+integer_row BinOp.Unequal x y = boolean (not (int_eq x y))
+integer_row BinOp.Less x y = boolean (int_lt x y)
+integer_row BinOp.AtMost x y = boolean (int_le x y)
+integer_row BinOp.Greater x y = boolean (int_lt y x)
+integer_row BinOp.AtLeast x y = boolean (int_le y x)
+integer_row BinOp.ShiftLeft x y = shifted (int_shl w64 x) y
+integer_row BinOp.ShiftRight x y = shifted (int_shr x) y
+integer_row BinOp.ShiftZero x y = shifted (λ places. cast_signed w64 (cast_unsigned w64 x / 2 ^ places)) y
+integer_row BinOp.Add x y = integer_or_error (x +ℤ y)
+integer_row BinOp.Sub x y = integer_or_error (x -ℤ y)
+integer_row BinOp.Mul x y = integer_or_error (x *ℤ y)
+integer_row BinOp.Div x y = divided (integer_or_error (int_div x y)) y
+integer_row BinOp.Rem x y = divided (integer (int_rem x y)) y
+integer_row op x y = error
+
+-- two numbers in millionths: what is exact, or cut towards zero to millionths; bits and shifts take no Decimal
+abbrev pub decimal_row : BinOp → ℤ → ℤ → Plain
+decimal_row BinOp.Equal x y = boolean (int_eq x y)
+decimal_row BinOp.Unequal x y = boolean (not (int_eq x y))
+decimal_row BinOp.Less x y = boolean (int_lt x y)
+decimal_row BinOp.AtMost x y = boolean (int_le x y)
+decimal_row BinOp.Greater x y = boolean (int_lt y x)
+decimal_row BinOp.AtLeast x y = boolean (int_le y x)
+decimal_row BinOp.Add x y = decimal_or_error (x +ℤ y)
+decimal_row BinOp.Sub x y = decimal_or_error (x -ℤ y)
+decimal_row BinOp.Mul x y = decimal_or_error (int_div (x *ℤ y) million)
+decimal_row BinOp.Div x y = divided (decimal_or_error (int_div (x *ℤ million) y)) y
+decimal_row BinOp.Rem x y = divided (decimal (int_rem x y)) y
+decimal_row op x y = error
+
+-- two numbers: Integers where both are whole, and else Decimals
+abbrev pub number_row : BinOp → Number → Number → Plain
+number_row op (Number.Whole x) (Number.Whole y) = integer_row op x y
+number_row op x y = decimal_row op (in_millionths x) (in_millionths y)
 
 -- two texts, which only the comparisons take
 abbrev pub text_row : BinOp → List ℕ → List ℕ → Plain
@@ -113,9 +124,19 @@ binary_value op a b = strict (strict_row op) a b
 -- ---- operators before one operand
 
 -- a row for one number: Error where it is none
-abbrev pub on_number : (ℤ → Plain) → Option ℤ → Plain
+abbrev pub on_number : (Number → Plain) → Option Number → Plain
 on_number row (Some x) = row x
 on_number row None = error
+
+-- a number with the other sign
+abbrev pub negation : Number → Plain
+negation (Number.Whole n) = integer_or_error (neg_ℤ n)
+negation (Number.Millionths m) = decimal_or_error (neg_ℤ m)
+
+-- a whole number with all its bits turned
+abbrev pub complement : Number → Plain
+complement (Number.Whole n) = integer (int_bit_not w64 n)
+complement (Number.Millionths m) = error
 
 -- `!` takes a Boolean alone
 abbrev pub negated_value : Plain → Plain
@@ -124,10 +145,10 @@ negated_value other = error
 
 -- an operand that is neither Error nor Undefined
 abbrev pub unary_row : UnOp → Plain → Plain
-unary_row UnOp.Plus a = on_number integer (number_of a)
-unary_row UnOp.Minus a = on_number (λ x. integer_or_error (neg_ℤ x)) (number_of a)
+unary_row UnOp.Plus a = on_number number_value (number_of a)
+unary_row UnOp.Minus a = on_number negation (number_of a)
 unary_row UnOp.Not a = negated_value a
-unary_row UnOp.Complement a = on_number (λ x. integer (int_bit_not w64 x)) (number_of a)
+unary_row UnOp.Complement a = on_number complement (number_of a)
 
 -- the value of `op a`
 abbrev pub unary_value : UnOp → Plain → Plain

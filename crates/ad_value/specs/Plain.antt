@@ -6,13 +6,14 @@ use Rattle.ad_value.specs.declared.value.Value.{Value, fold-Value}
 use Rattle.ad_value.specs.declared.value.Value.TheOpen.{Value-F, Values-F}
 use Rattle.ad_value.specs.declared.value.Values.{Values, fold-Values}
 
--- a value: a text is its bytes, a list its elements, and an ad the place of a frame
+-- a value: a decimal is its millionths, a text its bytes, a list its elements, and an ad the place of a frame
 mutual
   pub data Plain : Type 0 where
     undefined : Plain
     error : Plain
     boolean : Bool → Plain
     integer : ℤ → Plain
+    decimal : ℤ → Plain
     text : List ℕ → Plain
     list : Plains → Plain
     ad_at : AdPlace → Plain
@@ -37,6 +38,7 @@ value_step Value-F.Undefined = undefined
 value_step Value-F.Error = error
 value_step (Value-F.Boolean b) = boolean b
 value_step (Value-F.Integer n) = integer n
+value_step (Value-F.Decimal m) = decimal m
 value_step (Value-F.Str bytes) = text bytes
 value_step (Value-F.List items) = list (plains_of items)
 value_step (Value-F.Ad place) = ad_at place
@@ -59,4 +61,5 @@ plain_of_lit Lit.Undefined = undefined
 plain_of_lit Lit.Error = error
 plain_of_lit (Lit.Boolean b) = boolean b
 plain_of_lit (Lit.Integer n) = integer n
+plain_of_lit (Lit.Decimal m) = decimal m
 plain_of_lit (Lit.Str bytes) = text bytes

@@ -1,23 +1,12 @@
 // The rows of the strict operators for two numbers.
-ghost use Rattle.std.specs.Prelude.{◌≡◌, ◌/◌, ◌^◌, MatchOption};
+ghost use Rattle.std.specs.Prelude.{◌≡◌, ◌*◌, ◌/◌, ◌^◌, ◌≤◌, ◌⊎◌, FitsSigned, MatchOption, unsigned_abs};
 ghost use Rattle.std.specs.Int.{cast_signed, cast_unsigned, int_shl, int_shr, w64};
 ghost use Rattle.ad_value.specs.Plain.{error, integer, plain};
-ghost use Rattle.ad_value.specs.Operators.{binary_value, number_of, number_row, shifted};
+ghost use Rattle.ad_value.specs.Numbers.{decimal_or_error};
+ghost use Rattle.ad_value.specs.Operators.{binary_value, decimal_row, integer_row, number_row, shifted};
 
-use crate::Value;
+use crate::{MILLION, Number, Value};
 use pool_text::BinOp;
-
-/// The number of a value: an Integer itself, a Boolean as 1 or 0, and none of any other kind.
-pub(crate) fn number(value: &Value) -> Option<i64>
-    ensures { result ≡ number_of (plain value.now) }
-{
-    match value {
-        Value::Integer(n) => Some(*n),
-        Value::Boolean(true) => Some(1),
-        Value::Boolean(false) => Some(0),
-        _ => None,
-    }
-}
 
 /// The Integer that was calculated, and Error where there is none.
 pub(crate) fn integer_result(calculated: Option<i64>) -> Value
@@ -29,9 +18,29 @@ pub(crate) fn integer_result(calculated: Option<i64>) -> Value
     }
 }
 
+/// The Decimal of so many millionths, and Error where they are out of 64 bits.
+pub(crate) fn decimal_result(millionths: i128) -> Value
+    ensures { plain result ≡ decimal_or_error millionths }
+{
+    match i64::try_from(millionths) {
+        Ok(fitting) => Value::Decimal(fitting),
+        Err(_) => Value::Error,
+    }
+}
+
 /// The result of a strict operator for two numbers.
-pub(crate) fn on_numbers(op: BinOp, x: i64, y: i64) -> Value
+pub(crate) fn on_numbers(op: BinOp, x: Number, y: Number) -> Value
     ensures { plain result ≡ number_row op x y }
+{
+    match (x, y) {
+        (Number::Whole(x), Number::Whole(y)) => on_whole(op, x, y),
+        _ => on_decimals(op, x.in_millionths(), y.in_millionths()),
+    }
+}
+
+// The result of a strict operator for two whole numbers.
+fn on_whole(op: BinOp, x: i64, y: i64) -> Value
+    ensures { plain result ≡ integer_row op x y }
 {
     match op {
         // `is` and `isnt` aren't strict, and have rows of their own.
@@ -101,11 +110,70 @@ fn shift_zero(x: i64, y: i64) -> Value
 
 // `x % y`, with the sign of x; by -1 it is 0, also where the quotient is out of 64 bits.
 fn remainder(x: i64, y: i64) -> Value
-    ensures { plain result ≡ number_row BinOp.Rem x y }
+    ensures { plain result ≡ integer_row BinOp.Rem x y }
 {
     if y == 0 {
         Value::Error
     } else {
         Value::Integer(x.wrapping_rem(y))
+    }
+}
+
+// The result of a strict operator for two numbers in millionths, of which one is a Decimal.
+fn on_decimals(op: BinOp, x: i128, y: i128) -> Value
+    requires left { unsigned_abs x ≤ 2 ^ 63 * 1000000 }
+    requires right { unsigned_abs y ≤ 2 ^ 63 * 1000000 }
+    requires decimal { FitsSigned w64 x ⊎ FitsSigned w64 y }
+    ensures { plain result ≡ decimal_row op x y }
+{
+    match op {
+        BinOp::Equal => Value::Boolean(x == y),
+        BinOp::Unequal => Value::Boolean(x != y),
+        BinOp::Less => Value::Boolean(x < y),
+        BinOp::AtMost => Value::Boolean(x <= y),
+        BinOp::Greater => Value::Boolean(x > y),
+        BinOp::AtLeast => Value::Boolean(x >= y),
+        BinOp::Add => decimal_result(x + y),
+        BinOp::Sub => decimal_result(x - y),
+        BinOp::Mul => product(x, y),
+        BinOp::Div => quotient(x, y),
+        BinOp::Rem => remainder_of_decimals(x, y),
+        _ => Value::Error,
+    }
+}
+
+// `x * y`, cut towards zero. What is out of 128 bits is out of 64 after the cut, too.
+fn product(x: i128, y: i128) -> Value
+    ensures { plain result ≡ decimal_row BinOp.Mul x y }
+{
+    match x.checked_mul(y) {
+        Some(exact) => decimal_result(exact / MILLION),
+        None => Value::Error,
+    }
+}
+
+// `x / y`, cut towards zero.
+fn quotient(x: i128, y: i128) -> Value
+    requires { unsigned_abs x ≤ 2 ^ 63 * 1000000 }
+    ensures { plain result ≡ decimal_row BinOp.Div x y }
+{
+    if y == 0 {
+        Value::Error
+    } else {
+        decimal_result(x * MILLION / y)
+    }
+}
+
+// `x % y`, with the sign of x. It is no further from zero than x, and nearer to it than y.
+#[tactic(auto, using(crate::proofs::RemainderLemmas::remainder_in))]
+fn remainder_of_decimals(x: i128, y: i128) -> Value
+    requires left { unsigned_abs x ≤ 2 ^ 63 * 1000000 }
+    requires decimal { FitsSigned w64 x ⊎ FitsSigned w64 y }
+    ensures { plain result ≡ decimal_row BinOp.Rem x y }
+{
+    if y == 0 {
+        Value::Error
+    } else {
+        decimal_result(x % y)
     }
 }

@@ -1,13 +1,13 @@
 // Operators on literals as they stand, with no value made of a text.
 ghost use Rattle.std.specs.Prelude.{◌≡◌};
-ghost use Rattle.ad_value.specs.Operators.{binary_value, is_same, number_of, strict, strict_row};
+ghost use Rattle.ad_value.specs.Operators.{binary_value, is_same, strict, strict_row};
 ghost use Rattle.ad_value.specs.Logic.{is_true};
 ghost use Rattle.ad_value.specs.Plain.{integer, plain, plain_of_lit, text};
 
-use crate::Value;
 use crate::arithmetic::on_numbers;
 use crate::folding::equal_texts;
 use crate::operators::on_compared_texts;
+use crate::{Number, Value};
 use pool_text::{BinOp, Lit, order_folded};
 
 /// Whether `a op b` is true for two literals. It takes no memory.
@@ -79,6 +79,7 @@ fn are_same(a: &Lit, b: &Lit) -> bool
         (Lit::Undefined, Lit::Undefined) | (Lit::Error, Lit::Error) => true,
         (Lit::Boolean(x), Lit::Boolean(y)) => *x == *y,
         (Lit::Integer(x), Lit::Integer(y)) => *x == *y,
+        (Lit::Decimal(x), Lit::Decimal(y)) => *x == *y,
         (Lit::Str(x), Lit::Str(y)) => x.bytes() == y.bytes(),
         _ => false,
     }
@@ -92,21 +93,9 @@ fn strict_result(op: BinOp, a: &Lit, b: &Lit) -> Value
         (Lit::Error, _) | (_, Lit::Error) => Value::Error,
         (Lit::Undefined, _) | (_, Lit::Undefined) => Value::Undefined,
         (Lit::Str(x), Lit::Str(y)) => on_compared_texts(op, x.bytes(), y.bytes()),
-        _ => match (number(a), number(b)) {
+        _ => match (Number::of_literal(a), Number::of_literal(b)) {
             (Some(x), Some(y)) => on_numbers(op, x, y),
             _ => Value::Error,
         },
-    }
-}
-
-// The number of a literal.
-fn number(lit: &Lit) -> Option<i64>
-    ensures { result ≡ number_of (plain_of_lit lit.now) }
-{
-    match lit {
-        Lit::Integer(n) => Some(*n),
-        Lit::Boolean(true) => Some(1),
-        Lit::Boolean(false) => Some(0),
-        _ => None,
     }
 }

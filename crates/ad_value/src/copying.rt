@@ -16,6 +16,7 @@ pub fn copy(alloc: Global, v: &Value) -> Result<Value, OutOfMemory>
         Value::Error => Ok(Value::Error),
         Value::Boolean(b) => Ok(Value::Boolean(*b)),
         Value::Integer(n) => Ok(Value::Integer(*n)),
+        Value::Decimal(millionths) => Ok(Value::Decimal(*millionths)),
         Value::Str(text) => copy_text(alloc, text),
         Value::List(values) => copy_list(alloc, values),
         Value::Ad(place) => Ok(Value::Ad(*place)),

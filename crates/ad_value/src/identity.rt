@@ -5,7 +5,7 @@ ghost use Rattle.ad_value.specs.Operators.{are_same, is_same};
 
 use crate::{Value, Values};
 
-/// Whether `a is b`, also spelled `=?=`: both of one kind and equal, so an Integer and a Boolean never are. As in the
+/// Whether `a is b`, also spelled `=?=`: both of one kind and equal, so an Integer and a Boolean or a Decimal never are. As in the
 /// ClassAd Language Reference Manual 2.4 the case of texts counts. Lists are compared element by element, ads by place.
 #[cycle(same)]
 pub fn same(a: &Value, b: &Value) -> bool
@@ -15,6 +15,7 @@ pub fn same(a: &Value, b: &Value) -> bool
         (Value::Undefined, Value::Undefined) | (Value::Error, Value::Error) => true,
         (Value::Boolean(x), Value::Boolean(y)) => x == y,
         (Value::Integer(x), Value::Integer(y)) => x == y,
+        (Value::Decimal(x), Value::Decimal(y)) => x == y,
         (Value::Str(x), Value::Str(y)) => x.bytes() == y.bytes(),
         (Value::List(x), Value::List(y)) => same_items(x, y),
         (Value::Ad(x), Value::Ad(y)) => x.ad == y.ad && x.frame == y.frame,

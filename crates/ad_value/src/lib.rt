@@ -9,6 +9,7 @@ mod identity;
 mod laws;
 mod literal;
 mod logic;
+mod number;
 mod operators;
 mod value;
 mod weighing;
@@ -22,6 +23,7 @@ pub use laws::{
 };
 pub use literal::from_lit;
 pub use logic::{and_ends, and_step, or_ends, or_step};
+pub use number::{MILLION, Number};
 pub use operators::{binary, unary};
 pub use value::{Value, Values};
 pub use weighing::{bounded, weight};

@@ -16,6 +16,7 @@ pub fn from_lit(alloc: Global, lit: &Lit) -> Result<Value, OutOfMemory>
         Lit::Error => Value::Error,
         Lit::Boolean(b) => Value::Boolean(*b),
         Lit::Integer(n) => Value::Integer(*n),
+        Lit::Decimal(millionths) => Value::Decimal(*millionths),
         Lit::Str(text) => copy_text(alloc, text)?,
     })
 }

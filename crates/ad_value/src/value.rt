@@ -6,7 +6,8 @@ use pool_text::{AdPlace, OutOfMemory, Text};
 use std::alloc::Global;
 
 /// A value of the ClassAd language, as the ClassAd Language Reference Manual 2.4 has it, without reals and times.
-/// An `Integer` has 64 bits, a `Str` is a list of bytes, and an `Ad` is the place of a frame, not a copy of it.
+/// An `Integer` has 64 bits, a `Decimal` is a number of millionths in 64 bits, a `Str` is a list of bytes, and an `Ad` is the
+/// place of a frame, not a copy of it.
 #[cycle(value)]
 #[derive(Drop)]
 pub enum Value {
@@ -14,6 +15,7 @@ pub enum Value {
     Error,
     Boolean(bool),
     Integer(i64),
+    Decimal(i64),
     Str(Text),
     List(Values),
     Ad(AdPlace),

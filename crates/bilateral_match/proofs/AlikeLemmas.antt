@@ -1,5 +1,5 @@
 -- Ads that are alike dock with the same resources, rank them alike and are ranked alike: so the same resource is best for both.
-use Rattle.std.proofs.Common.{◌≡◌, ◌++◌, ℕ, ℤ, pos, zero, suc, Bool, false, true, not, ◌&&◌, List, [], ◌∷◌, length, map, position, slice_get, Option, None, Some, if◌then◌else◌, refl, ap, ◌∙◌}
+use Rattle.std.proofs.Common.{◌≡◌, ◌++◌, ℕ, ℤ, pos, zero, suc, Bool, false, not, ◌&&◌, List, [], ◌∷◌, length, map, position, slice_get, Option, None, Some, if◌then◌else◌, refl, ap, ◌∙◌}
 use Rattle.std.specs.Prelude.{codes, option_and_then, option_map, unwrap_or}
 use Rattle.std.specs.List.{cons_option}
 use Rattle.std.specs.Option.{option_map_or, option_or}

@@ -4,7 +4,7 @@ use Rattle.std.specs.Option.{option_and_then}
 use Rattle.std.proofs.lemmas.List.Elements.{All-append, All-cons, All-nil, All-tail}
 use Rattle.pool_text.specs.declared.language.AdPlace.{AdPlace}
 use Rattle.pool_text.specs.declared.language.Pos.{Pos}
-use Rattle.ad_value.specs.Plain.{Plain, undefined, error, boolean, integer, text, ad_at}
+use Rattle.ad_value.specs.Plain.{Plain, undefined, error, boolean, integer, decimal, text, ad_at}
 use Rattle.ad_value.specs.Plain.{list as list_value}
 use Rattle.ad_value.specs.Logic.{and_is_decided, and_value}
 use Rattle.ad_value.specs.Demands.{conjunction}
@@ -22,6 +22,7 @@ both-true (boolean true) (boolean false) e = absurd (cc)
 both-true (boolean true) undefined e = absurd (cc)
 both-true (boolean true) error e = absurd (cc)
 both-true (boolean true) (integer n) e = absurd (cc)
+both-true (boolean true) (decimal m) e = absurd (cc)
 both-true (boolean true) (text bytes) e = absurd (cc)
 both-true (boolean true) (list_value items) e = absurd (cc)
 both-true (boolean true) (ad_at place) e = absurd (cc)
@@ -31,11 +32,13 @@ both-true undefined (boolean false) e = absurd (cc)
 both-true undefined undefined e = absurd (cc)
 both-true undefined error e = absurd (cc)
 both-true undefined (integer n) e = absurd (cc)
+both-true undefined (decimal m) e = absurd (cc)
 both-true undefined (text bytes) e = absurd (cc)
 both-true undefined (list_value items) e = absurd (cc)
 both-true undefined (ad_at place) e = absurd (cc)
 both-true error right e = absurd (cc)
 both-true (integer n) right e = absurd (cc)
+both-true (decimal m) right e = absurd (cc)
 both-true (text bytes) right e = absurd (cc)
 both-true (list_value items) right e = absurd (cc)
 both-true (ad_at place) right e = absurd (cc)

@@ -5,7 +5,7 @@ use Rattle.std.specs.Option.{option_and_then, option_map_or}
 use Rattle.std.proofs.lemmas.Bool.{eqb-true}
 use Rattle.std.proofs.lemmas.List.Elements.{All-tail}
 use Rattle.pool_text.specs.declared.language.AdPlace.{AdPlace}
-use Rattle.ad_value.specs.Plain.{Plain, undefined, error, boolean, integer, text, list, ad_at}
+use Rattle.ad_value.specs.Plain.{Plain, undefined, error, boolean, integer, decimal, text, list, ad_at}
 use Rattle.ad_value.specs.Logic.{is_true}
 use Rattle.ad_tree.specs.Tree.{Tree}
 use Rattle.ad_tree.specs.Frames.{Frame, expr_at}
@@ -45,6 +45,7 @@ true-is undefined e = absurd (cc)
 true-is error e = absurd (cc)
 true-is (boolean b) e = ap boolean e
 true-is (integer n) e = absurd (cc)
+true-is (decimal m) e = absurd (cc)
 true-is (text bytes) e = absurd (cc)
 true-is (list items) e = absurd (cc)
 true-is (ad_at place) e = absurd (cc)

@@ -1,9 +1,8 @@
 -- An expression that an ad settles has one value beside it for all requests, and so has a rank by that expression.
-use Rattle.std.proofs.Common.{◌≡◌, ◌+◌, ℕ, ℤ, pos, zero, suc, Bool, true, false, not, ◌&&◌, List, [], ◌∷◌, All, drop, eqb, remove, replicate, set, slice_get, take, Option, None, Some, is_some, IfSome, if◌then◌else◌, refl, ap, sym, ◌∙◌, subst, arith}
+use Rattle.std.proofs.Common.{◌≡◌, ◌+◌, ℕ, ℤ, pos, zero, suc, Bool, true, false, not, ◌&&◌, List, [], ◌∷◌, drop, eqb, set, slice_get, Option, None, Some, is_some, IfSome, if◌then◌else◌, refl, ap, sym, ◌∙◌, subst, arith}
 use Rattle.std.specs.Prelude.{codes, option_map, unwrap_or}
 use Rattle.std.specs.Option.{option_and_then, option_map_or}
 use Rattle.std.proofs.lemmas.Bool.Decides.{nat_tests}
-use Rattle.std.proofs.lemmas.List.Elements.{All-append, All-drop, All-take}
 use Rattle.pool_text.specs.declared.language.AdPlace.{AdPlace}
 use Rattle.pool_text.specs.declared.language.Pos.{Pos}
 use Rattle.ad_value.specs.Plain.{Plain, error}
@@ -148,37 +147,21 @@ module _ {X : Type 0} where
   set-there (z ∷ xs) (suc k) zero x apart = refl
   set-there (z ∷ xs) (suc k) (suc i) x apart = set-there xs k i x (grind (arith, nat_tests))
 
-  pub All-but : (P : X → Type 0) (xs : List X) (k : ℕ) → All P xs → All P (remove xs k)
-  All-but P xs k h = All-append P (take k xs) (drop (suc k) xs) (All-take P k xs h) (All-drop P (suc k) xs h)
-
-nothing-there : (count place : ℕ) (rank : ℤ) → slice_get (replicate count None) place ≡ Some (Some rank) → ⊥
-nothing-there zero place rank e = cc
-nothing-there (suc count) zero rank e = cc
-nothing-there (suc count) (suc place) rank e = nothing-there count place rank e
-
-module _ (moment : ℕ) (ads : List Advert) (expr : Option Tree) where
-  -- of no places, and of places of which none is known
-  pub none-known : AreRanks moment ads expr []
-  none-known place rank advert there = absurd (cc)
-
-  pub none-noted : (count : ℕ) → AreRanks moment ads expr (replicate count None)
-  none-noted count place rank advert there = absurd (nothing-there count place rank there)
-
-  module _ (ranks : List (Option ℤ)) (place : ℕ) (r : ℤ) (request ad : List Frame) (are : AreRanks moment ads expr ranks) where
-    -- with one that a request gives an ad that settles it
-    pub one-noted : option_map (λ (a : Advert). a.ad) (slice_get ads place) ≡ Some ad → r ≡ rank_of_dock moment request ad → rank_expr request ≡ expr
-        → is_rank_settled ad expr ≡ true → AreRanks moment ads expr (set ranks place (Some r))
-    one-noted at is same settled q rank advert there within other alike = by (eqb place q) refl
-      where
-        by : (b : Bool) → eqb place q ≡ b → rank_of_dock moment other advert.ad ≡ rank
-        by false apart = are q rank advert (sym (set-there ranks place q (Some r) apart) ∙ there) within other alike
-        by true equal =
-            let here : place ≡ q = grind (arith, nat_tests) in
-            let ranked : slice_get (set ranks place (Some r)) place ≡ Some (Some rank) = ap (slice_get (set ranks place (Some r))) here ∙ there in
-            let found : Some advert.ad ≡ Some ad = sym (ap (option_map (λ (a : Advert). a.ad)) (ap (slice_get ads) here ∙ within)) ∙ at in
-            let ad-is : advert.ad ≡ ad = cc in
-            let rank-is : Some rank ≡ Some r = set-here ranks place (Some r) (Some rank) ranked in
-            ap (rank_of_dock moment other) ad-is ∙ rank-same moment other request ad expr alike same settled ∙ sym is ∙ cc
+-- ranks with one that a request gives an ad that settles it
+module _ (moment : ℕ) (ads : List Advert) (expr : Option Tree) (ranks : List (Option ℤ)) (place : ℕ) (r : ℤ) (request ad : List Frame) (are : AreRanks moment ads expr ranks) where
+  pub one-noted : option_map (λ (a : Advert). a.ad) (slice_get ads place) ≡ Some ad → r ≡ rank_of_dock moment request ad → rank_expr request ≡ expr
+      → is_rank_settled ad expr ≡ true → AreRanks moment ads expr (set ranks place (Some r))
+  one-noted at is same settled q rank advert there within other alike = by (eqb place q) refl
+    where
+      by : (b : Bool) → eqb place q ≡ b → rank_of_dock moment other advert.ad ≡ rank
+      by false apart = are q rank advert (sym (set-there ranks place q (Some r) apart) ∙ there) within other alike
+      by true equal =
+          let here : place ≡ q = grind (arith, nat_tests) in
+          let ranked : slice_get (set ranks place (Some r)) place ≡ Some (Some rank) = ap (slice_get (set ranks place (Some r))) here ∙ there in
+          let found : Some advert.ad ≡ Some ad = sym (ap (option_map (λ (a : Advert). a.ad)) (ap (slice_get ads) here ∙ within)) ∙ at in
+          let ad-is : advert.ad ≡ ad = cc in
+          let rank-is : Some rank ≡ Some r = set-here ranks place (Some r) (Some rank) ranked in
+          ap (rank_of_dock moment other) ad-is ∙ rank-same moment other request ad expr alike same settled ∙ sym is ∙ cc
 
 -- a rank that is noted
 pub noted : (moment : ℕ) (ads : List Advert) (expr : Option Tree) (ranks : List (Option ℤ)) (place : ℕ) (rank : Option ℤ) (request ad : List Frame) → AreRanks moment ads expr ranks

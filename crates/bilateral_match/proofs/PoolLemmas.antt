@@ -1,5 +1,5 @@
 -- Pools that say the same of each place have the same members, and as many open docks.
-use Rattle.std.proofs.Common.{◌≡◌, ◌<◌, ◌+◌, ℕ, suc, Bool, true, not, ◌&&◌, refl, List, [], ◌∷◌, Option, None, Some, if◌then◌else◌, length, ap, sym, ◌∙◌, subst, arith, zero-add}
+use Rattle.std.proofs.Common.{◌≡◌, ◌<◌, ◌+◌, ℕ, suc, Bool, not, ◌&&◌, refl, List, [], ◌∷◌, Option, None, Some, if◌then◌else◌, length, ap, sym, ◌∙◌, subst, arith, zero-add}
 use Rattle.std.specs.List.{cons_option}
 use Rattle.ad_tree.specs.Frames.{Frame}
 use Rattle.ad_store.specs.Stock.{Advert, is_live}

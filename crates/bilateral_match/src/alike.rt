@@ -102,6 +102,7 @@ pub(crate) fn same_literal(a: &Lit, b: &Lit) -> bool
         (Lit::Error, Lit::Error) => true,
         (Lit::Boolean(x), Lit::Boolean(y)) => x == y,
         (Lit::Integer(x), Lit::Integer(y)) => x == y,
+        (Lit::Decimal(x), Lit::Decimal(y)) => x == y,
         (Lit::Str(x), Lit::Str(y)) => x == y,
         _ => false,
     }

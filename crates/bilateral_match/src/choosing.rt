@@ -183,7 +183,7 @@ fn next_at<H: Holdings, F: Ledger, E: Ledger, T: Ledger>(
     number: u64,
     moment: u64,
     place: usize,
-    bar: Option<i64>,
+    bar: Option<i128>,
     ranking: &mut Ranking,
     tops: &mut Steps<F>,
     entry: &mut Steps<E>,
@@ -209,7 +209,7 @@ fn next_at<H: Holdings, F: Ledger, E: Ledger, T: Ledger>(
 }
 
 // Whether a rank is known not to reach the bar.
-fn is_known_below(bar: Option<i64>, rank: Option<i64>) -> bool
+fn is_known_below(bar: Option<i128>, rank: Option<i128>) -> bool
     ensures { result ≡ is_known_below bar rank }
 {
     match rank {
@@ -219,7 +219,7 @@ fn is_known_below(bar: Option<i64>, rank: Option<i64>) -> bool
 }
 
 // The rank of a member by the job, which any that comes before it reaches.
-fn rank_of(member: &Option<Member>) -> Option<i64>
+fn rank_of(member: &Option<Member>) -> Option<i128>
     ensures { result ≡ option_map (λ m. m.rank) member.now }
 {
     match member {

@@ -19,7 +19,7 @@ const RANKINGS_LIMIT: usize = 16;
 /// The ranks that requests with one rank expression give the resources of a store, by place, so far as they are known.
 #[derive(Drop)]
 pub struct Ranking {
-    pub ranks: Vec<Option<i64>>,
+    pub ranks: Vec<Option<i128>>,
 }
 
 /// A request with what is known of the ranks by its expression.
@@ -56,7 +56,7 @@ impl Ranking {
     }
 
     /// The rank of the resource at a place, if it is known.
-    pub(crate) fn at(&self, place: usize) -> Option<i64>
+    pub(crate) fn at(&self, place: usize) -> Option<i128>
         ensures { result ≡ known_at self.now.ranks.items place }
     {
         match self.ranks.get(place) {
@@ -66,7 +66,7 @@ impl Ranking {
     }
 
     /// Notes the rank that a request gives the ad at a place, where that ad settles it.
-    pub(crate) fn note(&mut self, request: &Ad, ad: &Ad, place: usize, rank: Option<i64>)
+    pub(crate) fn note(&mut self, request: &Ad, ad: &Ad, place: usize, rank: Option<i128>)
         ensures { (moment : ℕ) (ads : List Advert) → AreRanks moment ads (rank_expr (ad_frames request.now)) self.old.ranks.items
             → option_map (λ advert. advert.ad) (slice_get ads place) ≡ Some (ad_frames ad.now)
             → IfSome rank (λ n. n ≡ rank_of_dock moment (ad_frames request.now) (ad_frames ad.now))

@@ -3,11 +3,11 @@ ghost use Rattle.std.specs.Prelude.{◌≡◌};
 
 use std::cmp::Ordering;
 
-/// What the sides of a dock rank each other: the request the resource, and the resource the request.
+/// What the sides of a dock rank each other, in millionths: the request the resource, and the resource the request.
 #[derive(Clone, Copy)]
 pub struct Ranks {
-    pub rank: i64,
-    pub regard: i64,
+    pub rank: i128,
+    pub regard: i128,
 }
 
 /// How a job gets a resource: it is unclaimed, or it is taken from a holder that it ranks strictly lower, or from one that it
@@ -38,9 +38,9 @@ impl Preemption {
 /// its place in the order of the store, counted from 0.
 #[derive(Clone, Copy)]
 pub struct Member {
-    pub rank: i64,
+    pub rank: i128,
     pub preemption: Preemption,
-    pub regard: i64,
+    pub regard: i128,
     pub place: usize,
 }
 

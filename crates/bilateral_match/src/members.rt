@@ -42,7 +42,7 @@ pub fn member_at<H: Holdings, F: Ledger, E: Ledger, T: Ledger>(
     number: u64,
     moment: u64,
     place: usize,
-    bar: Option<i64>,
+    bar: Option<i128>,
     ranking: &mut Ranking,
     tops: &mut Steps<F>,
     entry: &mut Steps<E>,
@@ -134,7 +134,7 @@ fn is_within(now: u64, born: u64, lifetime: u64) -> bool
 // the request's reaches the bar.
 #[derive(Clone, Copy)]
 struct Weighed {
-    rank: Option<i64>,
+    rank: Option<i128>,
     ranks: Option<Ranks>,
 }
 
@@ -145,8 +145,8 @@ fn ranks<F: Ledger, E: Ledger>(
     request: &Request,
     ad: &Ad,
     moment: u64,
-    bar: Option<i64>,
-    known: Option<i64>,
+    bar: Option<i128>,
+    known: Option<i128>,
     tops: &mut Steps<F>,
     entry: &mut Steps<E>,
 ) -> Result<Weighed, OutOfMemory>
@@ -175,8 +175,8 @@ fn ranks_in<F: Ledger, E: Ledger>(
     alloc: Global,
     world: &World<'_>,
     sides: OpenSides,
-    bar: Option<i64>,
-    known: Option<i64>,
+    bar: Option<i128>,
+    known: Option<i128>,
     tops: &mut Steps<F>,
     entry: &mut Steps<E>,
 ) -> Result<Weighed, OutOfMemory>
@@ -216,10 +216,10 @@ fn ranks_in<F: Ledger, E: Ledger>(
 fn given_rank<F: Ledger, E: Ledger>(
     alloc: Global,
     world: &World<'_>,
-    known: Option<i64>,
+    known: Option<i128>,
     tops: &mut Steps<F>,
     entry: &mut Steps<E>,
-) -> Result<i64, OutOfMemory>
+) -> Result<i128, OutOfMemory>
     requires { IfSome known (λ n. n ≡ rank_by (world_of world.now) (request_side (world_of world.now))) }
     ensures rank { IfOk result (λ n. n ≡ rank_by (world_of world.now) (request_side (world_of world.now))) }
     ensures evaluations { tops.new ≤ tops.old + 1 }
@@ -233,7 +233,7 @@ fn given_rank<F: Ledger, E: Ledger>(
 }
 
 /// Whether a rank is no lower than the bar, where there is one.
-pub(crate) fn reaches(bar: Option<i64>, rank: i64) -> bool
+pub(crate) fn reaches(bar: Option<i128>, rank: i128) -> bool
     ensures { result ≡ scan.reaches bar rank }
 {
     match bar {
@@ -250,7 +250,7 @@ pub fn won_from<F: Ledger, E: Ledger, T: Ledger>(
     alloc: Global,
     store: &Store,
     holder: Option<Held<'_>>,
-    regard: i64,
+    regard: i128,
     number: u64,
     moment: u64,
     tops: &mut Steps<F>,
@@ -281,7 +281,7 @@ fn taken_from<F: Ledger, E: Ledger>(
     alloc: Global,
     world: &World<'_>,
     held: u64,
-    regard: i64,
+    regard: i128,
     number: u64,
     tops: &mut Steps<F>,
     entry: &mut Steps<E>,
@@ -296,7 +296,7 @@ fn taken_from<F: Ledger, E: Ledger>(
 }
 
 // How a resource is taken from a holder to whom it gave a rank, and whose user has the number `held`.
-fn taken_by(given: i64, regard: i64, held: u64, number: u64) -> Option<Preemption>
+fn taken_by(given: i128, regard: i128, held: u64, number: u64) -> Option<Preemption>
     ensures { result ≡ scan.taken_by given regard held number }
 {
     if given < regard {

@@ -33,7 +33,7 @@ fn ranked<F: Ledger, E: Ledger>(
     moment: u64,
     tops: &mut Steps<F>,
     entry: &mut Steps<E>,
-) -> Result<Option<i64>, OutOfMemory>
+) -> Result<Option<i128>, OutOfMemory>
     requires { request.now.ports ≡ [] }
     ensures rank { IfOk result (λ rank. rank ≡ docks.ranked moment (ad_frames request.now.ad) (ad_frames ad.now)) }
     ensures evaluations { tops.new ≤ tops.old + evaluations_most (ad_frames request.now.ad) (ad_frames ad.now) }
@@ -55,7 +55,7 @@ fn ranked_in<F: Ledger, E: Ledger>(
     sides: OpenSides,
     tops: &mut Steps<F>,
     entry: &mut Steps<E>,
-) -> Result<Option<i64>, OutOfMemory>
+) -> Result<Option<i128>, OutOfMemory>
     requires docked { 0 < length (world_of world.now).docked }
     requires left { docks.last_open (world_of world.now) ≡ Some sides }
     ensures rank { IfOk result (λ rank. rank ≡ docks.ranked_in (world_of world.now)) }

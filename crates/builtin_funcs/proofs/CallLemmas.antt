@@ -1,5 +1,5 @@
 -- The rules for all functions, over the part of the arguments in which a function is strict.
-use Rattle.std.proofs.Common.{◌≡◌, ℕ, Bool, true, false, cond, List, slice_range, sym, ◌∙◌, ap}
+use Rattle.std.proofs.Common.{◌≡◌, ℕ, true, false, cond, List, slice_range, sym, ◌∙◌, ap}
 use Rattle.std.specs.List.{list_any}
 use Rattle.ad_value.specs.Plain.{Plain, undefined, error}
 use Rattle.ad_value.specs.Limits.{bounded}

@@ -1,5 +1,5 @@
 -- Laws of the table.
-use Rattle.std.proofs.Common.{◌≡◌, ◌≢◌, ℕ, suc, ◌+◌, ◌^◌, ◌<◌, ◌≤◌, Bool, true, false, ◌&&◌, ◌||◌, not, cond, ltb, eqb, codes, decimal, List, [], ◌∷◌, ◌++◌, length, get_or, drop, filter, map, ℤ, pos, negsuc, neg_ℤ, refl, sym, ◌∙◌, ap, arith}
+use Rattle.std.proofs.Common.{◌≡◌, ℕ, suc, ◌^◌, ◌<◌, ◌≤◌, Bool, true, false, ◌&&◌, ◌||◌, not, cond, ltb, eqb, codes, decimal, List, [], ◌∷◌, ◌++◌, length, get_or, drop, filter, map, ℤ, pos, negsuc, neg_ℤ, refl, sym, ◌∙◌, ap, arith}
 use Rattle.std.specs.Prelude.{FitsSigned}
 use Rattle.std.specs.Int.{w64, IsInRange}
 use Rattle.std.specs.Fmt.{signed_decimal}
@@ -14,7 +14,6 @@ use Rattle.pool_text.specs.Folding.{folded}
 use Rattle.ad_value.specs.Plain.{Plain, error, integer, text, undefined}
 use Rattle.ad_value.specs.Limits.{bounded}
 use Rattle.ad_value.specs.Operators.{weight_of}
-use Rattle.builtin_funcs.specs.declared.function.Function.{Function}
 use Rattle.builtin_funcs.specs.Calls.{call_value, function_value}
 use Rattle.builtin_funcs.specs.Functions.{function_named}
 use Rattle.builtin_funcs.specs.Kinds.{is_error, is_scalar, is_undefined}

@@ -9,3 +9,5 @@ pub mod CallLemmas
 pub mod TextLemmas
 pub mod CompareLemmas
 pub mod LawLemmas
+pub mod AlikeLemmas
+pub mod AlikeRowLemmas

@@ -11,8 +11,8 @@ use Rattle.std.proofs.lemmas.Fmt.{IsAscii-from_digits}
 use Rattle.std.specs.Str.Parse.{IsNumeral, digits_value, signed_digits_value, without_leading_sign}
 use Rattle.std.proofs.lemmas.Bool.Decides.{nat_tests}
 use Rattle.std.proofs.lemmas.Str.Parse.{IsNumeralModel, numerals_by_value, tells_all_ascii_digits}
-use Rattle.ad_value.specs.Plain.{Plain, error, integer}
-use Rattle.ad_value.specs.Operators.{integer_or_error}
+use Rattle.ad_value.specs.Plain.{error, integer}
+use Rattle.ad_value.specs.Numbers.{integer_or_error}
 use Rattle.builtin_funcs.specs.Texts.{integer_in}
 
 pub in_64_bits : (z : ℤ) → FitsSigned w64 z → integer_or_error z ≡ integer z

@@ -1,5 +1,5 @@
 -- Calls: the rules that hold for the whole table.
-use Rattle.std.specs.Prelude.{ℕ, Bool, false, ◌&&◌, List, [], length, drop, take, if◌then◌else◌}
+use Rattle.std.specs.Prelude.{ℕ, Bool, false, List, [], length, drop, take, if◌then◌else◌}
 use Rattle.std.specs.List.{list_any}
 use Rattle.std.specs.Option.{option_map_or}
 use Rattle.ad_value.specs.Plain.{Plain, undefined, error}

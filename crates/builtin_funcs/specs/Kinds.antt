@@ -1,6 +1,6 @@
 -- The kinds of values, as tests.
 use Rattle.std.specs.Prelude.{Bool, true, false}
-use Rattle.ad_value.specs.Plain.{Plain, undefined, error, boolean, integer, text, list, ad_at}
+use Rattle.ad_value.specs.Plain.{Plain, undefined, error, boolean, integer, decimal, text, list, ad_at}
 
 abbrev pub is_undefined : Plain → Bool
 is_undefined undefined = true
@@ -18,6 +18,10 @@ abbrev pub is_integer : Plain → Bool
 is_integer (integer n) = true
 is_integer other = false
 
+abbrev pub is_decimal : Plain → Bool
+is_decimal (decimal m) = true
+is_decimal other = false
+
 abbrev pub is_text : Plain → Bool
 is_text (text bytes) = true
 is_text other = false
@@ -30,9 +34,10 @@ abbrev pub is_ad : Plain → Bool
 is_ad (ad_at place) = true
 is_ad other = false
 
--- a Boolean, an Integer or a String
+-- a Boolean, an Integer, a Decimal or a String
 abbrev pub is_scalar : Plain → Bool
 is_scalar (boolean b) = true
 is_scalar (integer n) = true
+is_scalar (decimal m) = true
 is_scalar (text bytes) = true
 is_scalar other = false

@@ -3,7 +3,7 @@ use Rattle.std.specs.Prelude.{ℕ, true, false, pos, List, [], ◌∷◌, length
 use Rattle.std.specs.Char.{to_ascii_uppercase}
 use Rattle.pool_text.specs.Folding.{folded}
 use Rattle.ad_value.specs.Plain.{Plain, undefined, error, boolean, integer, text, list, elements}
-use Rattle.ad_value.specs.Operators.{integer_or_error}
+use Rattle.ad_value.specs.Numbers.{integer_or_error}
 use Rattle.builtin_funcs.specs.declared.function.Function.{Function}
 use Rattle.builtin_funcs.specs.Kinds.{is_ad, is_boolean, is_error, is_integer, is_list, is_text, is_undefined}
 use Rattle.builtin_funcs.specs.Aggregates.{aggregate, greatest, least, on_list, total}

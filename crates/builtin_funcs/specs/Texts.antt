@@ -1,16 +1,17 @@
 -- The rows for texts.
-use Rattle.std.specs.Prelude.{ℕ, ◌+◌, ◌-◌, min, Bool, true, false, not, ◌&&◌, ◌==◌, nat_lt, ℤ, pos, negsuc, List, [], ◌∷◌, length, map, filter, codes, slice_range, if◌then◌else◌}
+use Rattle.std.specs.Prelude.{ℕ, ◌+◌, ◌-◌, min, Bool, true, false, not, ◌&&◌, ◌==◌, nat_lt, ℤ, pos, negsuc, List, [], length, filter, codes, slice_range, if◌then◌else◌}
 use Rattle.std.specs.declared.cmp.Ordering.{Ordering}
 use Rattle.std.specs.Ordering.{int_eq, nat_cmp}
-use Rattle.std.specs.Char.{to_ascii_uppercase}
 use Rattle.std.specs.Cmp.Lexicographic.{slice_cmp}
 use Rattle.std.specs.Fmt.{signed_decimal}
 use Rattle.std.specs.List.{flat_map, list_all, list_any, slice_split}
 use Rattle.std.specs.Str.{all_ascii_digits, bytes_eq}
 use Rattle.std.specs.Str.Parse.{signed_digits_value, without_leading_sign}
 use Rattle.pool_text.specs.Folding.{folded, text_order}
-use Rattle.ad_value.specs.Plain.{Plain, error, boolean, integer, text}
-use Rattle.ad_value.specs.Operators.{integer_or_error, number_of, on_number}
+use Rattle.pool_text.specs.Number.{decimal_text}
+use Rattle.ad_value.specs.Plain.{Plain, error, boolean, integer, decimal, text}
+use Rattle.ad_value.specs.Numbers.{integer_or_error, number_of, whole_part}
+use Rattle.ad_value.specs.Operators.{on_number}
 use Rattle.builtin_funcs.specs.Kinds.{is_scalar}
 
 -- ---- from one kind to another
@@ -19,11 +20,12 @@ use Rattle.builtin_funcs.specs.Kinds.{is_scalar}
 abbrev pub written : Plain → List ℕ
 written (text bytes) = bytes
 written (integer n) = signed_decimal n
+written (decimal m) = decimal_text m
 written (boolean true) = codes "true"
 written (boolean false) = codes "false"
 written other = []
 
--- a Boolean, an Integer or a String as a String
+-- a Boolean, an Integer, a Decimal or a String as a String
 abbrev pub string_value : Plain → Plain
 string_value x = if is_scalar x then text (written x) else error
 
@@ -32,20 +34,21 @@ abbrev pub integer_in : List ℕ → Plain
 integer_in bytes =
     if nat_lt 0 (length (without_leading_sign bytes)) && all_ascii_digits (without_leading_sign bytes) then integer_or_error (signed_digits_value 10 bytes) else error
 
--- a number, or a String that writes one, as an Integer
+-- a number cut towards zero, or the Integer that a String writes
 abbrev pub int_value : Plain → Plain
 int_value (text bytes) = integer_in bytes
-int_value x = on_number integer (number_of x)
+int_value x = on_number (λ n. integer (whole_part n)) (number_of x)
 
 -- the Boolean that `true` or `false` names, in capital or small letters
 abbrev pub boolean_in : List ℕ → Plain
 boolean_in bytes =
     if bytes_eq (folded bytes) (codes "true") then boolean true else if bytes_eq (folded bytes) (codes "false") then boolean false else error
 
--- a Boolean, whether an Integer isn't 0, or the Boolean that a String names
+-- a Boolean, whether an Integer or a Decimal isn't 0, or the Boolean that a String names
 abbrev pub bool_value : Plain → Plain
 bool_value (boolean b) = boolean b
 bool_value (integer n) = boolean (not (int_eq n (pos 0)))
+bool_value (decimal m) = boolean (not (int_eq m (pos 0)))
 bool_value (text bytes) = boolean_in bytes
 bool_value other = error
 

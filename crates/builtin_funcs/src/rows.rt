@@ -1,7 +1,7 @@
 // The table of the functions.
 ghost use Rattle.std.specs.Prelude.{◌≡◌, pos, IfOk};
 ghost use Rattle.ad_value.specs.Plain.{plain, plains};
-ghost use Rattle.ad_value.specs.Operators.{integer_or_error};
+ghost use Rattle.ad_value.specs.Numbers.{integer_or_error};
 ghost use Rattle.builtin_funcs.specs.Rows.{chosen, row_of, row_of_none, row_of_one, row_of_three, row_of_two, size_value};
 
 use crate::function::Function;

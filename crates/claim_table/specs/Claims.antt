@@ -1,5 +1,5 @@
 -- A claim: the resources that are offered to a job are checked anew, one after another, before the job has them.
-use Rattle.std.specs.Prelude.{◌≡◌, ℕ, suc, ◌+◌, ◌*◌, Bool, true, not, ◌&&◌, List, [], ◌∷◌, ◌++◌, find, flat_map, fold, length, slice_get, slice_index, sum_by, take, Option, None, Some, option_map, Result, Ok, Err, if◌then◌else◌}
+use Rattle.std.specs.Prelude.{◌≡◌, ℕ, suc, ◌+◌, ◌*◌, Bool, not, ◌&&◌, List, [], ◌∷◌, ◌++◌, find, flat_map, fold, length, slice_get, slice_index, sum_by, take, Option, None, Some, option_map, Result, Ok, Err, if◌then◌else◌}
 use Rattle.std.specs.List.{range_with_len}
 use Rattle.std.specs.Option.{option_map_or}
 use Rattle.ad_tree.specs.declared.request.Request.{Request}

@@ -1,6 +1,6 @@
 -- The conjuncts of a chain, element by element: how many they are, and which stands where.
-use Rattle.std.proofs.Common.{◌≡◌, ◌∙◌, ap, sym, ℕ, zero, suc, ◌+◌, ◌<◌, ◌≤◌, List, [], ◌∷◌, ◌++◌, append_assoc, drop, length, length-append, Some, slice_get, refl, arith}
-use Rattle.ad_tree.specs.Tree.{Tree, Trees, pack}
+use Rattle.std.proofs.Common.{◌≡◌, ◌∙◌, ap, sym, ℕ, zero, suc, ◌+◌, ◌<◌, List, [], ◌∷◌, ◌++◌, append_assoc, drop, length, length-append, Some, slice_get, refl, arith}
+use Rattle.ad_tree.specs.Tree.{Tree, pack}
 use Rattle.ad_tree.proofs.TreeLemmas.{pack-drop}
 use Rattle.conjunct_plan.specs.Tests.{conjuncts, conjuncts_of_all}
 

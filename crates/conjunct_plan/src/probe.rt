@@ -85,6 +85,7 @@ fn copy_of(lit: &Lit) -> Result<Lit, OutOfMemory>
         Lit::Error => Lit::Error,
         Lit::Boolean(b) => Lit::Boolean(*b),
         Lit::Integer(n) => Lit::Integer(*n),
+        Lit::Decimal(millionths) => Lit::Decimal(*millionths),
         Lit::Str(text) => Lit::Str(text.copy()?),
     })
 }

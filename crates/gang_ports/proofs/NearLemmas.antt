@@ -1,7 +1,7 @@
 -- Values that name no ad but the request and the ad that was docked last: operators and functions give no others.
 use Rattle.std.proofs.Common.{◌≡◌, ◌⊎◌, ℕ, zero, suc, Bool, true, false, List, [], ◌∷◌, length, Option, None, Some, IfSome, option_map, if◌then◌else◌, ℤ, pos, negsuc, neg_ℤ, ltb, ◌^◌, refl, subst}
 use Rattle.std.specs.Prelude.{◌+ℤ◌, ◌-ℤ◌, ◌*ℤ◌, int_div, int_rem, nat_lt, ◌&&◌, not, codes}
-use Rattle.std.specs.Int.{int_bit_not, w64}
+use Rattle.std.specs.Int.{int_max, int_min}
 use Rattle.std.specs.List.{filter_map, flat_map, fold, list_all, list_any}
 use Rattle.std.specs.Ordering.{int_eq}
 use Rattle.std.specs.Str.{all_ascii_digits, bytes_eq}
@@ -11,15 +11,17 @@ use Rattle.std.specs.Option.{option_map_or}
 use Rattle.pool_text.specs.declared.language.BinOp.{BinOp}
 use Rattle.pool_text.specs.declared.language.Lit.{Lit}
 use Rattle.pool_text.specs.declared.language.UnOp.{UnOp}
-use Rattle.ad_value.specs.Plain.{Plain, undefined, error, boolean, integer, text, list, ad_at, Plains, no_plains, plain_then, plain_of_lit, plains_of, elements}
+use Rattle.ad_value.specs.Plain.{Plain, undefined, error, boolean, integer, decimal, text, list, ad_at, Plains, no_plains, plain_then, plain_of_lit, plains_of, elements}
 use Rattle.ad_value.specs.Demands.{all_demanded, chosen, conjunction, disjunction, element, list_value}
 use Rattle.ad_value.specs.Limits.{bounded}
 use Rattle.ad_value.specs.Logic.{and_is_decided, and_value, or_is_decided, or_value}
-use Rattle.ad_value.specs.Operators.{binary_value, unary_value, integer_or_error, negated_value, number_of, number_row, on_number, on_numbers, shifted, strict, strict_row, text_row, unary_row, weight_of}
-use Rattle.builtin_funcs.specs.Aggregates.{aggregate, greatest, least, may_be_number, on_list, total}
+use Rattle.ad_value.specs.declared.number.Number.{Number}
+use Rattle.ad_value.specs.Numbers.{decimal_or_error, in_millionths, integer_or_error, million, number_of, number_value, whole_part}
+use Rattle.ad_value.specs.Operators.{binary_value, complement, decimal_row, unary_value, integer_row, negated_value, negation, number_row, on_number, on_numbers, shifted, strict, strict_row, text_row, unary_row, weight_of}
+use Rattle.builtin_funcs.specs.Aggregates.{aggregate, amount_of, chosen_of, greatest, least, may_be_number, on_list, row_in, total, value_in}
 use Rattle.builtin_funcs.specs.Calls.{call_value, function_value, is_known, strict_arguments, strict_in}
 use Rattle.builtin_funcs.specs.Functions.{function_named, function_names}
-use Rattle.builtin_funcs.specs.Kinds.{is_error, is_scalar, is_undefined}
+use Rattle.builtin_funcs.specs.Kinds.{is_decimal, is_error, is_scalar, is_undefined}
 use Rattle.builtin_funcs.specs.Lists.{all_compare_value, any_compare_value, comparison_named, compares, identical_member_value, member_value}
 use Rattle.builtin_funcs.specs.Rows.{chosen as chosen_value}
 use Rattle.builtin_funcs.specs.Rows.{row_of, size_value}
@@ -81,26 +83,42 @@ module _ (n : ℕ) where
   number-near (pos k) = if-near (ltb k (2 ^ 63)) (integer (pos k)) error tt tt
   number-near (negsuc k) = if-near (ltb k (2 ^ 63)) (integer (negsuc k)) error tt tt
 
+  millionths-near : (z : ℤ) → NearValue n (decimal_or_error z)
+  millionths-near (pos k) = if-near (ltb k (2 ^ 63)) (decimal (pos k)) error tt tt
+  millionths-near (negsuc k) = if-near (ltb k (2 ^ 63)) (decimal (negsuc k)) error tt tt
+
   shifted-near : (shift : ℕ → ℤ) (z : ℤ) → NearValue n (shifted shift z)
   shifted-near shift (pos k) = if-near (ltb k 64) (integer (shift k)) error tt tt
   shifted-near shift (negsuc k) = tt
 
-  row-near : (op : BinOp) (x y : ℤ) → NearValue n (number_row op x y)
-  row-near BinOp.ShiftLeft x y = shifted-near _ y
-  row-near BinOp.ShiftRight x y = shifted-near _ y
-  row-near BinOp.ShiftZero x y = shifted-near _ y
-  row-near BinOp.Add x y = number-near (x +ℤ y)
-  row-near BinOp.Sub x y = number-near (x -ℤ y)
-  row-near BinOp.Mul x y = number-near (x *ℤ y)
-  row-near BinOp.Div x y = if-near (int_eq y (pos 0)) error (integer_or_error (int_div x y)) tt (number-near (int_div x y))
-  row-near BinOp.Rem x y = if-near (int_eq y (pos 0)) error (integer (int_rem x y)) tt tt
-  row-near op x y = tt
+  integer_row-near : (op : BinOp) (x y : ℤ) → NearValue n (integer_row op x y)
+  integer_row-near BinOp.ShiftLeft x y = shifted-near _ y
+  integer_row-near BinOp.ShiftRight x y = shifted-near _ y
+  integer_row-near BinOp.ShiftZero x y = shifted-near _ y
+  integer_row-near BinOp.Add x y = number-near (x +ℤ y)
+  integer_row-near BinOp.Sub x y = number-near (x -ℤ y)
+  integer_row-near BinOp.Mul x y = number-near (x *ℤ y)
+  integer_row-near BinOp.Div x y = if-near (int_eq y (pos 0)) error (integer_or_error (int_div x y)) tt (number-near (int_div x y))
+  integer_row-near BinOp.Rem x y = if-near (int_eq y (pos 0)) error (integer (int_rem x y)) tt tt
+  integer_row-near op x y = tt
+
+  decimal_row-near : (op : BinOp) (x y : ℤ) → NearValue n (decimal_row op x y)
+  decimal_row-near BinOp.Add x y = millionths-near (x +ℤ y)
+  decimal_row-near BinOp.Sub x y = millionths-near (x -ℤ y)
+  decimal_row-near BinOp.Mul x y = millionths-near (int_div (x *ℤ y) million)
+  decimal_row-near BinOp.Div x y = if-near (int_eq y (pos 0)) error (decimal_or_error (int_div (x *ℤ million) y)) tt (millionths-near (int_div (x *ℤ million) y))
+  decimal_row-near BinOp.Rem x y = if-near (int_eq y (pos 0)) error (decimal (int_rem x y)) tt tt
+  decimal_row-near op x y = tt
+
+  row-near : (op : BinOp) (x y : Number) → NearValue n (number_row op x y)
+  row-near op (Number.Whole x) (Number.Whole y) = integer_row-near op x y
+  row-near op x y = decimal_row-near op (in_millionths x) (in_millionths y)
 
   text-near : (op : BinOp) (a b : List ℕ) → NearValue n (text_row op a b)
   text-near BinOp.Equal a b = tt
   text-near op a b = tt
 
-  numbers-near : (op : BinOp) (a b : Option ℤ) → NearValue n (on_numbers (number_row op) a b)
+  numbers-near : (op : BinOp) (a b : Option Number) → NearValue n (on_numbers (number_row op) a b)
   numbers-near op (Some x) (Some y) = row-near op x y
   numbers-near op None b = tt
   numbers-near op (Some x) None = tt
@@ -121,9 +139,21 @@ module _ (n : ℕ) where
       operands a undefined = tt
       operands a b = strict-near op a b
 
-  number_row-near : (row : ℤ → Plain) → ((z : ℤ) → NearValue n (row z)) → (o : Option ℤ) → NearValue n (on_number row o)
+  number_row-near : (row : Number → Plain) → ((z : Number) → NearValue n (row z)) → (o : Option Number) → NearValue n (on_number row o)
   number_row-near row h (Some z) = h z
   number_row-near row h None = tt
+
+  value-near : (x : Number) → NearValue n (number_value x)
+  value-near (Number.Whole z) = tt
+  value-near (Number.Millionths z) = tt
+
+  negation-near : (x : Number) → NearValue n (negation x)
+  negation-near (Number.Whole z) = number-near (neg_ℤ z)
+  negation-near (Number.Millionths z) = millionths-near (neg_ℤ z)
+
+  complement-near : (x : Number) → NearValue n (complement x)
+  complement-near (Number.Whole z) = tt
+  complement-near (Number.Millionths z) = tt
 
   pub unary-near : (op : UnOp) (a : Plain) → NearValue n (unary_value op a)
   unary-near op error = tt
@@ -131,14 +161,14 @@ module _ (n : ℕ) where
   unary-near op a = by op
     where
       by : (op : UnOp) → NearValue n (unary_row op a)
-      by UnOp.Plus = number_row-near integer (λ z. tt) (number_of a)
-      by UnOp.Minus = number_row-near (λ z. integer_or_error (neg_ℤ z)) (λ z. number-near (neg_ℤ z)) (number_of a)
+      by UnOp.Plus = number_row-near number_value value-near (number_of a)
+      by UnOp.Minus = number_row-near negation negation-near (number_of a)
       by UnOp.Not = negated a
         where
           negated : (b : Plain) → NearValue n (negated_value b)
           negated (boolean b) = tt
           negated b = tt
-      by UnOp.Complement = number_row-near (λ z. integer (int_bit_not w64 z)) (λ z. tt) (number_of a)
+      by UnOp.Complement = number_row-near complement complement-near (number_of a)
 
   -- ---- chains
 
@@ -201,18 +231,32 @@ module _ (n : ℕ) where
   on_list-near row h (list items) = h (elements items)
   on_list-near row h v = tt
 
-  aggregate-near : (row : List ℤ → Plain) → ((zs : List ℤ) → NearValue n (row zs)) → (v : Plain) → NearValue n (on_list (aggregate row) v)
+  -- a row that is near where it makes its values near
+  abbrev IsNearRow : ((ℤ → Plain) → List ℤ → Plain) → Type 0
+  IsNearRow row = (value : ℤ → Plain) → ((z : ℤ) → NearValue n (value z)) → (zs : List ℤ) → NearValue n (row value zs)
+
+  value_in-near : (decimals : Bool) (z : ℤ) → NearValue n (value_in decimals z)
+  value_in-near true z = millionths-near z
+  value_in-near false z = number-near z
+
+  aggregate-near : (row : (ℤ → Plain) → List ℤ → Plain) → IsNearRow row → (v : Plain) → NearValue n (on_list (aggregate row) v)
   aggregate-near row h v = on_list-near (aggregate row) (λ vs.
-      if-near (not (list_all may_be_number vs)) error (if list_any is_undefined vs then undefined else row (filter_map number_of vs)) tt
-      (if-near (list_any is_undefined vs) undefined (row (filter_map number_of vs)) tt (h (filter_map number_of vs)))) v
+      let decimals = list_any is_decimal vs in
+      if-near (not (list_all may_be_number vs)) error (if list_any is_undefined vs then undefined else row_in row decimals vs) tt
+      (if-near (list_any is_undefined vs) undefined (row_in row decimals vs) tt (h (value_in decimals) (value_in-near decimals) (filter_map (amount_of decimals) vs)))) v
 
-  least-near : (zs : List ℤ) → NearValue n (least zs)
-  least-near [] = tt
-  least-near (z ∷ zs) = tt
+  found-near : (value : ℤ → Plain) → ((z : ℤ) → NearValue n (value z)) → (o : Option ℤ) → NearValue n (option_map_or value o undefined)
+  found-near value h None = tt
+  found-near value h (Some z) = h z
 
-  greatest-near : (zs : List ℤ) → NearValue n (greatest zs)
-  greatest-near [] = tt
-  greatest-near (z ∷ zs) = tt
+  total-near : IsNearRow total
+  total-near value h zs = h (fold ◌+ℤ◌ (pos 0) zs)
+
+  least-near : IsNearRow least
+  least-near value h zs = found-near value h (chosen_of int_min zs)
+
+  greatest-near : IsNearRow greatest
+  greatest-near value h zs = found-near value h (chosen_of int_max zs)
 
   on_text-near : (row : List ℕ → Plain) → ((bytes : List ℕ) → NearValue n (row bytes)) → (v : Plain) → NearValue n (on_text row v)
   on_text-near row h (text bytes) = h bytes
@@ -226,11 +270,12 @@ module _ (n : ℕ) where
   int-near : (v : Plain) → NearValue n (int_value v)
   int-near (text bytes) =
       if-near (nat_lt 0 (length (without_leading_sign bytes)) && all_ascii_digits (without_leading_sign bytes)) (integer_or_error (signed_digits_value 10 bytes)) error (number-near (signed_digits_value 10 bytes)) tt
-  int-near v = number_row-near integer (λ z. tt) (number_of v)
+  int-near v = number_row-near (λ (x : Number). integer (whole_part x)) (λ x. tt) (number_of v)
 
   bool-near : (v : Plain) → NearValue n (bool_value v)
   bool-near (boolean b) = tt
   bool-near (integer z) = tt
+  bool-near (decimal z) = tt
   bool-near (text bytes) =
       if-near (bytes_eq (folded bytes) (codes "true")) (boolean true) (if bytes_eq (folded bytes) (codes "false") then boolean false else error) tt
       (if-near (bytes_eq (folded bytes) (codes "false")) (boolean false) error tt tt)
@@ -333,7 +378,7 @@ module _ (n : ℕ) where
 
   rows-are : AreRows row_of function_names
   rows-are = (
-    row-is _ (λ m. tt) (λ x m. aggregate-near total (λ zs. number-near (fold ◌+ℤ◌ (pos 0) zs)) x) (λ x y m. tt) (λ x y z m h k. tt) (λ x y z u rest m. tt),
+    row-is _ (λ m. tt) (λ x m. aggregate-near total total-near x) (λ x y m. tt) (λ x y z m h k. tt) (λ x y z u rest m. tt),
     (
       row-is _ (λ m. tt) (λ x m. aggregate-near least least-near x) (λ x y m. tt) (λ x y z m h k. tt) (λ x y z u rest m. tt),
       (

@@ -26,7 +26,7 @@ use std::sync::ledger::Ledger;
 #[derive(Clone, Copy)]
 pub enum Kept {
     Unknown,
-    Weighed(Option<i64>),
+    Weighed(Option<i128>),
 }
 
 /// A resource that a port may be given: its place in the order of the store, counted from 0, its ad, the sides of its dock
@@ -51,7 +51,7 @@ pub struct Side<'a> {
 #[derive(Clone, Copy)]
 pub struct Candidate<'a> {
     pub place: usize,
-    pub rank: i64,
+    pub rank: i128,
     pub ad: &'a Ad,
 }
 
@@ -164,7 +164,7 @@ fn weigh<'a, F: Ledger, E: Ledger>(
 }
 
 // The candidate that a resource is at a rank, if it has one.
-fn ranked<'a>(resource: &Resource<'a>, rank: Option<i64>) -> Option<Candidate<'a>>
+fn ranked<'a>(resource: &Resource<'a>, rank: Option<i128>) -> Option<Candidate<'a>>
     ensures { result ≡ option_map (λ rank. record { place = resource.now.place; rank = rank; ad = resource.now.ad }) rank }
 {
     let rank = rank?;
@@ -189,7 +189,7 @@ fn rank_where_docked<F: Ledger, E: Ledger>(
     sides: OpenSides,
     tops: &mut Steps<F>,
     entry: &mut Steps<E>,
-) -> Result<Option<i64>, OutOfMemory>
+) -> Result<Option<i128>, OutOfMemory>
     requires docked { 0 < length (world_of world.now).docked }
     requires tests { last_open (world_of world.now) ≡ Some sides }
     ensures rank { IfOk result (λ rank. rank ≡ worth (world_of world.now)) }

@@ -1,12 +1,13 @@
 -- Where the attributes stand that pass a test.
 use Rattle.std.proofs.Common.{refl, arith, ◌≡◌, ◌<◌, ◌∙◌, ap, sym, subst, ℕ, ◌+◌, ◌*◌, ◌-◌, ◌/◌, ◌%◌, ◌^◌, ℤ, pos, negsuc, true≢false, Ordering, Bool, true, false, not, ◌&&◌, cond, nat_cmp, List, [], ◌∷◌, Some, Less, Equal, Greater, mod-lt}
-use Rattle.std.specs.Prelude.{int_lt, int_le}
+use Rattle.std.specs.Prelude.{◌*ℤ◌, int_lt, int_le}
 use Rattle.std.specs.Cmp.{int_cmp_total, nat_cmp_total}
 use Rattle.std.specs.Cmp.Lexicographic.{slice_cmp}
-use Rattle.std.specs.Ordering.{int_cmp, ordering_then, ordering_reverse, is_le, is_gt, is_lt, is_eq}
+use Rattle.std.specs.Ordering.{int_cmp, int_eq, ordering_then, ordering_reverse, is_le, is_gt, is_lt, is_eq}
 use Rattle.std.specs.declared.ops.Bound.{Bound}
 use Rattle.std.specs.BTreeMap.Range.{range_contains}
 use Rattle.std.proofs.lemmas.Cmp.{tied_itself}
+use Rattle.std.proofs.lemmas.Int.{ints}
 use Rattle.std.proofs.lemmas.Map.Lookups.{exact_bytes, exact_signed}
 use Rattle.std.proofs.lemmas.Map.Text.{is_eq-slice_cmp}
 use Rattle.pool_text.specs.Folding.{folded, text_order}
@@ -14,7 +15,8 @@ use Rattle.pool_text.specs.declared.language.BinOp.{BinOp}
 use Rattle.pool_text.specs.declared.language.Lit.{Lit}
 use Rattle.ad_value.specs.Plain.{plain_of_lit}
 use Rattle.ad_value.specs.Logic.{is_true}
-use Rattle.ad_value.specs.Operators.{binary_value, is_same, strict, strict_row, number_row, text_row}
+use Rattle.ad_value.specs.Numbers.{million}
+use Rattle.ad_value.specs.Operators.{binary_value, decimal_row, integer_row, is_same, strict, strict_row, text_row}
 use Rattle.conjunct_plan.specs.declared.test.Test.{Test}
 use Rattle.literal_index.specs.declared.place.Place.{Place}
 use Rattle.literal_index.specs.declared.place.Kind.{Kind}
@@ -110,6 +112,7 @@ is_literal Lit.Undefined = refl
 is_literal Lit.Error = tt
 is_literal (Lit.Boolean b) = tt
 is_literal (Lit.Integer n) = tt
+is_literal (Lit.Decimal m) = tt
 is_literal (Lit.Str t) = half (digest (folded t)) (digest_from_small 0 (folded t) (omega arith))
 
 tie : (o : Ordering) → is_eq o ≡ true → o ≡ Equal
@@ -127,7 +130,8 @@ same_alike Lit.Undefined Lit.Undefined h = (refl, refl)
 same_alike Lit.Error Lit.Error h = (refl, refl)
 same_alike (Lit.Boolean true) (Lit.Boolean true) h = (refl, refl)
 same_alike (Lit.Boolean false) (Lit.Boolean false) h = (refl, refl)
-same_alike (Lit.Integer m) (Lit.Integer n) h = (refl, exact_signed m n (tie (int_cmp m n) h))
+same_alike (Lit.Integer m) (Lit.Integer n) h = (refl, ap (λ k. k *ℤ million) (exact_signed m n (tie (int_cmp m n) h)))
+same_alike (Lit.Decimal m) (Lit.Decimal n) h = (refl, exact_signed m n (tie (int_cmp m n) h))
 same_alike (Lit.Str s) (Lit.Str t) h = (refl, ap number_of_text (exact_bytes s t (tie (slice_cmp _ s t) (is_eq-slice_cmp s t ∙ h))))
 same_alike a b h = absurd (cc)
 
@@ -139,27 +143,46 @@ alike_back a b h = (sym h.0, sym h.1)
 
 -- ---- strict comparisons
 
+-- whole numbers compare as they do in millionths
+scaled_lt : (m n : ℤ) → int_lt m n ≡ true → int_lt (m *ℤ million) (n *ℤ million) ≡ true
+scaled_lt m n h = grind (arith, ints)
+
+scaled_le : (m n : ℤ) → int_le m n ≡ true → int_le (m *ℤ million) (n *ℤ million) ≡ true
+scaled_le m n h = grind (arith, ints)
+
+scaled_eq : (m n : ℤ) → int_eq m n ≡ true → int_eq (m *ℤ million) (n *ℤ million) ≡ true
+scaled_eq m n h =
+    subst (λ k. int_eq (m *ℤ million) (k *ℤ million) ≡ true) (exact_signed m n (tie (int_cmp m n) h)) (ap is_eq (tied_itself int_cmp_total (m *ℤ million)))
+
 module _ (op : BinOp) (G : Lit → Lit → Type 0)
-    (number : (a b : Lit) → kind_of (Some a) ≡ Kind.Number → kind_of (Some b) ≡ Kind.Number → is_true (number_row op (value_of (Some a)) (value_of (Some b))) ≡ true → G a b)
+    (scaled : (m n : ℤ) → is_true (integer_row op m n) ≡ true → is_true (decimal_row op (m *ℤ million) (n *ℤ million)) ≡ true)
+    (number : (a b : Lit) → kind_of (Some a) ≡ Kind.Number → kind_of (Some b) ≡ Kind.Number → is_true (decimal_row op (value_of (Some a)) (value_of (Some b))) ≡ true → G a b)
     (text : (s t : List ℕ) → is_true (text_row op s t) ≡ true → G (Lit.Str s) (Lit.Str t)) where
   -- a strict comparison is true of two numbers or of two texts alone
   compared : (a b : Lit) → is_true (strict (strict_row op) (plain_of_lit a) (plain_of_lit b)) ≡ true → G a b
-  compared (Lit.Boolean true) (Lit.Boolean true) h = number _ _ refl refl h
-  compared (Lit.Boolean true) (Lit.Boolean false) h = number _ _ refl refl h
-  compared (Lit.Boolean false) (Lit.Boolean true) h = number _ _ refl refl h
-  compared (Lit.Boolean false) (Lit.Boolean false) h = number _ _ refl refl h
-  compared (Lit.Boolean true) (Lit.Integer n) h = number _ _ refl refl h
-  compared (Lit.Boolean false) (Lit.Integer n) h = number _ _ refl refl h
-  compared (Lit.Integer m) (Lit.Boolean true) h = number _ _ refl refl h
-  compared (Lit.Integer m) (Lit.Boolean false) h = number _ _ refl refl h
-  compared (Lit.Integer m) (Lit.Integer n) h = number _ _ refl refl h
+  compared (Lit.Boolean true) (Lit.Boolean true) h = number _ _ refl refl (scaled (pos 1) (pos 1) h)
+  compared (Lit.Boolean true) (Lit.Boolean false) h = number _ _ refl refl (scaled (pos 1) (pos 0) h)
+  compared (Lit.Boolean false) (Lit.Boolean true) h = number _ _ refl refl (scaled (pos 0) (pos 1) h)
+  compared (Lit.Boolean false) (Lit.Boolean false) h = number _ _ refl refl (scaled (pos 0) (pos 0) h)
+  compared (Lit.Boolean true) (Lit.Integer n) h = number _ _ refl refl (scaled (pos 1) n h)
+  compared (Lit.Boolean false) (Lit.Integer n) h = number _ _ refl refl (scaled (pos 0) n h)
+  compared (Lit.Integer m) (Lit.Boolean true) h = number _ _ refl refl (scaled m (pos 1) h)
+  compared (Lit.Integer m) (Lit.Boolean false) h = number _ _ refl refl (scaled m (pos 0) h)
+  compared (Lit.Integer m) (Lit.Integer n) h = number _ _ refl refl (scaled m n h)
+  compared (Lit.Boolean true) (Lit.Decimal n) h = number _ _ refl refl h
+  compared (Lit.Boolean false) (Lit.Decimal n) h = number _ _ refl refl h
+  compared (Lit.Integer m) (Lit.Decimal n) h = number _ _ refl refl h
+  compared (Lit.Decimal m) (Lit.Boolean true) h = number _ _ refl refl h
+  compared (Lit.Decimal m) (Lit.Boolean false) h = number _ _ refl refl h
+  compared (Lit.Decimal m) (Lit.Integer n) h = number _ _ refl refl h
+  compared (Lit.Decimal m) (Lit.Decimal n) h = number _ _ refl refl h
   compared (Lit.Str s) (Lit.Str t) h = text s t h
   compared Lit.Undefined Lit.Error h = absurd (true≢false (sym h))
   compared a b h = absurd (true≢false (sym h))
 
 equal_alike : (a b : Lit) → is_true (binary_value BinOp.Equal (plain_of_lit a) (plain_of_lit b)) ≡ true → IsAlike a b
 equal_alike =
-    compared BinOp.Equal IsAlike (λ a b ka kb h. (ka ∙ sym kb, exact_signed (value_of (Some a)) (value_of (Some b)) (tie (int_cmp (value_of (Some a)) (value_of (Some b))) h)))
+    compared BinOp.Equal IsAlike scaled_eq (λ a b ka kb h. (ka ∙ sym kb, exact_signed (value_of (Some a)) (value_of (Some b)) (tie (int_cmp (value_of (Some a)) (value_of (Some b))) h)))
     (λ s t h. (refl, ap (λ bytes. pos (digest bytes / 2)) (exact_bytes (folded s) (folded t) (tie (text_order s t) h))))
 
 less_le : (x y : ℤ) → int_lt x y ≡ true → is_le (int_cmp x y) ≡ true
@@ -205,16 +228,16 @@ texts : (s t : List ℕ) → Rises (Lit.Str s) (Lit.Str t)
 texts s t = (is_literal (Lit.Str s), is_literal (Lit.Str t))
 
 less_rises : (a b : Lit) → is_true (binary_value BinOp.Less (plain_of_lit a) (plain_of_lit b)) ≡ true → Rises a b
-less_rises = compared BinOp.Less Rises (λ a b ka kb h. rise a b ka kb (less_le (value_of (Some a)) (value_of (Some b)) h)) (λ s t h. texts s t)
+less_rises = compared BinOp.Less Rises scaled_lt (λ a b ka kb h. rise a b ka kb (less_le (value_of (Some a)) (value_of (Some b)) h)) (λ s t h. texts s t)
 
 most_rises : (a b : Lit) → is_true (binary_value BinOp.AtMost (plain_of_lit a) (plain_of_lit b)) ≡ true → Rises a b
-most_rises = compared BinOp.AtMost Rises (λ a b ka kb h. rise a b ka kb (most_le (value_of (Some a)) (value_of (Some b)) h)) (λ s t h. texts s t)
+most_rises = compared BinOp.AtMost Rises scaled_le (λ a b ka kb h. rise a b ka kb (most_le (value_of (Some a)) (value_of (Some b)) h)) (λ s t h. texts s t)
 
 greater_falls : (a b : Lit) → is_true (binary_value BinOp.Greater (plain_of_lit a) (plain_of_lit b)) ≡ true → Falls a b
-greater_falls = compared BinOp.Greater Falls (λ a b ka kb h. rise b a kb ka (less_le (value_of (Some b)) (value_of (Some a)) h)) (λ s t h. texts t s)
+greater_falls = compared BinOp.Greater Falls (λ m n. scaled_lt n m) (λ a b ka kb h. rise b a kb ka (less_le (value_of (Some b)) (value_of (Some a)) h)) (λ s t h. texts t s)
 
 least_falls : (a b : Lit) → is_true (binary_value BinOp.AtLeast (plain_of_lit a) (plain_of_lit b)) ≡ true → Falls a b
-least_falls = compared BinOp.AtLeast Falls (λ a b ka kb h. rise b a kb ka (most_le (value_of (Some b)) (value_of (Some a)) h)) (λ s t h. texts t s)
+least_falls = compared BinOp.AtLeast Falls (λ m n. scaled_le n m) (λ a b ka kb h. rise b a kb ka (most_le (value_of (Some b)) (value_of (Some a)) h)) (λ s t h. texts t s)
 
 -- ---- tests
 
@@ -225,6 +248,7 @@ passing_covered (Test.Truth n) (Lit.Boolean false) h = absurd (cc)
 passing_covered (Test.Truth n) Lit.Undefined h = absurd (cc)
 passing_covered (Test.Truth n) Lit.Error h = absurd (cc)
 passing_covered (Test.Truth n) (Lit.Integer m) h = absurd (cc)
+passing_covered (Test.Truth n) (Lit.Decimal m) h = absurd (cc)
 passing_covered (Test.Truth n) (Lit.Str t) h = absurd (cc)
 passing_covered (Test.Compare n BinOp.Same l true) lit h = alike_covered lit l (same_alike lit l h)
 passing_covered (Test.Compare n BinOp.Same l false) lit h = alike_covered lit l (alike_back l lit (same_alike l lit h))

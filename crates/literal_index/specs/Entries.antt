@@ -1,5 +1,5 @@
 -- What the index keeps of an attribute, and where.
-use Rattle.std.specs.Prelude.{ℕ, ℤ, pos, Bool, true, false, not, ◌&&◌, List, map, filter, Option, None, Some, option_map, slice_get, if◌then◌else◌}
+use Rattle.std.specs.Prelude.{ℕ, ℤ, pos, ◌*ℤ◌, Bool, true, false, not, ◌&&◌, List, map, filter, Option, None, Some, option_map, slice_get, if◌then◌else◌}
 use Rattle.std.specs.BTreeMap.{is_at}
 use Rattle.std.specs.Option.{option_and_then, option_map_or}
 use Rattle.pool_text.specs.declared.language.Lit.{Lit}
@@ -8,6 +8,7 @@ use Rattle.ad_tree.specs.Tree.{Tree, node, literal}
 use Rattle.ad_tree.specs.Names.{same_name}
 use Rattle.ad_tree.specs.Frames.{attributes_at}
 use Rattle.ad_value.specs.Plain.{plain_of_lit}
+use Rattle.ad_value.specs.Numbers.{million}
 use Rattle.ad_value.specs.Logic.{is_true}
 use Rattle.conjunct_plan.specs.declared.test.Test.{Test}
 use Rattle.conjunct_plan.specs.Decided.{asked, value_with}
@@ -31,16 +32,18 @@ kind_of (Some Lit.Undefined) = Kind.Undefined
 kind_of (Some Lit.Error) = Kind.Error
 kind_of (Some (Lit.Boolean b)) = Kind.Number
 kind_of (Some (Lit.Integer n)) = Kind.Number
+kind_of (Some (Lit.Decimal m)) = Kind.Number
 kind_of (Some (Lit.Str t)) = Kind.Str
 
--- the number of a literal: 1 for true, and a digest for a text
+-- the number of a literal: its millionths, with 1 for true, and a digest for a text
 abbrev pub value_of : Option Lit → ℤ
 value_of None = pos 0
 value_of (Some Lit.Undefined) = pos 0
 value_of (Some Lit.Error) = pos 0
-value_of (Some (Lit.Boolean true)) = pos 1
+value_of (Some (Lit.Boolean true)) = million
 value_of (Some (Lit.Boolean false)) = pos 0
-value_of (Some (Lit.Integer n)) = n
+value_of (Some (Lit.Integer n)) = n *ℤ million
+value_of (Some (Lit.Decimal m)) = m
 value_of (Some (Lit.Str t)) = number_of_text t
 
 -- the place of attribute k of the ad under a slot

@@ -10,4 +10,5 @@ unpacked Packed.Undefined = Some Lit.Undefined
 unpacked Packed.Error = Some Lit.Error
 unpacked (Packed.Boolean b) = Some (Lit.Boolean b)
 unpacked (Packed.Integer n) = Some (Lit.Integer n)
+unpacked (Packed.Decimal m) = Some (Lit.Decimal m)
 unpacked (Packed.Boxed lit) = Some lit.value

@@ -3,6 +3,7 @@ use Rattle.std.specs.Prelude.{ℕ, ◌≡◌, ◌-◌, ◌^◌, ℤ, pos, Bool, 
 use Rattle.std.specs.Ordering.{int_cmp, is_le, ord_max, ord_min}
 use Rattle.pool_text.specs.declared.language.BinOp.{BinOp}
 use Rattle.pool_text.specs.declared.language.Lit.{Lit}
+use Rattle.ad_value.specs.Numbers.{million}
 use Rattle.conjunct_plan.specs.declared.test.Test.{Test}
 use Rattle.literal_index.specs.declared.place.Kind.{Kind}
 use Rattle.literal_index.specs.declared.place.Place.{Place}
@@ -70,7 +71,7 @@ compared_span op lit left = Span.Literals
 
 -- where the literals stand that make a test true
 abbrev pub passing_span : Test → Span
-passing_span (Test.Truth n) = Span.At Kind.Number (pos 1)
+passing_span (Test.Truth n) = Span.At Kind.Number million
 passing_span (Test.Compare n op lit left) = compared_span op lit left
 
 -- where the literals stand that don't, if the test is true of Undefined

@@ -11,7 +11,7 @@ use crate::literal::Literal;
 use crate::name::{Name, NameCache};
 use crate::place::{Kind, Place};
 use ad_tree::Expr;
-use ad_value::is_true_of_literals;
+use ad_value::{MILLION, is_true_of_literals};
 use conjunct_plan::Test;
 use pool_text::{Lit, OutOfMemory, Text, same_folded};
 use std::alloc::Global;
@@ -146,19 +146,20 @@ pub fn kind_of(found: Option<&Lit>) -> Kind
         None => Kind::Open,
         Some(Lit::Undefined) => Kind::Undefined,
         Some(Lit::Error) => Kind::Error,
-        Some(Lit::Boolean(_) | Lit::Integer(_)) => Kind::Number,
+        Some(Lit::Boolean(_) | Lit::Integer(_) | Lit::Decimal(_)) => Kind::Number,
         Some(Lit::Str(_)) => Kind::Str,
     }
 }
 
-/// The number by which such attributes are ordered.
-pub fn value_of(found: Option<&Lit>) -> i64
+/// The number by which such attributes are ordered. Numbers of all kinds count in millionths, and so by exact value.
+pub fn value_of(found: Option<&Lit>) -> i128
     ensures { result ≡ value_of (option_copied found.entry) }
 {
     match found {
-        Some(Lit::Boolean(true)) => 1,
-        Some(Lit::Integer(n)) => *n,
-        Some(Lit::Str(text)) => number_of_text(text.bytes()),
+        Some(Lit::Boolean(true)) => MILLION,
+        Some(Lit::Integer(n)) => i128::from(*n) * MILLION,
+        Some(Lit::Decimal(millionths)) => i128::from(*millionths),
+        Some(Lit::Str(text)) => i128::from(number_of_text(text.bytes())),
         _ => 0,
     }
 }

@@ -23,6 +23,7 @@ enum Packed {
     Error,
     Boolean(bool),
     Integer(i64),
+    Decimal(i64),
     Boxed(Box<Lit>),
 }
 
@@ -48,6 +49,7 @@ impl Literal {
             Some(Lit::Error) => Packed::Error,
             Some(Lit::Boolean(b)) => Packed::Boolean(*b),
             Some(Lit::Integer(n)) => Packed::Integer(*n),
+            Some(Lit::Decimal(millionths)) => Packed::Decimal(*millionths),
             Some(Lit::Str(text)) => {
                 let copy = Text::from_bytes(alloc, text.bytes())?;
                 Packed::Boxed(Box::new(alloc, Lit::Str(copy))?)
@@ -66,6 +68,7 @@ impl Literal {
             Packed::Error => Some(holds(test, &Lit::Error)),
             Packed::Boolean(b) => Some(holds(test, &Lit::Boolean(*b))),
             Packed::Integer(n) => Some(holds(test, &Lit::Integer(*n))),
+            Packed::Decimal(millionths) => Some(holds(test, &Lit::Decimal(*millionths))),
             Packed::Boxed(lit) => Some(holds(test, lit)),
         }
     }

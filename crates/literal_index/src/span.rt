@@ -4,6 +4,7 @@ ghost use Rattle.literal_index.specs.Spans.{failing_span, first_in_both, first_p
 
 use crate::entry::{kind_of, value_of};
 use crate::place::{Kind, Place};
+use ad_value::MILLION;
 use conjunct_plan::Test;
 use pool_text::{BinOp, Lit};
 
@@ -11,11 +12,11 @@ use pool_text::{BinOp, Lit};
 #[derive(Clone, Copy)]
 pub enum Span {
     /// The attributes of this kind and this number.
-    At(Kind, i64),
+    At(Kind, i128),
     /// The numbers up to this one.
-    UpTo(i64),
+    UpTo(i128),
     /// The numbers from this one on.
-    From(i64),
+    From(i128),
     /// All literals.
     Literals,
 }
@@ -26,7 +27,7 @@ impl Span {
         ensures { result ≡ passing_span test.now }
     {
         match test {
-            Test::Truth { .. } => Span::At(Kind::Number, 1),
+            Test::Truth { .. } => Span::At(Kind::Number, MILLION),
             Test::Compare {
                 op,
                 lit,
@@ -84,7 +85,7 @@ impl Span {
             Span::At(kind, value) => (kind, value),
             Span::UpTo(value) => (Kind::Number, value),
             Span::From(_) => (Kind::Str, 0),
-            Span::Literals => (Kind::Str, i64::MAX),
+            Span::Literals => (Kind::Str, i128::from(i64::MAX)),
         };
         Place {
             name,

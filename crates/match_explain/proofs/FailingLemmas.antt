@@ -1,5 +1,5 @@
 -- The first of a list that fails a test.
-use Rattle.std.proofs.Common.{◌≡◌, ◌∙◌, ap, sym, refl, ℕ, zero, suc, ◌+◌, add-one, Bool, true, false, cond, List, [], ◌∷◌, take, map, Option, None, Some, option_map, slice_get, subst}
+use Rattle.std.proofs.Common.{◌≡◌, ◌∙◌, ap, sym, refl, ℕ, zero, suc, ◌+◌, add-one, Bool, true, false, cond, List, [], ◌∷◌, take, map, Option, None, Some, option_map, slice_get}
 use Rattle.std.specs.Option.{option_map_or}
 use Rattle.ad_tree.specs.Tree.{Tree}
 use Rattle.conjunct_plan.specs.Tests.{conjuncts, requirement_expr}

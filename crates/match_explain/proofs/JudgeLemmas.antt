@@ -1,13 +1,13 @@
 -- The verdict on one ad, from the truths of the request's conjuncts.
-use Rattle.std.proofs.Common.{◌≡◌, ◌∙◌, ap, sym, refl, ℕ, Bool, Bor, List, [], ◌∷◌, length, map, Option, None, Some}
+use Rattle.std.proofs.Common.{◌≡◌, ◌∙◌, ap, sym, refl, ℕ, Bool, Bor, List, length, map, Option, None, Some}
 use Rattle.std.proofs.lemmas.List.{length-map}
 use Rattle.std.proofs.lemmas.Simd.{map-map}
 use Rattle.pool_text.specs.declared.language.AdPlace.{AdPlace}
 use Rattle.ad_tree.specs.Frames.{Frame}
-use Rattle.ad_tree.specs.Tree.{Tree, tree}
+use Rattle.ad_tree.specs.Tree.{tree}
 use Rattle.ad_tree.specs.declared.tree.Expr.{Expr}
 use Rattle.conjunct_plan.specs.Tests.{conjuncts_at, requirement_expr}
-use Rattle.eval_scope.specs.World.{PlainWorld, frames_of_ad, request_side, resource_side}
+use Rattle.eval_scope.specs.World.{PlainWorld, request_side, resource_side}
 use Rattle.match_explain.specs.declared.report.Verdict.{Verdict}
 use Rattle.match_explain.specs.Counted.{against}
 use Rattle.match_explain.specs.Why.{docked_to, failing, first_failing, holds, holds_for, verdict, verdict_by}

@@ -1,5 +1,5 @@
 -- An ad is accepted exactly where its dock is true. Each step is an equation of tests, so that it serves both directions.
-use Rattle.std.proofs.Common.{◌≡◌, ◌∙◌, ap, sym, refl, ℕ, suc, Bool, true, false, ◌&&◌, List, [], ◌∷◌, ◌++◌, Option, None, Some, is_none, option_map, option_and_then, unwrap_or, cond}
+use Rattle.std.proofs.Common.{◌≡◌, ◌∙◌, ap, sym, refl, ℕ, suc, Bool, true, false, ◌&&◌, List, [], ◌∷◌, Option, None, Some, is_none, option_map, option_and_then, unwrap_or, cond}
 use Rattle.std.specs.List.{list_all}
 use Rattle.std.specs.Option.{option_map_or}
 use Rattle.std.proofs.lemmas.List.Folds.{list_all-append}
@@ -7,14 +7,14 @@ use Rattle.pool_text.specs.declared.language.AdPlace.{AdPlace}
 use Rattle.pool_text.specs.declared.language.Pos.{Pos}
 use Rattle.ad_value.specs.Demands.{conjunction}
 use Rattle.ad_value.specs.Logic.{is_true}
-use Rattle.ad_value.specs.Plain.{Plain, undefined, error, boolean, integer, text, list, ad_at}
+use Rattle.ad_value.specs.Plain.{Plain, undefined, error, boolean, integer, decimal, text, list, ad_at}
 use Rattle.ad_tree.specs.Frames.{expr_at}
 use Rattle.ad_tree.specs.Special.{requirement_of}
 use Rattle.ad_tree.specs.Tree.{Tree, node, frame, Trees, none, more, literal, name, unary, binary, all, any, choice, select, subscript, call}
 use Rattle.ad_tree.specs.Tree as trees
 use Rattle.ad_eval.specs.Dock.{attribute_of, is_docked, meets_requirement}
 use Rattle.ad_eval.specs.Value.{evaluation_at, results_by, value_at, value_by}
-use Rattle.conjunct_plan.specs.Tests.{conjuncts, conjuncts_of_all, requirement_expr}
+use Rattle.conjunct_plan.specs.Tests.{conjuncts, conjuncts_of_all}
 use Rattle.eval_scope.specs.World.{PlainWorld, frames_of_ad, request_side, resource_side}
 use Rattle.match_explain.specs.declared.report.Verdict.{Verdict}
 use Rattle.match_explain.specs.Why.{failing, first_failing, holds, verdict, verdict_by}
@@ -36,11 +36,13 @@ untrue undefined (Some (boolean false) ∷ rs) not = untrue (boolean false) rs r
 untrue undefined (Some undefined ∷ rs) not = untrue undefined rs refl
 untrue undefined (Some error ∷ rs) not = untrue error rs refl
 untrue undefined (Some (integer n) ∷ rs) not = untrue error rs refl
+untrue undefined (Some (decimal m) ∷ rs) not = untrue error rs refl
 untrue undefined (Some (text s) ∷ rs) not = untrue error rs refl
 untrue undefined (Some (list ps) ∷ rs) not = untrue error rs refl
 untrue undefined (Some (ad_at p) ∷ rs) not = untrue error rs refl
 untrue error (r ∷ rs) not = refl
 untrue (integer n) (r ∷ rs) not = refl
+untrue (decimal m) (r ∷ rs) not = refl
 untrue (text s) (r ∷ rs) not = refl
 untrue (list ps) (r ∷ rs) not = refl
 untrue (ad_at p) (r ∷ rs) not = refl
@@ -52,6 +54,7 @@ joined (Some (boolean false)) rs = untrue (boolean false) rs refl
 joined (Some undefined) rs = untrue undefined rs refl
 joined (Some error) rs = untrue error rs refl
 joined (Some (integer n)) rs = untrue error rs refl
+joined (Some (decimal m)) rs = untrue error rs refl
 joined (Some (text s)) rs = untrue error rs refl
 joined (Some (list ps)) rs = untrue error rs refl
 joined (Some (ad_at p)) rs = untrue error rs refl

@@ -1,5 +1,5 @@
 -- Verdicts ad by ad, and rows conjunct by conjunct.
-use Rattle.std.proofs.Common.{◌≡◌, ◌∙◌, ap, sym, refl, ℕ, zero, suc, ◌+◌, ◌*◌, ◌<◌, ◌≤◌, add-one, All, List, [], ◌∷◌, ◌++◌, drop, length, map, sum_by, take, get_or, Option, None, Some, option_map, slice_get, subst, arith}
+use Rattle.std.proofs.Common.{◌≡◌, ◌∙◌, ap, sym, refl, ℕ, zero, suc, ◌+◌, ◌<◌, ◌≤◌, add-one, All, List, [], ◌∷◌, ◌++◌, drop, length, map, take, get_or, Option, None, Some, option_map, slice_get, subst, arith}
 use Rattle.std.proofs.lemmas.List.{append-nil, drop_all, map-append, take_all, take_more}
 use Rattle.std.proofs.lemmas.List.Elements.{All-cons, All-tail}
 use Rattle.std.proofs.lemmas.List.Sums.{sum_by_more, sum_by_more_le}
@@ -12,7 +12,6 @@ use Rattle.ad_tree.specs.declared.request.Port.{Port}
 use Rattle.ad_store.specs.Stock.{Advert}
 use Rattle.ad_eval.specs.Small.{AreSmall}
 use Rattle.ad_printer.specs.Printed.{printed}
-use Rattle.conjunct_plan.specs.Tests.{conjuncts_at}
 use Rattle.eval_scope.specs.World.{PlainWorld, with_docked}
 use Rattle.match_explain.specs.declared.report.Conjunct.{Conjunct}
 use Rattle.match_explain.specs.declared.report.Verdict.{Verdict}

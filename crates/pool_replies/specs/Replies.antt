@@ -1,7 +1,7 @@
 -- The text of replies.
 use Rattle.std.specs.Prelude.{ℕ, Bool, true, false, ◌==◌, List, ◌++◌, Option, None, Some, codes, decimal, length, sum_by, if◌then◌else◌}
-use Rattle.std.specs.Fmt.{signed_decimal}
 use Rattle.std.specs.List.{flat_map}
+use Rattle.pool_text.specs.Number.{shortest_text}
 use Rattle.pool_replies.specs.declared.reply.Reply.{Reply}
 use Rattle.pool_replies.specs.declared.reply.Reply.TheVariants as reply
 use Rattle.pool_replies.specs.declared.rows.AdRow.{AdRow}
@@ -35,7 +35,7 @@ ads_text rows = codes "ads " ++ decimal (length rows) ++ codes "\n" ++ flat_map 
 
 -- `NAME RANK`
 abbrev pub hit_line : HitRow → List ℕ
-hit_line row = row.name ++ codes " " ++ signed_decimal row.rank ++ codes "\n"
+hit_line row = row.name ++ codes " " ++ shortest_text row.rank ++ codes "\n"
 
 -- `hits K` and a line for each hit
 abbrev pub hits_text : List HitRow → List ℕ

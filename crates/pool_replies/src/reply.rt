@@ -12,7 +12,7 @@ use crate::writing::{
 };
 use crate::{AdRow, AdRows, HitRow, HitRows, Refusal, SpinRows};
 use match_explain::Report;
-use pool_text::{Names, OutOfMemory, Text, append_number};
+use pool_text::{Names, OutOfMemory, Text, append_shortest_decimal};
 use std::alloc::Global;
 use std::convert::AsSlice;
 
@@ -257,6 +257,6 @@ fn append_hit(out: &mut Text, row: &HitRow) -> Result<(), OutOfMemory>
     ensures { OnOk result (out.new ≡ out.old ++ texts.hit_line row.now) }
 {
     append_name(out, row.name.bytes(), b" ")?;
-    append_number(out, row.rank)?;
+    append_shortest_decimal(out, row.rank)?;
     out.append(b"\n")
 }

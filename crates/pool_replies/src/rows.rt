@@ -15,11 +15,11 @@ pub struct AdRow {
 /// The ads of a reply.
 pub type AdRows = Items<AdRow>;
 
-/// An ad that a query found, and the query's rank of it.
+/// An ad that a query found, and the query's rank of it in millionths.
 #[derive(Drop)]
 pub struct HitRow {
     pub name: Text,
-    pub rank: i64,
+    pub rank: i128,
 }
 
 /// The hits of a reply.

@@ -3,13 +3,14 @@ ghost use Rattle.std.specs.Prelude.{◌≡◌, ◌↔◌, IsTrue};
 
 use crate::Text;
 
-/// A literal of the language. A parse never makes a negative `Integer`.
+/// A literal of the language. A `Decimal` is a number of millionths. A parse never makes a negative number.
 #[derive(Drop)]
 pub enum Lit {
     Undefined,
     Error,
     Boolean(bool),
     Integer(i64),
+    Decimal(i64),
     Str(Text),
 }
 

@@ -1,6 +1,7 @@
 //! Texts, numbers and the small types that every crate of the pool speaks of.
 #![tactic(auto)]
 
+mod decimal;
 mod folding;
 mod language;
 mod laws;
@@ -12,6 +13,7 @@ mod spelling;
 mod text;
 mod words;
 
+pub use decimal::{append_decimal, append_shortest_decimal};
 pub use folding::{fold, order_folded, same_folded};
 pub use language::{
     AdPlace, BinOp, Lit, Pos, UnOp, same_binary, same_place, same_position, same_unary,

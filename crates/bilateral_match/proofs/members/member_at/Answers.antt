@@ -1,6 +1,7 @@
-use Rattle.std.proofs.Common.{◌≡◌, IfOk, Option, Some, ap, arith, option_map, refl, rules, slice_get, subst, sym, w64, ◌∙◌}
+use Rattle.std.proofs.Common.{◌≡◌, IfOk, Option, Some, ap, arith, option_map, rules, slice_get, subst, sym, ◌∙◌}
 use Rattle.std.specs.Option.{option_map_or}
 use Rattle.std.proofs.lemmas.Int.{to_z-of_z}
+use Rattle.std.specs.Int.{w128}
 use mir.Val.{SFits, of_z, to_z}
 use Rattle.ad_tree.specs.Ad.{ad_frames}
 use Rattle.ad_store.specs.Holdings.{holding_of}
@@ -91,7 +92,7 @@ returns-clause-ratio g c request ads holders =
 
 pub returns-clause-member : goal.returns-clause-member
 returns-clause-member g c =
-    let fits : SFits w64 c.in-Some.ranks.regard = search rules in
+    let fits : SFits w128 c.in-Some.ranks.regard = search rules in
     let stock = stock_of c.args.store.now in
     let offered = g.H.Holdings.is_offered c.args.held.now in
     let holding = g.H.Holdings.holding c.args.held.now in
@@ -100,10 +101,10 @@ returns-clause-member g c =
     let ad = ad_frames c.look-ad.result.now in
     let slot = c.at-slot.result in
     let at = c.at-slot.ensures.place in
-    let given = to_z w64 (of_z w64 c.in-Some.ranks.regard) in
+    let given = to_z w128 (of_z w128 c.in-Some.ranks.regard) in
     let there = ranks-there c.args.bar (ranks_of_dock pool.moment request ad) c.in-Some.ranks (sym c.in-Some.is ∙ c.in_ok-weighed.ensures.ranks) in
     let ranks = there.0 in
-    let regards = to_z-of_z w64 c.in-Some.ranks.regard fits ∙ (are-ranks c.args.moment request ad c.in-Some.ranks (sym ranks)).2 in
+    let regards = to_z-of_z w128 c.in-Some.ranks.regard fits ∙ (are-ranks c.args.moment request ad c.in-Some.ranks (sym ranks)).2 in
     let won = won_from c.args.number given (option_map (hold_of c.args.moment stock) (option_map holding_of c.holder-holder.result)) in
     subst (λ (m : Option Member). IfOk c.where_won.result (λ member. member ≡ m))
     (won-above c.args.bar won c.in-Some.ranks c.args.place there.1

@@ -1,5 +1,6 @@
-use Rattle.std.proofs.Common.{◌≡◌, ◌+◌, ℤ, All, Contains, IfOk, Option, subst, take, w64}
+use Rattle.std.proofs.Common.{◌≡◌, ◌+◌, ℤ, All, Contains, IfOk, Option, subst, take}
 use Rattle.std.proofs.lemmas.Int.{to_z-of_z}
+use Rattle.std.specs.Int.{w128}
 use Rattle.std.proofs.lemmas.List.Elements.{All-take}
 use Rattle.ad_tree.specs.Ad.{ad_frames}
 use Rattle.ad_tree.specs.Small.{IsSmall}
@@ -22,7 +23,7 @@ pub returns-clause-won : goal.returns-clause-won
 returns-clause-won g c =
     let w = world_of c.slots_world-world.result in
     let stock = stock_of c.args.store.now in
-    let taken = subst (λ (k : ℤ). IfOk c.taken_from.result (λ won. won ≡ taken_by (rank_by w (resource_side w)) k c.in-Some.holder.number c.args.number)) (to_z-of_z w64 c.args.regard c.ranges.regard) c.taken_from.ensures.taken in
+    let taken = subst (λ (k : ℤ). IfOk c.taken_from.result (λ won. won ≡ taken_by (rank_by w (resource_side w)) k c.in-Some.holder.number c.args.number)) (to_z-of_z w128 c.args.regard c.ranges.regard) c.taken_from.ensures.taken in
     subst (λ (won : Option Preemption). IfOk c.taken_from.result (λ p. p ≡ won))
     (won-of-holder c.args.moment stock c.args.holder c.in-Some.holder w c.args.number c.args.regard c.in-Some.is c.slots_world-world.ensures.world)
     taken

@@ -1,5 +1,6 @@
-use Rattle.std.proofs.Common.{Some, ap, arith, refl, rules, slice_get, sym, w64, ◌∙◌}
+use Rattle.std.proofs.Common.{Some, ap, arith, refl, rules, slice_get, sym, ◌∙◌}
 use Rattle.std.proofs.lemmas.Int.{to_z-of_z}
+use Rattle.std.specs.Int.{w128}
 use mir.Val.{SFits, of_z, to_z}
 use Rattle.ad_tree.specs.Ad.{ad_frames}
 use Rattle.ad_store.specs.Store.{stock_of}
@@ -82,6 +83,6 @@ returns-clause-found g c =
     let request = ad_frames c.args.request.now.ad in
     let ad = ad_frames c.look-ad.result.now in
     let there = c.look-ad.ensures.ad c.args.place c.at.ensures.place in
-    let fits : SFits w64 c.in-Some.rank = search rules in
-    let rank = to_z w64 (of_z w64 c.in-Some.rank) in
-    found-some ad c.args.moment request c.args.place (slice_get ads c.args.place) c.in_ok-rank.field-0 rank (record { place = c.args.place; rank = rank }) there c.in_ok-rank.ensures.rank (c.in-Some.is ∙ ap Some (sym (to_z-of_z w64 c.in-Some.rank fits))) refl
+    let fits : SFits w128 c.in-Some.rank = search rules in
+    let rank = to_z w128 (of_z w128 c.in-Some.rank) in
+    found-some ad c.args.moment request c.args.place (slice_get ads c.args.place) c.in_ok-rank.field-0 rank (record { place = c.args.place; rank = rank }) there c.in_ok-rank.ensures.rank (c.in-Some.is ∙ ap Some (sym (to_z-of_z w128 c.in-Some.rank fits))) refl

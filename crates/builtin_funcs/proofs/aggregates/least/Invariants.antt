@@ -1,8 +1,9 @@
 use Rattle.std.proofs.Common.{◌≡◌}
+use Rattle.std.specs.Int.{int_min}
 use Rattle.ad_value.specs.Plain.{plains}
-use Rattle.builtin_funcs.proofs.Running.{least_with, numbers_from}
-use Rattle.builtin_funcs.specs.Aggregates.{least}
+use Rattle.builtin_funcs.specs.Aggregates.{chosen_of}
+use Rattle.builtin_funcs.proofs.Running.{amounts_from, chosen_with}
 use Rattle.builtin_funcs.proofs.aggregates.least.Given as goal
 
 abbrev pub invariant-loop-i : goal.invariant-loop-i
-invariant-loop-i l = least_with l.least (numbers_from l.i (plains l.items)) ≡ least (numbers_from 0 (plains l.items))
+invariant-loop-i l = chosen_with int_min l.least (amounts_from l.decimals l.i (plains l.items)) ≡ chosen_of int_min (amounts_from l.decimals 0 (plains l.items))

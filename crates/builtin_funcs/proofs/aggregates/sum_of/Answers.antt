@@ -1,9 +1,10 @@
-use Rattle.std.proofs.Common.{sym, ◌∙◌}
-use Rattle.builtin_funcs.specs.Aggregates.{total}
+use Rattle.std.proofs.Common.{sym, ◌∙◌, ap}
+use Rattle.ad_value.specs.Plain.{plains}
+use Rattle.builtin_funcs.specs.Aggregates.{total, row_in}
 use Rattle.builtin_funcs.proofs.aggregates.sum_of.Goals as goal
 
 pub returns-in-Some : goal.returns-in-Some
 returns-in-Some c = sym (c.in-Some.ensures total)
 
 pub returns-in-None : goal.returns-in-None
-returns-in-None c = c.total.ensures ∙ sym (c.in-None.ensures total)
+returns-in-None c = c.total_in.ensures ∙ ap (λ decimals. row_in total decimals (plains c.args.items.now)) c.any_decimal.ensures ∙ sym (c.in-None.ensures total)

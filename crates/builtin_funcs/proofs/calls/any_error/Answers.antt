@@ -1,5 +1,5 @@
 use Rattle.std.proofs.Common.{sym, ◌∙◌, arith}
-use Rattle.ad_value.specs.Plain.{plain, plains}
+use Rattle.ad_value.specs.Plain.{plains}
 use Rattle.builtin_funcs.specs.Kinds.{is_error}
 use Rattle.builtin_funcs.proofs.ListLemmas.{any_more_within, any_found_within}
 use Rattle.builtin_funcs.proofs.calls.any_error.Goals as goal

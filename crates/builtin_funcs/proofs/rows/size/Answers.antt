@@ -1,6 +1,6 @@
 use Rattle.std.proofs.Common.{◌∙◌, length, sym, ap, pos}
 use Rattle.ad_value.specs.Plain.{plain, plains}
-use Rattle.ad_value.specs.Operators.{integer_or_error}
+use Rattle.ad_value.specs.Numbers.{integer_or_error}
 use Rattle.ad_value.proofs.PlainLemmas.{elements-plains_of}
 use Rattle.builtin_funcs.specs.Rows.{size_value}
 use Rattle.builtin_funcs.proofs.ValueLemmas.{plain-List}

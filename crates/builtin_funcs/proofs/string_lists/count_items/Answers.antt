@@ -1,9 +1,6 @@
 use Rattle.std.proofs.Common.{ℕ, Bool, List, false, ltb, get_or, length, ap, ◌∙◌, rules, tests}
-use Rattle.std.specs.List.{list_any}
-use Rattle.std.specs.Str.{bytes_eq}
 use Rattle.std.proofs.lemmas.Iterator.Splits.{YieldsList-from_slice_split}
 use Rattle.std.proofs.lemmas.Iterator.Consumers.{YieldsList-at, YieldsList-from_filter, count_from_yields_List}
-use Rattle.std.proofs.lemmas.Iterator.Search.{any_from_yields_List}
 use Rattle.builtin_funcs.proofs.ItemLemmas.{items_of-marks, length-items_of}
 use Rattle.builtin_funcs.proofs.string_lists.count_items.Goals as goal
 

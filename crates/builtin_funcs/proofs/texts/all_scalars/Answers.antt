@@ -1,5 +1,5 @@
 use Rattle.std.proofs.Common.{sym, ◌∙◌}
-use Rattle.ad_value.specs.Plain.{plain, plains}
+use Rattle.ad_value.specs.Plain.{plains}
 use Rattle.builtin_funcs.specs.Kinds.{is_scalar}
 use Rattle.builtin_funcs.proofs.ListLemmas.{all_more, all_failed}
 use Rattle.builtin_funcs.proofs.texts.all_scalars.Goals as goal

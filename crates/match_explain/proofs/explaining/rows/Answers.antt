@@ -1,4 +1,4 @@
-use Rattle.std.proofs.Common.{◌<◌, Bor, List, Some, ap, arith, get_or, length, map, option_map, refl, ◌∙◌}
+use Rattle.std.proofs.Common.{◌<◌, Bor, List, ap, arith, get_or, length, map, option_map, refl, ◌∙◌}
 use Rattle.std.proofs.lemmas.Option.{slice_get-get_or, slice_get-map, slice_get_read}
 use Rattle.ad_tree.specs.Ad.{ad_frames}
 use Rattle.ad_tree.specs.Tree.{tree}

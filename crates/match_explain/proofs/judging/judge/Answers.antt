@@ -1,10 +1,10 @@
-use Rattle.std.proofs.Common.{◌≡◌, Bool, List, Option, None, ℕ, ap, subst, sym, ◌∙◌}
+use Rattle.std.proofs.Common.{Bool, List, ap, ◌∙◌}
 use Rattle.ad_tree.specs.Ad.{ad_frames}
 use Rattle.conjunct_plan.specs.Tests.{requirement_expr}
 use Rattle.eval_scope.specs.Shown.{world_of}
 use Rattle.eval_scope.specs.World.{PlainWorld, resource_side}
 use Rattle.match_explain.specs.Counted.{against, counted}
-use Rattle.match_explain.specs.Why.{failing, first_failing, verdict_by}
+use Rattle.match_explain.specs.Why.{failing, first_failing}
 use Rattle.match_explain.proofs.JudgeLemmas.{request-accepts, request-declines, truths-are}
 use Rattle.match_explain.proofs.ReportLemmas.{docked-world}
 use Rattle.match_explain.proofs.judging.judge.Goals as goal

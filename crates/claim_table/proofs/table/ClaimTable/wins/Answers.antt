@@ -1,4 +1,5 @@
-use Rattle.std.proofs.Common.{◌∙◌, ℕ, Option, ap, arith, not, rules, w64}
+use Rattle.std.proofs.Common.{◌∙◌, ℕ, Option, ap, arith, not, rules}
+use Rattle.std.specs.Int.{w128}
 use Rattle.std.specs.Option.{option_map_or}
 use Rattle.std.proofs.lemmas.Int.{to_z-of_z}
 use mir.Val.{SFits, of_z, to_z}
@@ -67,11 +68,11 @@ returns-clause-ratio g c world ads jobs =
 
 pub returns-clause-won : goal.returns-clause-won
 returns-clause-won g c =
-    let fits : SFits w64 c.in_ok-regard.regard = search rules in
+    let fits : SFits w128 c.in_ok-regard.regard = search rules in
     let w = world_of c.args.world.now in
-    let given = to_z-of_z w64 c.in_ok-regard.regard fits ∙ c.in_ok-regard.ensures.value ∙ ap (rank_by w) c.resource_place.ensures in
+    let given = to_z-of_z w128 c.in_ok-regard.regard fits ∙ c.in_ok-regard.ensures.value ∙ ap (rank_by w) c.resource_place.ensures in
     c.is_some.ensures
-    ∙ won-is c.args.moment (stock_of c.args.store.now) (settings_of c.args.priorities.now) (jobs_of c.args.self.now) c.args.number c.args.slot w c.holder-holder.result (to_z w64 (of_z w64 c.in_ok-regard.regard)) c.in_ok-won.won c.holder-holder.ensures.who given c.in_ok-won.ensures.won
+    ∙ won-is c.args.moment (stock_of c.args.store.now) (settings_of c.args.priorities.now) (jobs_of c.args.self.now) c.args.number c.args.slot w c.holder-holder.result (to_z w128 (of_z w128 c.in_ok-regard.regard)) c.in_ok-won.won c.holder-holder.ensures.who given c.in_ok-won.ensures.won
 
 pub returns-in_err-won-clause-evaluations : goal.returns-in_err-won-clause-evaluations
 returns-in_err-won-clause-evaluations g c = omega (arith, c.rank.ensures.evaluations, c.won_from.ensures.evaluations)

@@ -46,7 +46,11 @@ same_answer word.Gang words text text2 same = rw same refl
 same_answer word.Negotiate words text text2 same = refl
 same_answer word.Claim words text text2 same = refl
 same_answer word.Release words text text2 same = refl
+same_answer word.Jobs words text text2 same = refl
+same_answer word.Job words text text2 same = refl
+same_answer word.Users words text text2 same = refl
 same_answer word.Why words text text2 same = refl
+same_answer word.Classes words text text2 same = refl
 same_answer word.Unlisten words text text2 same = refl
 
 same_option : (k : Option Keyword) (words text text2 : List ℕ) → block_text (Some text) ≡ block_text (Some text2) → option_map_or (λ keyword. keyword_command keyword words (Some text)) k (command.Bad 2) ≡ option_map_or (λ keyword. keyword_command keyword words (Some text2)) k (command.Bad 2)

@@ -223,7 +223,7 @@ class Classes:
     classes: Tuple[Tuple[str, ...], ...]
 
 
-Reply = Union[Done, Advertised, Clock, Ad, Value, Listing, Hits, Gang, Negotiation, Claimed, Jobs, Users, Explanation, Classes]
+Reply = Union[Done, Advertised, Clock, Ad, Value, Listing, Hits, Gang, Negotiation, Claimed, Jobs, Users, Classes, Explanation]
 Line = Callable[[], str]
 
 
@@ -318,6 +318,10 @@ def _read_users(line: str, more: Line) -> Reply:
     return Users(tuple(_read_user(more()) for _ in range(int(_words(line, "users", 2)[0]))))
 
 
+def _read_classes(line: str, more: Line) -> Reply:
+    return Classes(tuple(tuple(_words(more(), "class", -3)[1:]) for _ in range(int(_words(line, "classes", 2)[0]))))
+
+
 def _read_explanation(line: str, more: Line) -> Reply:
     job, _, ads = _words(line, "why", 4)
     return Explanation(job, int(ads), (), ())
@@ -326,10 +330,6 @@ def _read_explanation(line: str, more: Line) -> Reply:
 def _read_verdict(line: str) -> Verdict:
     name, by, *conjunct = line.split(" ")
     return Verdict(name, by, int(conjunct[0]) if conjunct else None)
-
-
-def _read_classes(line: str, more: Line) -> Reply:
-    return Classes(tuple(tuple(_words(more(), "class", -3)[1:]) for _ in range(int(_words(line, "classes", 2)[0]))))
 
 
 ANSWERS: Dict[str, Answer] = {
@@ -351,8 +351,8 @@ ANSWERS: Dict[str, Answer] = {
     "jobs": Answer(_read_jobs),
     "job": Answer(lambda line, more: Ad(line)),
     "users": Answer(_read_users),
-    "why": Answer(_read_explanation),
     "classes": Answer(_read_classes),
+    "why": Answer(_read_explanation),
     "unlisten": Answer(_done("unlistened")),
 }
 

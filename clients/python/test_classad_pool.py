@@ -84,6 +84,14 @@ class Commands(unittest.TestCase):
         self.assertEqual(self.pool.job("i"), Ad("[ Requirements = false ]"))
         self.refused(8, "name not known", lambda: self.pool.job("m1"))
 
+    def test_classes(self) -> None:
+        self.assertEqual(self.pool.classes(), Classes(()))
+        for job, size in (("a", 1), ("b", 2), ("c", 1)):
+            self.pool.submit(job, "ann", f"[ Size = {size}; Requirements = true ]")
+        self.assertEqual(self.pool.classes(), Classes((("a", "b", "c"),)))
+        self.pool.advertise("m", 600, "[ Rank = TARGET.Size; Requirements = true ]")
+        self.assertEqual(self.pool.classes(), Classes((("a", "c"), ("b",))))
+
     def test_why(self) -> None:
         self.pool.submit("j", "ann", "[ Requirements = TARGET.Memory >= 64 && true ]")
         self.assertEqual(self.pool.why("j").conjuncts, (Conjunct("TARGET.Memory >= 64", 0), Conjunct("true", 0)))

@@ -33,15 +33,13 @@ mutual
     none : Trees
     more : Tree → Trees → Trees
 
--- one tree
+-- one, two and three trees
 abbrev pub one : Tree → Trees
 one a = more a none
 
--- two trees
 abbrev pub two : Tree → Tree → Trees
 two a b = more a (one b)
 
--- three trees
 abbrev pub three : Tree → Tree → Tree → Trees
 three a b c = more a (two b c)
 

@@ -23,7 +23,6 @@ pub struct IndexedList {
 }
 
 impl IndexedList {
-    /// No attributes.
     pub fn new(alloc: Global) -> IndexedList
         ensures { result.list.items ≡ [] }
     {
@@ -50,7 +49,6 @@ impl IndexedList {
         mem::replace(&mut self.list, Vec::new(alloc))
     }
 
-    /// All of them in order.
     #[inline(always)]
     pub fn as_slice(&self) -> &[Attribute]
         ensures { result.now ≡ self.now.list.items }

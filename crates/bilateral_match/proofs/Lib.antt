@@ -4,7 +4,6 @@ mod ConjunctLemmas
 pub mod DecidedLemmas
 pub mod DockingLemmas
 mod DifferLemmas
-mod DockedAlikeLemmas
 mod FindLemmas
 mod KnownLemmas
 mod KnownPlaceLemmas

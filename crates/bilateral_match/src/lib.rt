@@ -4,7 +4,6 @@
 mod alike;
 mod candidates;
 mod choosing;
-mod docked_alike;
 mod docking;
 mod hit;
 mod known;
@@ -21,7 +20,6 @@ mod weighing;
 pub use alike::are_alike;
 pub use candidates::candidates_at;
 pub use choosing::{best, best_knowing};
-pub use docked_alike::requests_that_dock_alike_are_matched_alike;
 pub use docking::pair;
 pub use hit::{Hit, Hits, Match};
 pub use known::{Kept, Known, Ranking};

@@ -1,5 +1,5 @@
 mod AddLemmas
-pub mod ContainLemmas
+mod ContainLemmas
 mod EntryLemmas
 mod KeyLemmas
 mod MarkLemmas

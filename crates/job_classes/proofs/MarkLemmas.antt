@@ -92,8 +92,7 @@ by_places (m ∷ marks) test (a ∷ rest) many each = ap (λ x. x ∷ marks) (ea
 
 -- ---- the invariant
 
--- after the turns of i names: what waits and what is marked is reached, the first names wait, each name that had its turn marked
--- its attribute, and what a marked attribute needs waits
+-- after the turns of i names: what waits and what is marked is reached, the first names wait, each name that had its turn marked its attribute, and what a marked attribute needs waits
 pub record IsMarking (first : List (List ℕ)) (request : List Frame) (names : List (List ℕ)) (i : ℕ) (marks : List Bool) : Type 0 where
   pub many : length marks ≡ length (attributes_at request 0)
   pub upto : i ≤ length names

@@ -60,7 +60,6 @@ literal-flat Lit.Undefined = refl
 literal-flat Lit.Error = refl
 literal-flat (Lit.Boolean b) = refl
 literal-flat (Lit.Integer n) = refl
-literal-flat (Lit.Decimal m) = refl
 literal-flat (Lit.Str bytes) = refl
 
 only_ad-alike : {M : AdPlace → AdPlace → Type 0} {vs ws : List Plain} → Each (Alike M) vs ws → Both M (only_ad vs) (only_ad ws)

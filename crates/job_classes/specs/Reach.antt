@@ -15,7 +15,6 @@ first_names ads = weighed_names ++ flat_map asked_by ads
 
 -- ---- the least set of folded names that has the first ones, and with the name of an attribute what that attribute needs
 
--- a folded name that matching can come to: one of the first, or one that an attribute of such a name needs
 pub data IsReached (first : List (List ℕ)) (request : List Frame) : List ℕ → Type 0 where
   is_first : (x : List ℕ) → Contains first x → IsReached first request (folded x)
   is_needed : (a : List ℕ × Tree) (y : List ℕ) → Contains (attributes_at request 0) a → IsReached first request (folded a.0)

@@ -1,5 +1,5 @@
 // Classes of jobs by their names, and their text.
-ghost use Rattle.std.specs.Prelude.{◌≡◌, ◌++◌, ◌∷◌, [], OnOk};
+ghost use Rattle.std.specs.Prelude.{◌≡◌, ◌≤◌, ◌++◌, ◌∷◌, [], length, OnOk};
 ghost use Rattle.pool_replies.specs.Classes as texts;
 
 use crate::writing::{append_amount, append_amount_line, append_names_line};

@@ -12,7 +12,9 @@ use crate::writing::{
     append_amount, append_amount_line, append_line, append_name, append_name_line, append_names,
     append_names_line,
 };
-use crate::{AdRow, AdRows, HitRow, HitRows, JobRows, NamesList, Refusal, SpinRows, UserRows};
+use crate::{
+    AdRow, AdRows, HitRow, HitRows, JobRows, NamesList, Refusal, SpinRows, UserRows,
+};
 use match_explain::Report;
 use pool_text::{Names, OutOfMemory, Text, append_shortest_decimal};
 use std::alloc::Global;

@@ -9,15 +9,13 @@ use Rattle.pool_script.specs.declared.keyword.Keyword.TheVariants as word
 use Rattle.pool_script.specs.declared.command.Command.{Command}
 use Rattle.pool_script.specs.declared.command.Command.TheVariants as command
 
--- refusal 1, of a line that is too long
+-- refusals, by their numbers
 abbrev pub line_too_long : Command
 line_too_long = command.Bad 1
 
--- refusal 2, of a line that names no command
 abbrev pub unknown_command : Command
 unknown_command = command.Bad 2
 
--- refusal 3, of words that the command doesn't take
 abbrev pub wrong_words : Command
 wrong_words = command.Bad 3
 
@@ -96,7 +94,6 @@ name_command word.Why name = command.Why name
 name_command word.Unlisten name = command.Unlisten name
 name_command _ name = wrong_words
 
--- the command of such a keyword, where its words are one name
 abbrev pub named_command : Keyword → Option (List ℕ) → Command
 named_command keyword name = option_map_or (name_command keyword) name wrong_words
 

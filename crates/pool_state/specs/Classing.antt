@@ -16,7 +16,6 @@ abbrev pub request_key : List Advert → List Frame → List Port → Option (Li
 request_key ads request [] = Some (key_of (ads_in ads) request)
 request_key ads request (port ∷ ports) = None
 
--- the key of a job, whose request has the ports that its ad lists
 abbrev pub job_key : List Advert → QueuedJob → Option (List Entry)
 job_key ads job = request_key ads job.ad (ports_in job.ad)
 
@@ -47,5 +46,5 @@ abbrev pub class_names : List Class → List (List (List ℕ))
 class_names classes = map (λ class. class.names) classes
 
 -- `classes`
-abbrev pub classify : List Advert → List QueuedJob → Reply
-classify ads jobs = reply.Classes (class_names (with_jobs ads [] jobs))
+abbrev pub classes : List Advert → List QueuedJob → Reply
+classes ads jobs = reply.Classes (class_names (with_jobs ads [] jobs))

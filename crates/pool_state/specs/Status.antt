@@ -31,7 +31,6 @@ jobs queue = reply.Jobs (map job_row queue)
 abbrev pub show_job : List ℕ → List QueuedJob → Reply
 show_job name queue = option_map_or (λ job. reply.Shown (printed_frame job.ad 0)) (job_named name queue) (reply.Refused why.UnknownName)
 
--- whose a job is, and its state
 abbrev pub user_job : QueuedJob → UserJob
 user_job job = record { user = job.user; state = state_in job.standing }
 

@@ -29,7 +29,7 @@ use Rattle.pool_replies.specs.declared.reply.Reply.TheVariants as reply
 use Rattle.pool_replies.specs.declared.rows.AdRow.{AdRow}
 use Rattle.pool_replies.specs.declared.rows.HitRow.{HitRow}
 use Rattle.pool_state.specs.Explaining.{explain, explained_evaluations}
-use Rattle.pool_state.specs.Classing.{classify}
+use Rattle.pool_state.specs.Classing.{classes}
 use Rattle.pool_state.specs.Claiming.{claim, offered_for_claim, release, undecided_for_claim}
 use Rattle.pool_state.specs.Gangs.{gang, narrowest_for_gang, undecided_for_gang}
 use Rattle.pool_state.specs.Negotiation.{narrowest_for_jobs, negotiate, undecided_for_jobs}
@@ -198,7 +198,7 @@ step s command.Jobs = (s, jobs s.jobs)
 step s (command.Job job) = (s, show_job job s.jobs)
 step s command.Users = (s, users s.priorities s.jobs)
 step s (command.Why job) = (s, explain s.moment s.ads s.jobs job)
-step s command.Classes = (s, classify s.ads s.jobs)
+step s command.Classes = (s, classes s.ads s.jobs)
 step s (command.Unlisten name) = refused s why.UnknownName
 step s (command.Bad number) = refused s (why.Line number)
 

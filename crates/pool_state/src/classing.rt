@@ -22,12 +22,12 @@ use std::sync::ledger::Ledger;
 /// `classes`: the names of all jobs in classes, each class and the jobs of each in the order of submission. It counts in `touch`
 /// one at most for each ad.
 #[tactic(auto, unfolding(pool_replies::specs::Replies::is_printable))]
-pub(crate) fn classify<T: Ledger>(
+pub(crate) fn classes<T: Ledger>(
     alloc: Global,
     books: &Books,
     touch: &mut Steps<T>,
 ) -> Result<Reply, OutOfMemory>
-    ensures reply { IfOk result (λ reply. steps.classify (ads_of books.now.ads) (queue_of books.now) ≡ reply) }
+    ensures reply { IfOk result (λ reply. steps.classes (ads_of books.now.ads) (queue_of books.now) ≡ reply) }
     ensures printable { IfOk result (λ reply. IsTrue (is_printable reply)) }
     ensures looks { touch.new ≤ touch.old + length (ads_of books.now.ads) }
 {
@@ -43,7 +43,11 @@ pub(crate) fn classify<T: Ledger>(
 }
 
 // The number of the class that a request comes to: a gang begins a class that no other joins.
-fn class_of(classes: &mut Classes, reach: &Reach, request: &Request) -> Result<usize, OutOfMemory>
+fn class_of(
+    classes: &mut Classes,
+    reach: &Reach,
+    request: &Request,
+) -> Result<usize, OutOfMemory>
     ensures number { IfOk result (λ n. (ads : List Advert) → HasReadAds reach.now ads
         → n ≡ keyed.number_for (steps.request_key ads (ad_frames request.now.ad) request.now.ports) classes.old) }
     ensures classes { OnOk result ((ads : List Advert) → HasReadAds reach.now ads

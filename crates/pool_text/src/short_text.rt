@@ -24,7 +24,6 @@ impl Model for ShortText {
 }
 
 impl ShortText {
-    /// No bytes.
     pub fn new() -> ShortText
         ensures { result ≡ [] }
     {
@@ -50,7 +49,6 @@ impl ShortText {
         }
     }
 
-    /// The bytes of the text.
     pub fn bytes(&self) -> &[u8]
         ensures { result.now ≡ self.now }
     {

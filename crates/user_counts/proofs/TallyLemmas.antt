@@ -9,23 +9,18 @@ use Rattle.std.specs.Cmp.Lexicographic.{slice_cmp}
 use Rattle.std.specs.Map.{keys_of, lookup}
 use Rattle.std.specs.Ordering.{is_eq, match_ordering, nat_cmp, ordering_reverse, ordering_then}
 use Rattle.std.proofs.lemmas.Cmp.{nat_cmp_total, nat_list_cmp_total, on_total, then_total}
-use Rattle.std.proofs.lemmas.List.{append-nil, length-map, take_all}
 use Rattle.std.proofs.lemmas.List.Elements.{All-head, All-nil, All-tail}
-use Rattle.std.proofs.lemmas.List.Sums.{count_by-le-length, sum_by_push}
+use Rattle.std.proofs.lemmas.List.Sums.{count_by-le-length}
 use Rattle.std.proofs.lemmas.Map.Lookups.{exact_bytes}
 use Rattle.std.proofs.lemmas.Map.Views.{All-keys-insert_entry}
-use Rattle.std.proofs.lemmas.Option.{none-some, same_Some}
 use Rattle.std.proofs.lemmas.Slice.Eq.{bytes_eq-Decides}
-use Rattle.claim_table.specs.Jobs.{state_of}
 use Rattle.claim_table.specs.Priorities.{Setting, priority_of}
 use Rattle.claim_table.specs.declared.answers.JobState.{JobState}
-use Rattle.claim_table.specs.declared.job.Job.{Job}
-use Rattle.claim_table.specs.declared.job.Stage.{Stage}
 use Rattle.negotiator.specs.Cycle.{user_order}
 use Rattle.pool_replies.specs.declared.rows.JobCounts.{JobCounts}
 use Rattle.pool_replies.specs.declared.rows.UserRow.{UserRow}
 use Rattle.user_counts.specs.Shown.{IsFew, IsTally, Key, key_order, no_jobs, one_more, row_of}
-use Rattle.user_counts.specs.Users.{UserJob, count_of, counts_of, in_order, is_claimed, is_idle, is_matched, set_names, user_job, user_names, user_row}
+use Rattle.user_counts.specs.Users.{UserJob, count_of, counts_of, in_order, is_claimed, is_idle, is_matched, user_row}
 
 -- ---- lists
 
@@ -33,14 +28,13 @@ fold-last : {A B : Type 0} (f : B → A → B) (b : B) (xs : List A) (x : A) →
 fold-last f b [] x = refl
 fold-last f b (y ∷ xs) x = fold-last f (f b y) xs x
 
-module _ {A B : Type 0} (f : A → B) where
-  next-by : (xs : List A) (i : ℕ) (y : B) → option_map f (slice_get xs i) ≡ Some y → take (suc i) (map f xs) ≡ take i (map f xs) ++ y ∷ []
-  next-by [] i y at = absurd (none-some y at)
-  next-by (x ∷ xs) zero y at = ap (λ z. z ∷ []) (same_Some (f x) y at)
-  next-by (x ∷ xs) (suc i) y at = ap (λ ys. f x ∷ ys) (next-by xs i y at)
-
-  take-next : (xs : List A) (i : ℕ) (y : B) → option_map f (slice_get xs i) ≡ Some y → take (i + 1) (map f xs) ≡ take i (map f xs) ++ y ∷ []
-  take-next xs i y at = ap (λ n. take n (map f xs)) (add-one i) ∙ next-by xs i y at
+pub take-next : {A B : Type 0} (f : A → B) (xs : List A) (i : ℕ) (y : B) → option_map f (slice_get xs i) ≡ Some y → take (i + 1) (map f xs) ≡ take i (map f xs) ++ y ∷ []
+take-next f xs i y at = ap (λ n. take n (map f xs)) (add-one i) ∙ by xs i at
+  where
+    by : (xs : List _) (i : ℕ) → option_map f (slice_get xs i) ≡ Some y → take (suc i) (map f xs) ≡ take i (map f xs) ++ y ∷ []
+    by [] i at = absurd (cc)
+    by (x ∷ xs) zero at = let same : f x ≡ y = cc in ap (λ z. z ∷ []) same
+    by (x ∷ xs) (suc i) at = ap (λ ys. f x ∷ ys) (by xs i at)
 
 -- ---- keys
 
@@ -119,17 +113,18 @@ same-counts : (a b c : ℕ) (counts : JobCounts) → a ≡ counts.idle → b ≡
 same-counts a b c counts p q r = (λ i. record { idle = p i; matched = q i; claimed = r i })
 
 count-last : (p : UserJob → Bool) (jobs : List UserJob) (job : UserJob) → count_by p (jobs ++ job ∷ []) ≡ count_by p jobs + cond (p job) 1 0
-count-last p jobs job = sum_by_push (λ x. cond (p x) 1 0) jobs job
+count-last p [] job = omega arith
+count-last p (j ∷ jobs) job = let rest = count-last p jobs job in omega (arith, rest)
 
 module _ (jobs : List UserJob) (job : UserJob) (user : List ℕ) where
-  abbrev before : JobCounts
+  before : JobCounts
   before = counts_of jobs user
 
   last-of : (passes : JobState → Bool) → count_of passes (jobs ++ job ∷ []) user ≡ count_of passes jobs user + cond (bytes_eq user job.user && passes job.state) 1 0
   last-of passes = count-last (λ j. bytes_eq user j.user && passes j.state) jobs job
 
   -- of the user's own, and of another's
-  own-more : bytes_eq user job.user ≡ true → counts_of (jobs ++ job ∷ []) user ≡ one_more job.state before
+  pub own-more : bytes_eq user job.user ≡ true → counts_of (jobs ++ job ∷ []) user ≡ one_more job.state before
   own-more own = by job.state (grown is_idle) (grown is_matched) (grown is_claimed)
     where
       grown : (passes : JobState → Bool) → count_of passes (jobs ++ job ∷ []) user ≡ count_of passes jobs user + cond (passes job.state) 1 0
@@ -143,14 +138,14 @@ module _ (jobs : List UserJob) (job : UserJob) (user : List ℕ) where
       by JobState.Matched i m c = same-counts _ _ _ (one_more JobState.Matched before) (omega (arith, i)) m (omega (arith, c))
       by JobState.Claimed i m c = same-counts _ _ _ (one_more JobState.Claimed before) (omega (arith, i)) (omega (arith, m)) c
 
-  other-same : bytes_eq user job.user ≡ false → before ≡ counts_of (jobs ++ job ∷ []) user
+  pub other-same : bytes_eq user job.user ≡ false → before ≡ counts_of (jobs ++ job ∷ []) user
   other-same other = sym (same-counts _ _ _ before (kept is_idle) (kept is_matched) (kept is_claimed))
     where
       kept : (passes : JobState → Bool) → count_of passes (jobs ++ job ∷ []) user ≡ count_of passes jobs user
       kept passes = let last = last-of passes ∙ ap (λ b. count_of passes jobs user + cond (b && passes job.state) 1 0) other in omega (arith, last)
 
 -- no more jobs than there are
-few-jobs : (jobs : List UserJob) (user : List ℕ) (counts : JobCounts) → counts ≡ counts_of jobs user → length jobs < 9223372036854775808 → IsFew counts
+pub few-jobs : (jobs : List UserJob) (user : List ℕ) (counts : JobCounts) → counts ≡ counts_of jobs user → length jobs < 9223372036854775808 → IsFew counts
 few-jobs jobs user counts is short = subst IsFew (sym is) (below is_idle, below is_matched, below is_claimed)
   where
     below : (passes : JobState → Bool) → count_of passes jobs user < 9223372036854775808
@@ -159,7 +154,7 @@ few-jobs jobs user counts is short = subst IsFew (sym is) (below is_idle, below 
 -- ---- a tally
 
 module _ (settings : List Setting) where
-  tally-none : (tallies : BTreeMap Key JobCounts) → tallies.entries ≡ [] → IsTally settings [] [] tallies
+  pub tally-none : (tallies : BTreeMap Key JobCounts) → tallies.entries ≡ [] → IsTally settings [] [] tallies
   tally-none tallies empty = record {
     names = ap (λ (es : List (Key × JobCounts)). map (λ (k : Key). k.1.items) (keys_of es)) empty;
     numbers = subst (λ (es : List (Key × JobCounts)). All (Numbered settings) (keys_of es)) (sym empty) (All-nil (Numbered settings));
@@ -168,7 +163,7 @@ module _ (settings : List Setting) where
 
   module _ (users : List (List ℕ)) (jobs jobs2 : List UserJob) (m n : BTreeMap Key JobCounts) (so_far : IsTally settings users jobs m) (key : Key) (w : JobCounts) (of_key : Numbered settings key) where
     -- a user more, whose number is another, while those of the others stay
-    tally-next : n.entries ≡ insert_entry key_order m.entries key w → Updates key_order m n key (Some w) → w ≡ counts_of jobs2 key.1.items
+    pub tally-next : n.entries ≡ insert_entry key_order m.entries key w → Updates key_order m n key (Some w) → w ≡ counts_of jobs2 key.1.items
         → ((user : List ℕ) → bytes_eq user key.1.items ≡ false → counts_of jobs user ≡ counts_of jobs2 user) → IsTally settings (users ++ key.1.items ∷ []) jobs2 n
     tally-next entries updates own others = record {
       names =
@@ -199,89 +194,3 @@ module _ (settings : List Setting) where
 
     pub rows-all : All Found m.entries → map row_of m.entries ≡ map (user_row settings jobs) (in_order settings users)
     rows-all found = rows-are m.entries found tally.numbers ∙ ap (map (user_row settings jobs)) tally.names
-
--- ---- the loops
-
-keyed : (settings : List Setting) (key : Key) (user : List ℕ) → key.0 ≡ priority_of user settings → key.1.items ≡ user → Numbered settings key
-keyed settings key user number name = number ∙ ap (λ u. priority_of u settings) (sym name)
-
-module _ (settings : List Setting) where
-  abbrev pub SetTo : ℕ → BTreeMap Key JobCounts → Type 0
-  SetTo i m = IsTally settings (take i (set_names settings)) [] m
-
-  pub set-none : (m : BTreeMap Key JobCounts) → m.entries ≡ [] → SetTo 0 m
-  set-none m empty = tally-none settings m empty
-
-  pub set-next : (i : ℕ) (m n : BTreeMap Key JobCounts) (key : Key) (user : List ℕ) → SetTo i m → option_map (λ (s : Setting). s.user) (slice_get settings i) ≡ Some user
-      → key.0 ≡ priority_of user settings → key.1.items ≡ user → n.entries ≡ insert_entry key_order m.entries key no_jobs → Updates key_order m n key (Some no_jobs) → SetTo (i + 1) n
-  set-next i m n key user so_far at number name entries updates =
-      subst (λ (users : List (List ℕ)). IsTally settings users [] n) (sym (take-next (λ (s : Setting). s.user) settings i key.1.items (at ∙ ap (λ u. Some u) (sym name))))
-      (tally-next settings (take i (set_names settings)) [] [] m n so_far key no_jobs (keyed settings key user number name) entries updates refl (λ other apart. refl))
-
-  pub set-all : (i : ℕ) (m : BTreeMap Key JobCounts) → SetTo i m → length settings ≤ i → IsTally settings (set_names settings) [] m
-  set-all i m so_far low =
-      subst (λ (users : List (List ℕ)). IsTally settings users [] m) (take_all i (set_names settings) (omega (arith, low, length-map settings (λ (s : Setting). s.user)))) so_far
-
-names-last : (jobs : List UserJob) (job : UserJob) → map (λ (j : UserJob). j.user) (jobs ++ job ∷ []) ≡ map (λ (j : UserJob). j.user) jobs ++ job.user ∷ []
-names-last [] job = refl
-names-last (j ∷ jobs) job = ap (λ l. j.user ∷ l) (names-last jobs job)
-
-read-of : (o : Option Job) (user : List ℕ) (standing : Stage) (state : JobState) → option_map (λ (job : Job). job.user) o ≡ Some user → option_map (λ (job : Job). job.standing) o ≡ Some standing → state ≡ state_of standing
-    → option_map user_job o ≡ Some (record { user = user; state = state })
-read-of None user standing state owner stands is = absurd (none-some user owner)
-read-of (Some job) user standing state owner stands is =
-    let one = same_Some job.user user owner in
-    let two = ap state_of (same_Some job.standing standing stands) ∙ sym is in
-    (λ k. let job : UserJob = record { user = one k; state = two k } in Some job)
-
-length-take-most : {A : Type 0} (n : ℕ) (xs : List A) → length (take n xs) ≤ n
-length-take-most zero xs = omega arith
-length-take-most (suc n) [] = omega arith
-length-take-most (suc n) (x ∷ xs) = let rest = length-take-most n xs in omega (arith, rest)
-
--- a job, under its key's name
-abbrev keyed_job : Key → JobState → UserJob
-keyed_job key state = record { user = key.1.items; state = state }
-
-module _ (settings : List Setting) (jobs : List Job) where
-  abbrev pub all_jobs : List UserJob
-  all_jobs = map user_job jobs
-
-  abbrev pub CountedTo : ℕ → BTreeMap Key JobCounts → Type 0
-  CountedTo i m = IsTally settings (user_names settings (take i all_jobs)) (take i all_jobs) m
-
-  pub counted-none : (m : BTreeMap Key JobCounts) → IsTally settings (set_names settings) [] m → CountedTo 0 m
-  counted-none m tally = subst (λ (users : List (List ℕ)). IsTally settings users [] m) (sym (append-nil (set_names settings))) tally
-
-  pub counted-few : (i : ℕ) (m : BTreeMap Key JobCounts) (key : Key) (user : List ℕ) → CountedTo i m → key.0 ≡ priority_of user settings → key.1.items ≡ user → i < 9223372036854775808
-      → IsFew (unwrap_or (get key_order m key) no_jobs)
-  counted-few i m key user so_far number name low =
-      few-jobs (take i all_jobs) key.1.items (unwrap_or (get key_order m key) no_jobs) (so_far.counts key (keyed settings key user number name)) (omega (arith, low, length-take-most i all_jobs))
-
-  pub counted-next : (i : ℕ) (m n : BTreeMap Key JobCounts) (key : Key) (user : List ℕ) (standing : Stage) (state : JobState) → CountedTo i m
-      → option_map (λ (job : Job). job.user) (slice_get jobs i) ≡ Some user → option_map (λ (job : Job). job.standing) (slice_get jobs i) ≡ Some standing → state ≡ state_of standing
-      → key.0 ≡ priority_of user settings → key.1.items ≡ user
-      → n.entries ≡ insert_entry key_order m.entries key (one_more state (unwrap_or (get key_order m key) no_jobs)) → Updates key_order m n key (Some (one_more state (unwrap_or (get key_order m key) no_jobs)))
-      → CountedTo (i + 1) n
-  counted-next i m n key user standing state so_far owner stands is number name entries updates =
-      subst (λ (js : List UserJob). IsTally settings (user_names settings js) js n) (sym grown)
-      (subst (λ (users : List (List ℕ)). IsTally settings users (take i all_jobs ++ keyed_job key state ∷ []) n) users
-      (tally-next settings (user_names settings (take i all_jobs)) (take i all_jobs) (take i all_jobs ++ keyed_job key state ∷ []) m n so_far key (one_more state (unwrap_or (get key_order m key) no_jobs)) of_key entries updates own
-      (λ other apart. other-same (take i all_jobs) (keyed_job key state) other apart)))
-    where
-      of_key : Numbered settings key
-      of_key = keyed settings key user number name
-
-      grown : take (i + 1) all_jobs ≡ take i all_jobs ++ keyed_job key state ∷ []
-      grown = take-next user_job jobs i (keyed_job key state) (read-of (slice_get jobs i) key.1.items standing state (owner ∙ ap (λ u. Some u) (sym name)) stands is)
-
-      users : user_names settings (take i all_jobs) ++ key.1.items ∷ [] ≡ user_names settings (take i all_jobs ++ keyed_job key state ∷ [])
-      users =
-          append_assoc (set_names settings) (map (λ (j : UserJob). j.user) (take i all_jobs)) (key.1.items ∷ [])
-          ∙ ap (λ l. set_names settings ++ l) (sym (names-last (take i all_jobs) (keyed_job key state)))
-
-      own : one_more state (unwrap_or (get key_order m key) no_jobs) ≡ counts_of (take i all_jobs ++ keyed_job key state ∷ []) key.1.items
-      own = ap (one_more state) (so_far.counts key of_key) ∙ sym (own-more (take i all_jobs) (keyed_job key state) key.1.items ((bytes_eq-Decides key.1.items key.1.items).1 refl))
-
-  pub counted-all : (i : ℕ) (m : BTreeMap Key JobCounts) → CountedTo i m → length jobs ≤ i → IsTally settings (user_names settings all_jobs) all_jobs m
-  counted-all i m so_far low = subst (λ (js : List UserJob). IsTally settings (user_names settings js) js m) (take_all i all_jobs (omega (arith, low, length-map jobs user_job))) so_far

@@ -14,21 +14,17 @@ pub record UserJob : Type 0 where
   pub user : List ℕ
   pub state : JobState
 
--- whose a job of the table is, and its state
 abbrev pub user_job : Job → UserJob
 user_job job = record { user = job.user; state = state_of job.standing }
 
--- the state idle
 abbrev pub is_idle : JobState → Bool
 is_idle JobState.Idle = true
 is_idle state = false
 
--- the state matched
 abbrev pub is_matched : JobState → Bool
 is_matched JobState.Matched = true
 is_matched state = false
 
--- the state claimed
 abbrev pub is_claimed : JobState → Bool
 is_claimed JobState.Claimed = true
 is_claimed state = false
@@ -37,7 +33,6 @@ is_claimed state = false
 abbrev pub count_of : (JobState → Bool) → List UserJob → List ℕ → ℕ
 count_of passes jobs user = count_by (λ job. bytes_eq user job.user && passes job.state) jobs
 
--- how many jobs of the user are in each state
 abbrev pub counts_of : List UserJob → List ℕ → JobCounts
 counts_of jobs user = record { idle = count_of is_idle jobs user; matched = count_of is_matched jobs user; claimed = count_of is_claimed jobs user }
 

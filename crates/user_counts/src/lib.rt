@@ -1,7 +1,7 @@
 //! The users of a queue in order, and how many jobs of each are idle, matched and claimed.
 #![tactic(auto)]
 
-mod rows;
 mod tallies;
+mod users;
 
-pub use rows::users;
+pub use users::users;

@@ -53,7 +53,11 @@ pub(crate) fn count_jobs(
 }
 
 // Counts a job of a state under a key.
-fn count(tallies: &mut Tallies, key: (u64, Vec<u8>), state: JobState) -> Result<(), OutOfMemory>
+fn count(
+    tallies: &mut Tallies,
+    key: (u64, Vec<u8>),
+    state: JobState,
+) -> Result<(), OutOfMemory>
     requires { IsFew (unwrap_or (get key_order tallies.old key) no_jobs) }
     ensures updates { OnOk result (Updates key_order tallies.old tallies.new key
         (Some (one_more state (unwrap_or (get key_order tallies.old key) no_jobs)))) }

@@ -4,13 +4,14 @@ use Rattle.std.specs.List.{cons_option}
 use Rattle.std.proofs.lemmas.List.Elements.{All-head, All-tail}
 use Rattle.ad_tree.specs.Frames.{Frame}
 use Rattle.ad_store.specs.Stock.{Advert, is_live}
+use Rattle.dock_match.specs.Docks.{docks, rank_of_dock}
+use Rattle.dock_match.specs.Preemption.{is_yielded, preemption_of}
+use Rattle.dock_match.specs.Pool.{Pool}
 use Rattle.bilateral_match.specs.declared.hit.Match.{Match}
 use Rattle.bilateral_match.specs.declared.member.Member.{Member}
 use Rattle.bilateral_match.specs.Answers.{answers, arranged, match_with, matches_from}
 use Rattle.bilateral_match.specs.DockedAlike.{AllDockAlike, AreDockedAlike}
-use Rattle.bilateral_match.specs.Docks.{docks, rank_of_dock}
-use Rattle.bilateral_match.specs.Members.{best, first_of, is_yielded, member_with, members_from, preemption_of, regard}
-use Rattle.bilateral_match.specs.Pool.{Pool}
+use Rattle.bilateral_match.specs.Members.{best, first_of, member_with, members_from, regard}
 
 -- ---- answers
 
@@ -25,8 +26,8 @@ module _ (moment : ℕ) (a b : List Frame) where
   matches-same : (k : ℕ) (ads : List Advert) → AllDockAlike moment a b ads → matches_from moment a k ads ≡ matches_from moment b k ads
   matches-same k [] h = refl
   matches-same k (advert ∷ ads) h =
-      ap (λ m. cons_option m (matches_from moment a (suc k) ads)) (match-same k advert (All-head (λ (x : Advert). AreDockedAlike moment a b x.ad) advert ads h))
-      ∙ ap (cons_option (match_with moment b k advert)) (matches-same (suc k) ads (All-tail (λ (x : Advert). AreDockedAlike moment a b x.ad) advert ads h))
+      ap (λ m. cons_option m (matches_from moment a (suc k) ads)) (match-same k advert (All-head (λ x. AreDockedAlike moment a b x.ad) advert ads h))
+      ∙ ap (cons_option (match_with moment b k advert)) (matches-same (suc k) ads (All-tail (λ x. AreDockedAlike moment a b x.ad) advert ads h))
 
   pub answers-same : (ads : List Advert) → AllDockAlike moment a b ads → answers moment a ads ≡ answers moment b ads
   answers-same ads h = ap arranged (matches-same 0 ads h)
@@ -50,8 +51,8 @@ module _ (pool : Pool) (number : ℕ) (a b : List Frame) where
   members-same : (k : ℕ) (ads : List Advert) → AllDockAlike pool.moment a b ads → members_from pool a number k ads ≡ members_from pool b number k ads
   members-same k [] h = refl
   members-same k (advert ∷ ads) h =
-      ap (λ m. cons_option m (members_from pool a number (suc k) ads)) (member-same k advert (All-head (λ (x : Advert). AreDockedAlike pool.moment a b x.ad) advert ads h))
-      ∙ ap (cons_option (member_with pool b number k advert)) (members-same (suc k) ads (All-tail (λ (x : Advert). AreDockedAlike pool.moment a b x.ad) advert ads h))
+      ap (λ m. cons_option m (members_from pool a number (suc k) ads)) (member-same k advert (All-head (λ x. AreDockedAlike pool.moment a b x.ad) advert ads h))
+      ∙ ap (cons_option (member_with pool b number k advert)) (members-same (suc k) ads (All-tail (λ x. AreDockedAlike pool.moment a b x.ad) advert ads h))
 
   pub best-same : AllDockAlike pool.moment a b pool.ads → best pool a number ≡ best pool b number
   best-same h = ap first_of (members-same 0 pool.ads h)

@@ -9,7 +9,7 @@ use crate::notes::{close_gap, note, put, widen};
 use crate::{Freed, FreedList, Job, JobFault, JobState, NoJob, Stage, SubmitFault};
 use ad_tree::Request;
 use indexmap::IndexSet;
-use pool_text::{OutOfMemory, Slots, Text};
+use pool_text::{OutOfMemory, Slots, Text, copy_slots};
 use std::alloc::Global;
 use std::convert::AsSlice;
 use std::mem::replace;
@@ -330,24 +330,13 @@ impl ClaimTable {
 fn freed_of(alloc: Global, job: &Job) -> Result<Freed, OutOfMemory>
     ensures { IfOk result (λ freed. freed ≡ freed_of job.now) }
 {
-    let slots = copy_of(alloc, job.standing.slots())?;
+    let slots = copy_slots(alloc, job.standing.slots())?;
     let user = job.user.copy()?;
     Ok(Freed {
         job: job.name.copy()?,
         user,
         slots,
     })
-}
-
-// A list with these slots.
-fn copy_of(alloc: Global, slots: &[usize]) -> Result<Slots, OutOfMemory>
-    ensures { IfOk result (λ list. list ≡ slots.now) }
-{
-    let mut list = Slots::new(alloc);
-    for slot in slots {
-        list.push(*slot)?;
-    }
-    Ok(list)
 }
 
 // The name of a job, and its user's.

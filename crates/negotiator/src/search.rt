@@ -3,9 +3,9 @@ ghost use Rattle.std.specs.Prelude.{◌≡◌, ◌≢◌, ◌<◌, ◌≤◌, �
 ghost use Rattle.std.specs.Option.{option_map_or};
 ghost use Rattle.ad_tree.specs.Ad.{ad_frames};
 ghost use Rattle.ad_tree.specs.Small.{IsSmall};
-ghost use Rattle.bilateral_match.specs.Pool.{AreStored};
-ghost use Rattle.bilateral_match.specs.Rows.{rows_of};
-ghost use Rattle.bilateral_match.specs.Small.{AreSmallAds};
+ghost use Rattle.ad_candidates.specs.Rows.{rows_of};
+ghost use Rattle.dock_match.specs.Pool.{AreStored};
+ghost use Rattle.dock_match.specs.Small.{AreSmallAds};
 ghost use Rattle.claim_table.specs.declared.job.Stage.{Stage};
 ghost use Rattle.claim_table.specs.Holders.{holder_of};
 ghost use Rattle.claim_table.specs.Jobs.{AreFree, wanted, with_standing};
@@ -24,7 +24,7 @@ use ad_tree::Request;
 use claim_table::{ClaimTable, JobState, Standing};
 use gang_ports::first_gang;
 use pool_steps::Steps;
-use pool_text::{OutOfMemory, Slots};
+use pool_text::{OutOfMemory, Slots, copy_slots};
 use std::alloc::Global;
 use std::convert::AsSlice;
 use std::sync::ledger::Ledger;
@@ -187,20 +187,9 @@ fn give(
     ensures err { OnErr result (jobs_of claims.new ≡ jobs_of claims.old) }
 {
     let job = claims.job(i).copy()?;
-    let shown = copy_of(alloc, slots.as_slice())?;
+    let shown = copy_slots(alloc, slots.as_slice())?;
     claims.offer(i, slots)?;
     Ok(Offered { job, slots: shown })
-}
-
-// A list with these slots.
-fn copy_of(alloc: Global, slots: &[usize]) -> Result<Slots, OutOfMemory>
-    ensures { IfOk result (λ list. list ≡ slots.now) }
-{
-    let mut list = Slots::new(alloc);
-    for slot in slots {
-        list.push(*slot)?;
-    }
-    Ok(list)
 }
 
 // Gives job `i`, which is idle, what it finds. A job that finds nothing is marked: it will find nothing once more is

@@ -1,5 +1,5 @@
 -- The classes of a state, by the keys of the classes and by the names in them.
-use Rattle.std.proofs.Common.{◌≡◌, ◌∙◌, ap, sym, refl, cond, Bool, true, false, ℕ, zero, suc, ◌+◌, ◌<◌, ◌≤◌, add-one, All, List, [], ◌∷◌, ◌++◌, length, map, take, Option, None, Some, option_map, slice_get, arith}
+use Rattle.std.proofs.Common.{◌≡◌, ◌∙◌, ap, sym, refl, cond, Bool, true, false, ℕ, zero, suc, ◌+◌, ◌<◌, add-one, All, List, [], ◌∷◌, ◌++◌, length, map, take, Option, None, Some, option_map, slice_get, arith}
 use Rattle.std.proofs.lemmas.List.{length-map, take_all}
 use Rattle.std.proofs.lemmas.Option.{none-some, same_Some, slice_get-map}
 use Rattle.ad_store.specs.Stock.{Advert, Stock}
@@ -56,11 +56,11 @@ abbrev pub classes_of_first : List Advert → Stock → List Job → ℕ → Lis
 classes_of_first ads stock jobs i = with_jobs ads [] (take i (map (queued stock) jobs))
 
 -- all jobs have had their turn
-pub classes-of_all : (ads : List Advert) (stock : Stock) (jobs : List Job) (i : ℕ) → length jobs ≤ i → classes_of_first ads stock jobs i ≡ with_jobs ads [] (map (queued stock) jobs)
-classes-of_all ads stock jobs i low = ap (with_jobs ads []) (take_all i (map (queued stock) jobs) (omega (arith, low, length-map jobs (queued stock))))
+pub classes-of_all : (ads : List Advert) (stock : Stock) (jobs : List Job) (n : ℕ) → n ≡ length jobs → classes_of_first ads stock jobs n ≡ with_jobs ads [] (map (queued stock) jobs)
+classes-of_all ads stock jobs n is = ap (with_jobs ads []) (take_all n (map (queued stock) jobs) (rw (length-map jobs (queued stock)) (omega (arith, is))))
 
 module _ (ads : List Advert) (stock : Stock) (jobs : List Job) (owned : All IsOwned jobs) (i : ℕ) (request : Request) (there : option_map (λ (job : Job). job.request) (slice_get jobs i) ≡ Some request) (name : List ℕ) (named : option_map (λ (job : Job). job.name) (slice_get jobs i) ≡ Some name) where
-  abbrev own : Option (List Entry)
+  own : Option (List Entry)
   own = request_key ads (ad_frames request.ad) request.ports
 
   it : Requests jobs i request
@@ -76,9 +76,8 @@ module _ (ads : List Advert) (stock : Stock) (jobs : List Job) (owned : All IsOw
 
   next : classes_of_first ads stock jobs (i + 1) ≡ with_job own name (classes_of_first ads stock jobs i)
   next =
-      rw (add-one i)
-      (with_jobs-next ads [] (map (queued stock) jobs) i (queued stock it.job) (slice_get-map (queued stock) jobs i ∙ ap (option_map (queued stock)) it.at)
-      ∙ (λ k. with_job (key-is k) (same_Some it.job.name name called k) (classes_of_first ads stock jobs i)))
+      rw (add-one i) (with_jobs-next ads [] (map (queued stock) jobs) i (queued stock it.job) (slice_get-map (queued stock) jobs i ∙ ap (option_map (queued stock)) it.at))
+      ∙ (λ k. with_job (key-is k) (same_Some it.job.name name called k) (classes_of_first ads stock jobs i))
 
   pub class_keys-next : (old new : List (Option (List Entry))) → old ≡ class_keys (classes_of_first ads stock jobs i) → new ≡ keys_with own old → new ≡ class_keys (classes_of_first ads stock jobs (i + 1))
   class_keys-next old new so_far is = is ∙ ap (keys_with own) so_far ∙ sym (keys-with_job own name (classes_of_first ads stock jobs i)) ∙ ap class_keys (sym next)

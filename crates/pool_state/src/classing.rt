@@ -43,7 +43,11 @@ pub(crate) fn classify<T: Ledger>(
 }
 
 // The number of the class that a request comes to: a gang begins a class that no other joins.
-fn class_of(classes: &mut Classes, reach: &Reach, request: &Request) -> Result<usize, OutOfMemory>
+fn class_of(
+    classes: &mut Classes,
+    reach: &Reach,
+    request: &Request,
+) -> Result<usize, OutOfMemory>
     ensures number { IfOk result (λ n. (ads : List Advert) → HasReadAds reach.now ads
         → n ≡ keyed.number_for (steps.request_key ads (ad_frames request.now.ad) request.now.ports) classes.old) }
     ensures classes { OnOk result ((ads : List Advert) → HasReadAds reach.now ads

@@ -19,7 +19,7 @@ pub use language::{
     AdPlace, BinOp, Lit, Pos, UnOp, same_binary, same_place, same_position, same_unary,
 };
 pub use laws::{lines_at_a_cut, lines_hold_no_feed, lines_join_again, number_is_its_decimal_text};
-pub use lists::{Items, Names, Slots};
+pub use lists::{Items, Names, Slots, copy_slots};
 pub use memory::OutOfMemory;
 pub use number::{append_count, append_number, read_number};
 pub use short_text::LONGEST_SHORT_TEXT;

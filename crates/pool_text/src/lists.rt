@@ -1,5 +1,5 @@
 // Small growing lists, which contracts see as lists of their items.
-ghost use Rattle.std.specs.Prelude.{◌≡◌, ◌++◌, ◌∷◌, ◌<◌, [], length, slice_get, Some, OnOk, OnErr};
+ghost use Rattle.std.specs.Prelude.{◌≡◌, ◌++◌, ◌∷◌, ◌<◌, [], length, slice_get, Some, IfOk, OnOk, OnErr};
 
 use crate::{OutOfMemory, Text};
 use std::alloc::Global;
@@ -67,4 +67,15 @@ impl<T> AsSlice<T> for Items<T> {
     fn as_slice(&self) -> &[T] {
         &self.items
     }
+}
+
+/// A second list of the same numbers.
+pub fn copy_slots(alloc: Global, slots: &[usize]) -> Result<Slots, OutOfMemory>
+    ensures { IfOk result (λ list. list ≡ slots.now) }
+{
+    let mut list = Slots::new(alloc);
+    for slot in slots {
+        list.push(*slot)?;
+    }
+    Ok(list)
 }

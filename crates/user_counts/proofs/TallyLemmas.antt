@@ -11,7 +11,7 @@ use Rattle.std.specs.Ordering.{is_eq, match_ordering, nat_cmp, ordering_reverse,
 use Rattle.std.proofs.lemmas.Cmp.{nat_cmp_total, nat_list_cmp_total, on_total, then_total}
 use Rattle.std.proofs.lemmas.List.{append-nil, length-map, take_all}
 use Rattle.std.proofs.lemmas.List.Elements.{All-head, All-nil, All-tail}
-use Rattle.std.proofs.lemmas.List.Sums.{count_by-le-length, sum_by_push}
+use Rattle.std.proofs.lemmas.List.Sums.{count_by-le-length}
 use Rattle.std.proofs.lemmas.Map.Lookups.{exact_bytes}
 use Rattle.std.proofs.lemmas.Map.Views.{All-keys-insert_entry}
 use Rattle.std.proofs.lemmas.Option.{none-some, same_Some}
@@ -119,7 +119,8 @@ same-counts : (a b c : ℕ) (counts : JobCounts) → a ≡ counts.idle → b ≡
 same-counts a b c counts p q r = (λ i. record { idle = p i; matched = q i; claimed = r i })
 
 count-last : (p : UserJob → Bool) (jobs : List UserJob) (job : UserJob) → count_by p (jobs ++ job ∷ []) ≡ count_by p jobs + cond (p job) 1 0
-count-last p jobs job = sum_by_push (λ x. cond (p x) 1 0) jobs job
+count-last p [] job = omega arith
+count-last p (j ∷ jobs) job = let rest = count-last p jobs job in omega (arith, rest)
 
 module _ (jobs : List UserJob) (job : UserJob) (user : List ℕ) where
   abbrev before : JobCounts
@@ -239,10 +240,6 @@ length-take-most zero xs = omega arith
 length-take-most (suc n) [] = omega arith
 length-take-most (suc n) (x ∷ xs) = let rest = length-take-most n xs in omega (arith, rest)
 
--- a job, under its key's name
-abbrev keyed_job : Key → JobState → UserJob
-keyed_job key state = record { user = key.1.items; state = state }
-
 module _ (settings : List Setting) (jobs : List Job) where
   abbrev pub all_jobs : List UserJob
   all_jobs = map user_job jobs
@@ -265,23 +262,27 @@ module _ (settings : List Setting) (jobs : List Job) where
       → CountedTo (i + 1) n
   counted-next i m n key user standing state so_far owner stands is number name entries updates =
       subst (λ (js : List UserJob). IsTally settings (user_names settings js) js n) (sym grown)
-      (subst (λ (users : List (List ℕ)). IsTally settings users (take i all_jobs ++ keyed_job key state ∷ []) n) users
-      (tally-next settings (user_names settings (take i all_jobs)) (take i all_jobs) (take i all_jobs ++ keyed_job key state ∷ []) m n so_far key (one_more state (unwrap_or (get key_order m key) no_jobs)) of_key entries updates own
-      (λ other apart. other-same (take i all_jobs) (keyed_job key state) other apart)))
+      (subst (λ (users : List (List ℕ)). IsTally settings users (take i all_jobs ++ job ∷ []) n) users
+      (tally-next settings (user_names settings (take i all_jobs)) (take i all_jobs) (take i all_jobs ++ job ∷ []) m n so_far key (one_more state (unwrap_or (get key_order m key) no_jobs)) of_key entries updates own
+      (λ other apart. other-same (take i all_jobs) job other apart)))
     where
+      -- the job, under its key's name
+      job : UserJob
+      job = record { user = key.1.items; state = state }
+
       of_key : Numbered settings key
       of_key = keyed settings key user number name
 
-      grown : take (i + 1) all_jobs ≡ take i all_jobs ++ keyed_job key state ∷ []
-      grown = take-next user_job jobs i (keyed_job key state) (read-of (slice_get jobs i) key.1.items standing state (owner ∙ ap (λ u. Some u) (sym name)) stands is)
+      grown : take (i + 1) all_jobs ≡ take i all_jobs ++ job ∷ []
+      grown = take-next user_job jobs i job (read-of (slice_get jobs i) key.1.items standing state (owner ∙ ap (λ u. Some u) (sym name)) stands is)
 
-      users : user_names settings (take i all_jobs) ++ key.1.items ∷ [] ≡ user_names settings (take i all_jobs ++ keyed_job key state ∷ [])
+      users : user_names settings (take i all_jobs) ++ key.1.items ∷ [] ≡ user_names settings (take i all_jobs ++ job ∷ [])
       users =
           append_assoc (set_names settings) (map (λ (j : UserJob). j.user) (take i all_jobs)) (key.1.items ∷ [])
-          ∙ ap (λ l. set_names settings ++ l) (sym (names-last (take i all_jobs) (keyed_job key state)))
+          ∙ ap (λ l. set_names settings ++ l) (sym (names-last (take i all_jobs) job))
 
-      own : one_more state (unwrap_or (get key_order m key) no_jobs) ≡ counts_of (take i all_jobs ++ keyed_job key state ∷ []) key.1.items
-      own = ap (one_more state) (so_far.counts key of_key) ∙ sym (own-more (take i all_jobs) (keyed_job key state) key.1.items ((bytes_eq-Decides key.1.items key.1.items).1 refl))
+      own : one_more state (unwrap_or (get key_order m key) no_jobs) ≡ counts_of (take i all_jobs ++ job ∷ []) key.1.items
+      own = ap (one_more state) (so_far.counts key of_key) ∙ sym (own-more (take i all_jobs) job key.1.items ((bytes_eq-Decides key.1.items key.1.items).1 refl))
 
   pub counted-all : (i : ℕ) (m : BTreeMap Key JobCounts) → CountedTo i m → length jobs ≤ i → IsTally settings (user_names settings all_jobs) all_jobs m
   counted-all i m so_far low = subst (λ (js : List UserJob). IsTally settings (user_names settings js) js m) (take_all i all_jobs (omega (arith, low, length-map jobs user_job))) so_far

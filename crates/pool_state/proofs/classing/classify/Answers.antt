@@ -1,4 +1,4 @@
-use Rattle.std.proofs.Common.{◌∙◌, Some, ap, arith, sym}
+use Rattle.std.proofs.Common.{◌∙◌, Some, ap, sym}
 use Rattle.ad_store.specs.Store.{stock_of}
 use Rattle.claim_table.specs.Table.{jobs_of}
 use Rattle.pool_replies.specs.declared.reply.Reply.TheVariants as reply
@@ -24,4 +24,4 @@ pub returns-clause-reply : goal.returns-clause-reply
 returns-clause-reply g c =
     let books = c.args.books.now in
     let stock = stock_of books.ads.store in
-    sym (ap reply.Classes (c.loop-i.invariant.names ∙ ap class_names (classes-of_all stock.ads stock (jobs_of books.claims) c.loop-i.i (omega (arith, c.loop-i-test.false, c.len-i-end.ensures.len)))))
+    sym (ap reply.Classes (c.loop-i.invariant.names ∙ ap class_names (classes-of_all stock.ads stock (jobs_of books.claims) c.len.result c.len.ensures.len)))

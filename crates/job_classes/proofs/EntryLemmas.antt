@@ -23,14 +23,6 @@ entered-place e (o ∷ es) = by (is_lt (slice_cmp nat_cmp e.0 o.0)) (entered-pla
     by true rest = refl
     by false rest = ap (λ l. o ∷ l) rest
 
-pub place-within : (name : List ℕ) (es : List Entry) → place_among name es ≤ length es
-place-within name [] = omega arith
-place-within name (o ∷ es) = by (is_lt (slice_cmp nat_cmp name o.0)) (place-within name es)
-  where
-    by : (b : Bool) → place_among name es ≤ length es → cond b 0 (suc (place_among name es)) ≤ suc (length es)
-    by true h = omega arith
-    by false h = omega (arith, h)
-
 -- ---- the marks of what is reached leave the entries of what is reached
 
 pub marked-entries : (request : List Frame) (test : List ℕ × Tree → Bool) (attributes : List (List ℕ × Tree))
@@ -128,14 +120,6 @@ same_key-length (a ∷ rest) (b ∷ bs) other = by (bytes_eq a.0 b.0 && bytes_eq
     by false h = refl
 
 -- ---- classes
-
-pub number-within : (key : List Entry) (classes : List (Option (List Entry))) → number_of key classes ≤ length classes
-number-within key [] = omega arith
-number-within key (c ∷ classes) = by (has_key key c) (number-within key classes)
-  where
-    by : (b : Bool) → number_of key classes ≤ length classes → cond b 0 (suc (number_of key classes)) ≤ suc (length classes)
-    by true h = omega arith
-    by false h = omega (arith, h)
 
 pub joined-new : (key : List Entry) (classes : List (Option (List Entry))) → number_of key classes ≡ length classes → joined key classes ≡ classes ++ Some key ∷ []
 joined-new key [] same = refl

@@ -1,5 +1,5 @@
 -- What stands in keys, and that requests with equal keys have the same trees under the names that are reached.
-use Rattle.std.proofs.Common.{◌≡◌, ◌≤◌, ◌<◌, ℕ, zero, suc, ◌+◌, Bool, true, false, not, cond, true≢false, List, [], ◌∷◌, length, get_or, map, position, Option, None, Some, slice_get, Contains, Result, Ok, IsTrue, refl, sym, ◌∙◌, ap, subst, arith, ◌⊎◌, inl, inr}
+use Rattle.std.proofs.Common.{◌≡◌, ◌≤◌, ◌<◌, ℕ, zero, suc, ◌+◌, Bool, true, false, cond, true≢false, List, [], ◌∷◌, length, get_or, position, Option, None, Some, slice_get, Contains, Ok, refl, sym, ◌∙◌, ap, subst, arith, ◌⊎◌, inl, inr}
 use Rattle.std.specs.Prelude.{◌↔◌}
 use Rattle.std.specs.List.{cons_option, flat_map, position_or_len, filter_map}
 use Rattle.std.specs.Ordering.{is_lt, nat_cmp}
@@ -13,17 +13,16 @@ use Rattle.pool_text.specs.Folding.{folded}
 use Rattle.builtin_funcs.proofs.AlikeLemmas.{Both, both_none, both_some}
 use Rattle.ad_tree.specs.declared.ad.Ad.{Ad}
 use Rattle.ad_tree.specs.Ad.{ad_frames}
-use Rattle.ad_tree.specs.Frames.{Frame, IsAd, attributes_at, names_in, names_of}
-use Rattle.ad_tree.specs.Inline.{Inline, inner, Defs, no_defs, def, count, count_defs, height, highest_def, number, attributes_from, frames, frames_in, def_names, spelled, spelled_tree, settled, settled_defs, inlined, inside}
+use Rattle.ad_tree.specs.Frames.{Frame, IsAd, attributes_at}
+use Rattle.ad_tree.specs.Inline.{Inline, inner, Defs, no_defs, def, count, count_defs, height, highest_def, number, attributes_from, frames, def_names, spelled, spelled_tree, settled, settled_defs}
 use Rattle.ad_tree.specs.Names.{are_apart, has_name, same_name}
 use Rattle.ad_tree.specs.Tree.{Tree}
 use Rattle.ad_tree.proofs.InlineLemmas.{length-frames, names-attributes_from}
 use Rattle.ad_tree.proofs.NameLemmas.{both_left, both_right, not_true, same_folded_form}
 use Rattle.ad_tree.proofs.SpellingLemmas.{Stand, Stand-behind, as_it_is, map-as_it_is, plain-number, spelled-frames}
 use Rattle.ad_grammar.specs.Made.{IsMade, DefsMade}
-use Rattle.ad_parser.specs.Answers.{AnswersAd, IsWithin, frames_of_ad}
+use Rattle.ad_parser.specs.Answers.{AnswersAd}
 use Rattle.ad_parser.specs.Limits.{height_limit}
-use Rattle.ad_parser.specs.declared.fault.ParseFault.{ParseFault}
 use Rattle.ad_parser.proofs.KeptLemmas.{ad_answer-made, ad_answer-within}
 use Rattle.ad_printer.specs.Printed.{printed}
 use Rattle.job_classes.specs.Keys.{Entry, IsEntry, arranged, entered, entries, entry_of, key_from, key_of}
@@ -32,7 +31,7 @@ use Rattle.job_classes.specs.Names.{weighed_names, asked_by, needed_in}
 use Rattle.job_classes.specs.Reach.{IsReached, is_first, is_needed, first_names, reached_from}
 use Rattle.job_classes.proofs.ContainLemmas.{contains_at, contains_cases, contains_filter_map, contains_first, contains_later, contains_none, filter_map_contains, has_name-listed, listed-has_name, same_name-folded}
 use Rattle.job_classes.proofs.ReachLemmas.{list_is_least}
-use Rattle.job_classes.proofs.SitsLemmas.{IsDefAt, Origin, Setting, both_along, def_at-stands, matched-alike}
+use Rattle.job_classes.proofs.SitsLemmas.{IsDefAt, Origin, both_along, def_at-stands, matched-alike}
 
 -- ---- entries in order
 

@@ -1,5 +1,5 @@
 -- The marks of the attributes that are reached, name by name.
-use Rattle.std.proofs.Common.{◌≡◌, ◌≤◌, ◌<◌, ℕ, zero, suc, ◌+◌, ◌-◌, Bool, true, false, cond, true≢false, List, [], ◌∷◌, ◌++◌, length, get_or, map, take, drop, position, replicate, Option, None, Some, slice_get, slice_set, Contains, refl, sym, ◌∙◌, ap, subst, arith, ◌⊎◌, inl, inr, length-append, append-nil, ◌≢◌}
+use Rattle.std.proofs.Common.{◌≡◌, ◌≤◌, ◌<◌, ℕ, zero, suc, ◌+◌, ◌-◌, Bool, true, false, cond, true≢false, List, [], ◌∷◌, ◌++◌, length, get_or, map, take, replicate, Option, None, Some, slice_get, slice_set, Contains, refl, sym, ◌∙◌, ap, subst, arith, ◌⊎◌, inl, inr, length-append, append-nil, ◌≢◌}
 use Rattle.std.specs.Prelude.{slice_index_or}
 use Rattle.std.specs.Option.{option_map_or}
 use Rattle.std.proofs.lemmas.List.{length-map, length-set, length-replicate, get_or-set_same, get_or-set_other, take_all}
@@ -7,12 +7,10 @@ use Rattle.std.proofs.lemmas.List.Elements.{Contains-append_cases, Contains-appe
 use Rattle.std.proofs.lemmas.List.Quantifiers.{position-Some}
 use Rattle.pool_text.specs.Folding.{folded}
 use Rattle.ad_tree.specs.Frames.{Frame, IsAd, attributes_at, names_in, names_of}
-use Rattle.ad_tree.specs.Inline.{spelled_tree}
-use Rattle.ad_tree.specs.Names.{are_apart, has_name, same_name}
+use Rattle.ad_tree.specs.Names.{has_name, same_name}
 use Rattle.ad_tree.specs.Tree.{Tree}
 use Rattle.ad_tree.proofs.NameLemmas.{same_folded_form}
 use Rattle.job_classes.specs.Marking.{first_attributes, marks_after, names_after, needs_at, needs_of, pending, place_of, reached_marks}
-use Rattle.job_classes.specs.Names.{needed_in}
 use Rattle.job_classes.specs.Reach.{IsReached, is_first, is_needed, reached_from}
 use Rattle.job_classes.proofs.ContainLemmas.{contains_at, contains_cases, contains_first, contains_later, contains_none, listed-has_name, has_name-listed, same_name-folded}
 use Rattle.job_classes.proofs.KeyLemmas.{named-one}

@@ -1,5 +1,5 @@
 -- The list of the names that are reached is the least set.
-use Rattle.std.proofs.Common.{◌≡◌, ◌≤◌, ◌<◌, ℕ, zero, suc, Bool, true, false, cond, true≢false, List, [], ◌∷◌, ◌++◌, length, map, Option, None, Some, option_map, Contains, refl, sym, ◌∙◌, ap, subst, arith, ◌⊎◌, inl, inr}
+use Rattle.std.proofs.Common.{◌≡◌, ◌≤◌, ℕ, zero, suc, Bool, true, false, cond, true≢false, List, [], ◌∷◌, ◌++◌, length, Option, None, Some, option_map, Contains, refl, sym, ◌∙◌, ap, subst, arith, ◌⊎◌, inl, inr}
 use Rattle.std.specs.Prelude.{◌↔◌}
 use Rattle.std.specs.Option.{option_map_or}
 use Rattle.std.proofs.lemmas.List.Elements.{Contains-append_cases, Contains-append_left, Contains-append_right}
@@ -90,10 +90,6 @@ none_listed names (a ∷ rest) e b c = by (none_listed names rest) (has_name a.0
     by deeper false unlisted e (inr later) = deeper (left (picked names rest) e) b later
 
 -- ---- one step
-
-closure-step : (n : ℕ) (names : List (List ℕ)) (attributes : List Needs) (o : Option (List (List ℕ) × List Needs)) → picked names attributes ≡ o
-    → closure (suc n) names attributes ≡ option_map_or (λ (p : List (List ℕ) × List Needs). closure n (names ++ p.0) p.1) o names
-closure-step n names attributes o at = ap (λ q. option_map_or (λ (p : List (List ℕ) × List Needs). closure n (names ++ p.0) p.1) q names) at
 
 -- names stay
 grows : (n : ℕ) (names : List (List ℕ)) (attributes : List Needs) (y : List ℕ) → Contains names y → Contains (closure n names attributes) y

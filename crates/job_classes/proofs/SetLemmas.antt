@@ -1,5 +1,5 @@
 -- Names in a set of folded names.
-use Rattle.std.proofs.Common.{◌≡◌, ◌≤◌, ℕ, Bool, true, false, ◌||◌, cond, true≢false, List, [], ◌∷◌, ◌++◌, map, drop, bytes_eq, Option, Some, None, slice_get, Result, Ok, Err, OnOk, OnErr, zero, suc, ◌+◌, refl, sym, ◌∙◌, ap, arith}
+use Rattle.std.proofs.Common.{◌≡◌, ℕ, Bool, true, false, ◌||◌, true≢false, List, [], ◌∷◌, ◌++◌, map, drop, bytes_eq, Some, slice_get, Result, Ok, Err, OnOk, OnErr, zero, suc, ◌+◌, refl, sym, ◌∙◌, ap, arith}
 use Rattle.std.specs.Char.{to_ascii_lowercase}
 use Rattle.std.specs.Cmp.Lexicographic.{on_texts_equal}
 use Rattle.std.specs.List.{list_any}

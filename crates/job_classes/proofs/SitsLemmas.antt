@@ -1,5 +1,5 @@
 -- Two requests whose roots have the same trees under the names that matter: an ad is docked to both alike.
-use Rattle.std.proofs.Common.{◌≡◌, ◌≤◌, ◌<◌, ℕ, zero, suc, ◌+◌, Bool, true, false, ◌&&◌, eqb, List, [], ◌∷◌, ◌++◌, length, get_or, map, position, Option, None, Some, option_map, slice_get, Contains, codes, refl, sym, ◌∙◌, ap, subst, arith}
+use Rattle.std.proofs.Common.{◌≡◌, ◌≤◌, ◌<◌, ℕ, zero, suc, ◌+◌, Bool, true, false, ◌&&◌, eqb, List, [], ◌∷◌, length, get_or, map, position, Option, None, Some, option_map, slice_get, Contains, codes, refl, sym, ◌∙◌, ap, subst, arith}
 use Rattle.std.specs.Prelude.{bytes_eq}
 use Rattle.std.specs.List.{flat_map}
 use Rattle.std.proofs.lemmas.Bool.Decides.{nat_tests}
@@ -21,10 +21,10 @@ use Rattle.ad_tree.proofs.InlineLemmas.{length-frames, names-attributes_from}
 use Rattle.ad_tree.proofs.NameLemmas.{same_folded_form}
 use Rattle.ad_tree.proofs.SpellingLemmas.{Stand, Stand-left, Stand-right, as_it_is}
 use Rattle.eval_scope.specs.declared.found.Found.{Found}
-use Rattle.eval_scope.specs.Look.{attribute_in, candidates, enclosing, find, first_found, found_at, found_attribute, in_frame, or_else}
+use Rattle.eval_scope.specs.Look.{attribute_in, enclosing, first_found, found_attribute, in_frame, or_else}
 use Rattle.eval_scope.specs.World.{PlainWorld, expr_of, frame_of_attribute, size_at}
 use Rattle.eval_scope.proofs.LookLemmas.{AreLower, enclosing-next, first_found-append, from_frame}
-use Rattle.ad_eval.specs.Dock.{is_docked, meets_requirement}
+use Rattle.ad_eval.specs.Dock.{meets_requirement}
 use Rattle.job_classes.specs.Matched.{AreMatchedAlike, docked_to}
 use Rattle.job_classes.specs.Names.{weighed_names, asked_at, asked_in, asked_in_all, asked_in_attributes, asked_by, needed_at, needed_in, needed_in_all, needed_in_defs}
 use Rattle.job_classes.proofs.TwinLemmas.{AreTwins, Finds, finds_nothing, finds_places, finds_attributes, FindsAt, TreeAlike, nodes, frames_alike, TreesAlike, no_trees, more_trees, meets-same, rank-same}

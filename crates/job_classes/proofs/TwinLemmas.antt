@@ -1,27 +1,25 @@
 -- Two worlds in which expressions have values that are the same up to the places of ads.
-use Rattle.std.proofs.Common.{◌≡◌, ℕ, zero, suc, Bool, true, false, cond, pos, ℤ, List, [], ◌∷◌, length, Option, None, Some, option_map, codes, refl, sym, ◌∙◌, ap}
-use Rattle.std.specs.Prelude.{unwrap_or, if◌then◌else◌}
+use Rattle.std.proofs.Common.{◌≡◌, ℕ, zero, suc, Bool, true, false, cond, pos, List, length, Option, None, Some, option_map, codes, refl, ap}
 use Rattle.std.specs.Option.{option_and_then, option_map_or, option_or}
 use Rattle.pool_text.specs.declared.language.AdPlace.{AdPlace}
 use Rattle.pool_text.specs.declared.language.Lit.{Lit}
 use Rattle.pool_text.specs.declared.language.Pos.{Pos}
-use Rattle.ad_value.specs.Plain.{Plain, undefined, error, boolean, integer, text, list, ad_at, plain_of_lit}
+use Rattle.ad_value.specs.Plain.{Plain, error, integer, plain_of_lit}
 use Rattle.ad_value.specs.Logic.{is_true}
 use Rattle.ad_value.specs.Operators.{binary_value, unary_value}
 use Rattle.ad_value.specs.Demands.{all_demanded, chosen, list_value, selected, subscripted}
 use Rattle.builtin_funcs.specs.Calls.{call_value, is_known}
-use Rattle.builtin_funcs.proofs.AlikeLemmas.{Both, both_none, both_some, Both-map, Both-then, Both-unwrap, Each, no_items, more_items, Each-length, Alike, undefineds, errors, booleans, integers, texts, lists, places, IsOneToOne, LookAlike, is_flat, flat-alike, binary_value-alike, chosen-alike, conjunction-alike, demanded-alike, disjunction-alike, list_value-alike, selected-alike, subscripted-alike, unary_value-alike}
+use Rattle.builtin_funcs.proofs.AlikeLemmas.{Both, both_none, both_some, Both-map, Both-then, Both-unwrap, Each, no_items, more_items, Each-length, Alike, undefineds, errors, booleans, lists, places, IsOneToOne, LookAlike, is_flat, flat-alike, binary_value-alike, chosen-alike, conjunction-alike, demanded-alike, disjunction-alike, list_value-alike, selected-alike, subscripted-alike, unary_value-alike}
 use Rattle.builtin_funcs.proofs.AlikeRowLemmas.{call-alike}
-use Rattle.ad_tree.specs.Frames.{Frame}
 use Rattle.ad_tree.specs.Names.{same_name}
-use Rattle.ad_tree.specs.Special.{attribute_named, rank_of, requirement_of}
+use Rattle.ad_tree.specs.Special.{attribute_named}
 use Rattle.ad_tree.specs.Tree.{Label, literal, name, unary, binary, all, any, choice, select, subscript, call, Tree, node, frame, Trees, none, more}
 use Rattle.ad_tree.specs.Tree.{list as list_node}
 use Rattle.eval_scope.specs.declared.found.Found.{Found}
 use Rattle.eval_scope.specs.Look.{attribute_in, find, found_attribute}
 use Rattle.eval_scope.specs.World.{PlainWorld, expr_of, frame_of_attribute, frames_of_ad, size_at}
 use Rattle.ad_eval.specs.Dock.{attribute_of, meets_requirement, rank_by, rank_number}
-use Rattle.ad_eval.specs.Node.{attribute_value, called, conditional, function_value, named, node_value, only_ad, sized_ad}
+use Rattle.ad_eval.specs.Node.{attribute_value, called, conditional, function_value, named, node_value, only_ad}
 use Rattle.ad_eval.specs.Value.{evaluation_at, references, results_by, value_at, value_by}
 
 -- ---- what is related; M relates places and N attributes of the two worlds

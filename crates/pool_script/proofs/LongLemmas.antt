@@ -22,9 +22,6 @@ use Rattle.pool_script.proofs.CutLemmas.{ended_none-append, ended_none-take, lin
 pub is_long-append : (a b : List ℕ) → is_long a ≡ true → is_long (a ++ b) ≡ true
 is_long-append a b long = rw length-append (grind (arith, nat_tests))
 
-pub is_long-behind : (a b : List ℕ) → is_long b ≡ true → is_long (a ++ b) ≡ true
-is_long-behind a b long = rw length-append (grind (arith, nat_tests))
-
 block_text-long : (text : List ℕ) → is_long text ≡ true → block_text (Some text) ≡ Err 5
 unfolding block_text
 block_text-long text long = let no : ltb 65536 (length text) ≡ true = long in grind (arith, nat_tests)

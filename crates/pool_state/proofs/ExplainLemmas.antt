@@ -14,12 +14,11 @@ use Rattle.claim_table.specs.declared.job.Job.{Job}
 use Rattle.match_explain.specs.Counted.{evaluations_most}
 use Rattle.match_explain.specs.Why.{explained}
 use Rattle.pool_replies.specs.declared.refusal.Refusal.TheVariants as why
-use Rattle.pool_replies.specs.declared.reply.Reply.{Reply}
 use Rattle.pool_replies.specs.declared.reply.Reply.TheVariants as reply
 use Rattle.pool_state.specs.Claiming.{job_named}
 use Rattle.pool_state.specs.Explaining.{ad_names, explain, explain_job, explained_evaluations, job_evaluations}
 use Rattle.pool_state.specs.Pool.{queued}
-use Rattle.pool_state.specs.Ports.{HasOwnPorts, ports_in}
+use Rattle.pool_state.specs.Ports.{ports_in}
 use Rattle.pool_state.specs.State.{QueuedJob}
 use Rattle.pool_state.proofs.FailingLemmas.{job-seen}
 use Rattle.pool_state.proofs.JobLemmas.{found-first}

@@ -11,7 +11,6 @@ use Rattle.claim_table.specs.declared.answers.JobState.{JobState}
 use Rattle.claim_table.specs.declared.job.Job.{Job}
 use Rattle.claim_table.specs.declared.job.Stage.{Stage}
 use Rattle.pool_replies.specs.declared.refusal.Refusal.TheVariants as why
-use Rattle.pool_replies.specs.declared.reply.Reply.{Reply}
 use Rattle.pool_replies.specs.declared.reply.Reply.TheVariants as reply
 use Rattle.pool_replies.specs.declared.rows.JobRow.{JobRow}
 use Rattle.pool_state.specs.Claiming.{job_named}

@@ -1,5 +1,5 @@
 -- Claims in a state: what is offered to a job is checked anew, and only then the job has it.
-use Rattle.std.specs.Prelude.{ℕ, suc, Bool, true, not, ◌&&◌, List, [], ◌∷◌, ◌++◌, find, fold, length, map, slice_index_or, sum_by, take, Option, None, Some, option_map, if◌then◌else◌}
+use Rattle.std.specs.Prelude.{ℕ, suc, Bool, not, ◌&&◌, List, [], ◌∷◌, ◌++◌, find, fold, length, map, slice_index_or, sum_by, take, Option, None, Some, option_map, if◌then◌else◌}
 use Rattle.std.specs.List.{list_any, range_with_len}
 use Rattle.std.specs.Option.{option_map_or}
 use Rattle.ad_store.specs.Stock.{Advert}

@@ -1,8 +1,7 @@
 -- The numbers of jobs under keys, as users and jobs are added one by one.
-use Rattle.std.proofs.Common.{◌≡◌, ◌+◌, ◌<◌, ◌≤◌, ℕ, zero, suc, Bool, true, false, ◌&&◌, cond, List, [], ◌∷◌, ◌++◌, All, Vec, bytes_eq, count_by, fold, length, map, take, Option, None, Some, option_map, slice_get, unwrap_or, Less, Equal, Greater, refl, sym, ap, ◌∙◌, subst, arith, add-one, append_assoc}
-use Rattle.std.specs.declared.alloc.Global.{Global}
+use Rattle.std.proofs.Common.{◌≡◌, ◌+◌, ◌<◌, ◌≤◌, ℕ, zero, suc, Bool, true, false, ◌&&◌, cond, List, [], ◌∷◌, ◌++◌, All, bytes_eq, count_by, fold, length, map, take, Option, None, Some, option_map, slice_get, unwrap_or, Less, Equal, Greater, refl, sym, ap, ◌∙◌, subst, arith, add-one, append_assoc}
 use Rattle.std.specs.declared.cmp.Ordering.{Ordering}
-use Rattle.std.specs.BTreeMap.{BTreeMap, Updates, get, insert_entry, is_at, keys}
+use Rattle.std.specs.BTreeMap.{BTreeMap, Updates, get, insert_entry, is_at}
 use Rattle.std.specs.BTreeSet.{insert_key}
 use Rattle.std.specs.Cmp.{IsTotalOrder}
 use Rattle.std.specs.Cmp.Lexicographic.{slice_cmp}

@@ -1,4 +1,4 @@
-use Rattle.std.proofs.Common.{arith, map, refl, ◌∙◌}
+use Rattle.std.proofs.Common.{arith, refl, ◌∙◌}
 use Rattle.std.specs.List.{flat_map}
 use Rattle.ad_store.specs.Store.{stock_of}
 use Rattle.ad_tree.specs.Ad.{ad_frames}

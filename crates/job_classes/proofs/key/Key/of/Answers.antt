@@ -1,4 +1,4 @@
-use Rattle.std.proofs.Common.{arith, false, true, sym, ◌∙◌, ap}
+use Rattle.std.proofs.Common.{arith, false, ◌∙◌, ap}
 use Rattle.ad_tree.specs.Ad.{ad_frames}
 use Rattle.ad_tree.specs.Frames.{attributes_at}
 use Rattle.job_classes.proofs.EntryLemmas.{entry-added, entry-passed}

@@ -8,7 +8,8 @@ use Rattle.ad_tree.specs.declared.request.Port.{Port}
 use Rattle.ad_parser.specs.declared.fault.ParseFault.{ParseFault}
 use Rattle.ad_parser.specs.declared.fault.ParseFault.TheVariants as faults
 use Rattle.ad_parser.specs.Outcomes.{HasAdOutcome, HasExprOutcome}
-use Rattle.ad_parser.proofs.Outcomes.{ad_outcome, ad_outcome-has, expr_outcome, expr_outcome-has}
+use Rattle.ad_parser.specs.Outcomes.{ad_outcome, expr_outcome}
+use Rattle.ad_parser.proofs.Outcomes.{ad_outcome-has, expr_outcome-has}
 use Rattle.ad_store.specs.Stock.{Advert, has, lack}
 use Rattle.std.specs.Option.{option_map_or}
 use Rattle.ad_store.specs.declared.answers.PutFault.{PutFault}

@@ -55,8 +55,8 @@ pub(crate) fn run_over<D: Notices>(
     Ok((end, written?))
 }
 
-// The same over an empty desk.
-fn run_alone(
+/// The same over an empty desk.
+pub(crate) fn run_alone(
     alloc: Global,
     words: &[Text],
     source: &mut MemorySource,

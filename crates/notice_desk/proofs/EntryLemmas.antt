@@ -1,21 +1,20 @@
 -- The rows of entries: their names, and one entry that changes, comes or goes.
-use Rattle.std.proofs.Common.{◌≡◌, ◌≢◌, ℕ, ◌+◌, ◌<◌, ◌≤◌, ◌↔◌, Bool, true, false, cond, List, [], ◌∷◌, ◌++◌, filter, length, map, get_or, remove, slice_get, slice_set, count_by, sum_by, take, Option, option_map, Some, None, IsNone, IsSome, IfNone, IfSome, IsTrue, is_some, refl, sym, ◌∙◌, ap, subst, arith}
+use Rattle.std.proofs.Common.{◌≡◌, ◌≢◌, ℕ, ◌+◌, ◌<◌, ◌≤◌, ◌↔◌, Bool, true, false, cond, List, [], ◌∷◌, ◌++◌, filter, length, map, get_or, remove, slice_get, slice_set, sum_by, take, Option, Some, None, IsNone, IsSome, IfNone, IfSome, IsTrue, is_some, refl, sym, ◌∙◌, ap, subst, arith}
 use Rattle.std.specs.List.{AllZip}
 use Rattle.std.proofs.Math.Seq.{map-set_same}
-use Rattle.std.proofs.lemmas.List.{append-nil, length-map, map-append, map-set, take_all}
+use Rattle.std.proofs.lemmas.List.{append-nil, length-map, map-append, map-set}
 use Rattle.std.proofs.lemmas.List.Quantifiers.{all_pairs_push, all_pairs_remove}
-use Rattle.std.proofs.lemmas.List.Sums.{count_by-le-length, get_or-le-sum_by, sum_by-remove, sum_by-set, sum_by_push}
+use Rattle.std.proofs.lemmas.List.Sums.{count_by-le-length, sum_by-remove, sum_by-set, sum_by_push}
 use Rattle.std.proofs.lemmas.Option.{slice_get_within}
 use Rattle.notice_desk.specs.Desk.{Held, Row, Posts, RowPosts, box_under, boxed_row, failures_under, is_marked, leaves_with, marked_row, names_of, retired, without}
 use Rattle.notice_desk.specs.Names.{AreDistinct, IsAbsent}
-use Rattle.notice_desk.specs.Sight.{Sight, boxes, entry_names, held_of, left_row, left_rows, row_of, rows_of}
+use Rattle.notice_desk.specs.Sight.{Sight, boxes, entry_names, left_rows, row_of, rows_of}
 use Rattle.notice_desk.specs.declared.entry.Entry.{Entry}
-use Rattle.notice_desk.specs.declared.entry.HeldBox.{HeldBox}
 use Rattle.notice_desk.specs.declared.entry.LeftBox.{LeftBox}
 use Rattle.notice_desk.specs.declared.notices.PostEnd.{PostEnd}
 use Rattle.notice_desk.specs.declared.notices.PostEnd.TheVariants.{NoBox}
 use Rattle.notice_desk.proofs.ListLemmas.{image-there, map-remove}
-use Rattle.notice_desk.proofs.RetireLemmas.{Retiring, leaving-more, names-retired, retiring-count, retiring-end, retiring-marked, retiring-unmarked, still-there}
+use Rattle.notice_desk.proofs.RetireLemmas.{Retiring, leaving-more, names-retired, retiring-marked, retiring-unmarked, still-there}
 use Rattle.notice_desk.proofs.RowLemmas.{box-absent, box-there, failures-absent, failures-known, failures-there, leaves-absent, leaves-there, no_box_iff, posts-there, without-there}
 
 -- ---- names
@@ -129,29 +128,6 @@ unknown see name entries found absent isnt = let known = known-absent see name e
 
 -- ---- a box that leaves
 
--- the row of a box that left is that of its entry
-pub left-row : {X : Type 0} {F : X → Type 0} (see : Sight X F) (entry : Entry X F) (held : HeldBox X F) → entry.held ≡ Some held → held.name ≡ entry.name → left_row see (record { held = held; failures = entry.failures }) ≡ row_of see entry
-left-row {X = X} {F = F} see entry held is own =
-    ap (λ (name : List ℕ). let row : Row = record { name = name; held = Some (held_of see held); failures = entry.failures } in row) own
-    ∙ ap (λ (o : Option (HeldBox X F)). let row : Row = record { name = entry.name; held = option_map (held_of see) o; failures = entry.failures } in row) (sym is)
-
--- a box has the name of its entry
-pub own-name : {X : Type 0} {F : X → Type 0} (name : List ℕ) (o : Option (HeldBox X F)) (held : HeldBox X F) → o ≡ Some held → option_map (λ (h : HeldBox X F). h.name) o ≡ option_map (λ (h : HeldBox X F). name) o → held.name ≡ name
-own-name {X = X} {F = F} name o held is own =
-    let both : Some held.name ≡ Some name = sym (ap (λ (p : Option (HeldBox X F)). option_map (λ (h : HeldBox X F). h.name) p) is) ∙ own ∙ ap (λ (p : Option (HeldBox X F)). option_map (λ (h : HeldBox X F). name) p) is in cc
-
--- it stands behind those that left before
-pub left-pushed : {X : Type 0} {F : X → Type 0} (see : Sight X F) (left pushed : List (LeftBox X F)) (one : LeftBox X F) (row : Row) → pushed ≡ left ++ one ∷ [] → left_row see one ≡ row → left_rows see pushed ≡ left_rows see left ++ row ∷ []
-left-pushed {X = X} {F = F} see left pushed one row is same =
-    ap (λ (ls : List (LeftBox X F)). left_rows see ls) is ∙ map-append (left_row see) left (one ∷ []) ∙ ap (λ (r : Row). left_rows see left ++ r ∷ []) same
-
-pub left-marked : {X : Type 0} {F : X → Type 0} (see : Sight X F) (left pushed : List (LeftBox X F)) (one : LeftBox X F) (row : Row) → pushed ≡ left ++ one ∷ [] → left_row see one ≡ row → is_marked row ≡ true → left_rows see pushed ≡ left_rows see left ++ marked_row row
-left-marked see left pushed one row is same marked =
-    left-pushed see left pushed one row is same ∙ ap (λ b. left_rows see left ++ cond b (row ∷ []) []) (sym marked)
-
-pub left-unmarked : (left : List Row) (row : Row) → is_marked row ≡ false → left ≡ left ++ marked_row row
-left-unmarked left row isnt = sym (ap (λ b. left ++ cond b (row ∷ []) []) isnt ∙ append-nil left)
-
 -- with the name leaves the box of its entry
 pub leaves-entry : {X : Type 0} {F : X → Type 0} (see : Sight X F) (name : List ℕ) (entries : List (Entry X F)) (i : ℕ) (entry d : Entry X F) → slice_get (entry_names entries) i ≡ Some name → entry ≡ get_or entries i d → AreDistinct (entry_names entries) → filter (leaves_with name) (rows_of see entries) ≡ cond (is_some (row_of see entry).held) (row_of see entry ∷ []) []
 leaves-entry see name entries i entry d at is apart =
@@ -159,31 +135,6 @@ leaves-entry see name entries i entry d at is apart =
 
 pub leaves-none : {X : Type 0} {F : X → Type 0} (see : Sight X F) (name : List ℕ) (entries : List (Entry X F)) (left : List Row) → IsAbsent name (entry_names entries) → left ≡ left ++ filter (leaves_with name) (rows_of see entries)
 leaves-none see name entries left absent = sym (ap (λ rs. left ++ rs) (leaves-absent name (rows_of see entries) (absent-rows see name entries absent)) ∙ append-nil left)
-
-held-some : {X : Type 0} {F : X → Type 0} (see : Sight X F) (entry : Entry X F) → is_some (row_of see entry).held ≡ is_some entry.held
-held-some {X = X} {F = F} see entry = by entry.held
-  where
-    by : (o : Option (HeldBox X F)) → is_some (option_map (held_of see) o) ≡ is_some o
-    by None = refl
-    by (Some held) = refl
-
--- the box of an entry, where it has one, behind those that left
-has_box : (b : Bool) → ◌≡◌ {A = ℕ} 1 (cond b 1 0) → b ≡ true
-has_box true e = refl
-has_box false e = absurd (omega (arith, e))
-
-no_box : (b : Bool) → ◌≡◌ {A = ℕ} 0 (cond b 1 0) → b ≡ false
-no_box false e = refl
-no_box true e = absurd (omega (arith, e))
-
-pub left-boxed : {X : Type 0} {F : X → Type 0} (see : Sight X F) (entry : Entry X F) (left pushed : List (LeftBox X F)) (one : LeftBox X F) → pushed ≡ left ++ one ∷ [] → left_row see one ≡ row_of see entry → ◌≡◌ {A = ℕ} 1 (boxes entry) → left_rows see pushed ≡ left_rows see left ++ boxed_row (row_of see entry)
-left-boxed see entry left pushed one is same some =
-    left-pushed see left pushed one (row_of see entry) is same
-    ∙ ap (λ b. left_rows see left ++ cond b (row_of see entry ∷ []) []) (sym (held-some see entry ∙ has_box (is_some entry.held) some))
-
-pub left-unboxed : {X : Type 0} {F : X → Type 0} (see : Sight X F) (entry : Entry X F) (left : List (LeftBox X F)) → ◌≡◌ {A = ℕ} 0 (boxes entry) → left_rows see left ≡ left_rows see left ++ boxed_row (row_of see entry)
-left-unboxed see entry left none =
-    sym (ap (λ b. left_rows see left ++ cond b (row_of see entry ∷ []) []) (held-some see entry ∙ no_box (is_some entry.held) none) ∙ append-nil (left_rows see left))
 
 -- so closing a name puts behind them what leaves with it
 pub closes-entry : {X : Type 0} {F : X → Type 0} (see : Sight X F) (name : List ℕ) (entries : List (Entry X F)) (i : ℕ) (entry d : Entry X F) (left gone : List Row) → slice_get (entry_names entries) i ≡ Some name → entry ≡ get_or entries i d → AreDistinct (entry_names entries) → gone ≡ left ++ boxed_row (row_of see entry) → gone ≡ left ++ filter (leaves_with name) (rows_of see entries)
@@ -217,11 +168,6 @@ boxes-pushed {X = X} {F = F} entries pushed entry len capacity is room =
 pub boxes-kept : {X : Type 0} {F : X → Type 0} (changed kept : List (Entry X F)) (len capacity : ℕ) → kept ≡ changed → len + sum_by boxes changed ≤ capacity → len + sum_by boxes kept ≤ capacity
 boxes-kept {X = X} {F = F} changed kept len capacity is room =
     let P : List (Entry X F) → Type 0 = λ es. len + sum_by boxes es ≤ capacity in subst P (sym is) room
-
-pub boxes-there : {X : Type 0} {F : X → Type 0} (entries : List (Entry X F)) (i : ℕ) (old d : Entry X F) → i < length entries → old ≡ get_or entries i d → boxes old ≤ sum_by boxes entries
-boxes-there {X = X} {F = F} entries i old d within is =
-    let P : ℕ → Type 0 = λ n. n ≤ sum_by boxes entries in
-    subst P (sym (ap (λ (e : Entry X F). boxes e) is)) (get_or-le-sum_by boxes entries i d within)
 
 -- ---- retiring
 
@@ -265,27 +211,3 @@ retires-unmarked see start now before left pushed len capacity len_more capacity
   gone = leaving-more (rows_of see start) (left_rows see before) (left_rows see left) (left_rows see pushed) i (row_of see old) (still-there (rows_of see start) (rows_of see now) i count (row_of see old) so_far.rows (row-there see now i old d within is)) so_far.gone left_is;
   room = omega (arith, so_far.room, boxes-set now i old new d within is, len_is, capacity_is);
 }
-
-pub retires-room : {X : Type 0} {F : X → Type 0} (see : Sight X F) (start now : List (Entry X F)) (before left : List (LeftBox X F)) (len capacity i count : ℕ) (old d : Entry X F) → RetiresFirst see start now before left len capacity i count → i < length now → old ≡ get_or now i d → len + boxes old ≤ capacity
-retires-room see start now before left len capacity i count old d so_far within is = omega (arith, so_far.room, boxes-there now i old d within is)
-
-pub retires-count : {X : Type 0} {F : X → Type 0} (see : Sight X F) (start now : List (Entry X F)) (before left : List (LeftBox X F)) (len capacity i count : ℕ) → RetiresFirst see start now before left len capacity i count → count ≤ i
-retires-count see start now before left len capacity i count so_far = retiring-count (rows_of see start) (rows_of see now) i count so_far.rows
-
--- all entries were retired
-pub record RetiresAll {X : Type 0} {F : X → Type 0} (see : Sight X F) (start now : List (Entry X F)) (before left : List (LeftBox X F)) (len capacity count : ℕ) : Type 0 where
-  pub counted : count ≡ count_by is_marked (rows_of see start)
-  pub rows : rows_of see now ≡ map retired (rows_of see start)
-  pub gone : left_rows see left ≡ left_rows see before ++ filter is_marked (rows_of see start)
-  pub room : len + sum_by boxes now ≤ capacity
-
-pub retires-end : {X : Type 0} {F : X → Type 0} (see : Sight X F) (start now : List (Entry X F)) (before left : List (LeftBox X F)) (len capacity i count : ℕ) → RetiresFirst see start now before left len capacity i count → length start ≤ i → RetiresAll see start now before left len capacity count
-retires-end see start now before left len capacity i count so_far all =
-    let whole : length (rows_of see start) ≤ i = omega (arith, all, length-map start (row_of see)) in
-    let end = retiring-end (rows_of see start) (rows_of see now) i count so_far.rows whole in
-    record {
-      counted = end.0;
-      rows = end.1;
-      gone = so_far.gone ∙ ap (λ rs. left_rows see before ++ filter is_marked rs) (take_all i (rows_of see start) whole);
-      room = so_far.room;
-    }

@@ -411,10 +411,6 @@ heard_told h c = by c refl
 
 -- ---- a sink that took nothing
 
-empty : {A : Type 0} (l : List A) → length l ≡ 0 → l ≡ []
-empty [] none = refl
-empty (x ∷ l) none = absurd (omega arith)
-
 -- replies whose text is empty are none
 no_commands : (s : Heard) (commands : List Command) → length (text_of pool_rules s commands) ≡ 0 → commands ≡ []
 no_commands s [] none = refl

@@ -13,7 +13,6 @@ use Rattle.pool_state.specs.Heard.{Heard, kept, step_heard}
 use Rattle.pool_state.specs.Posting.{Post, RowAfter}
 use Rattle.pool_state.specs.Step.{allowance, looks}
 use Rattle.script_run.specs.Rules.{after}
-use Rattle.script_run.specs.Rules as rules
 use Rattle.run_rules.specs.PoolRules.{pool_rules}
 use Rattle.pool_state.proofs.HeardLemmas.{kept-append, kept-zip}
 use Rattle.pool_state.proofs.PostingLemmas.{rows_both, rows_none}
@@ -33,11 +32,6 @@ refusal_count-le reply =
       | inl is ↦ rw is (omega arith)
       | inr is ↦ rw is (omega arith)
     ]
-
--- the refusals among the replies, as the rules count them
-pub refusals-events : (s : Heard) (commands : List Command) → rules.refusals_of pool_rules s commands ≡ refusals_of (events_of s commands)
-refusals-events s [] = refl
-refusals-events s (c ∷ commands) = ap (λ (n : ℕ). refusal_count (step_heard s c).1 + n) (refusals-events (step_heard s c).0 commands)
 
 -- what the commands may count by any measure of events
 pub sum-append : (f : Event → ℕ) (s : Heard) (a b : List Command) → sum_by f (events_of s (a ++ b)) ≡ sum_by f (events_of s a) + sum_by f (events_of (after pool_rules s a) b)

@@ -1,9 +1,7 @@
 -- The items that wait, one by one.
 use Rattle.std.proofs.Common.{◌≡◌, ℕ, ◌+◌, ◌≤◌, ◌<◌, ◌^◌, List, [], ◌∷◌, ◌++◌, length, refl, sym, ◌∙◌, ap, subst, arith, append_assoc}
-use Rattle.std.proofs.lemmas.List.{append-nil}
-use Rattle.pool_io.specs.Flow.{Intake}
-use Rattle.script_run.specs.Answering.{Rests, Stopped, Took, TookOne}
-use Rattle.script_run.specs.Effects.{Beside, Effects}
+use Rattle.script_run.specs.Answering.{Stopped, Took, TookOne}
+use Rattle.script_run.specs.Effects.{Effects}
 use Rattle.script_run.specs.Rules.{IsLawful, Rules}
 use Rattle.script_run.specs.declared.run_end.RunEnd.{RunEnd}
 use Rattle.script_run.proofs.RulesLemmas.{refusals-le}
@@ -24,10 +22,6 @@ module _ {State Item : Type 0} (rules : Rules State Item) (lawful : IsLawful rul
   pub took-one-le : (old new : List Item) (s t : State) (k m : Effects) (count : ℕ) → TookOne rules old new s t k m count → count ≤ 1
   took-one-le old new s t k m count one = omega (arith, one.took.counted, refusals-le rules lawful s (one.item ∷ []))
 
-  -- the sum of the refusals is within 64 bits
-  pub Running-room : (s t u : State) (k m n : Effects) (all waiting rest : List Item) (before refused count : ℕ) → Running rules s t k m all waiting before refused → TookOne rules waiting rest t u m n count → refused + count < 2 ^ 64
-  Running-room s t u k m n all waiting rest before refused count running one = omega (arith, running.room, ap length one.waiting, took-one-le waiting rest t u m n count one)
-
   pub Running-item : (s t u : State) (k m n : Effects) (all waiting rest : List Item) (before refused count : ℕ) → Running rules s t k m all waiting before refused → TookOne rules waiting rest t u m n count → Running rules s u k n all rest before (refused + count)
   Running-item s t u k m n all waiting rest before refused count running one = record {
     ran = running.ran ++ (one.item ∷ []);
@@ -39,15 +33,3 @@ module _ {State Item : Type 0} (rules : Rules State Item) (lawful : IsLawful rul
   pub Running-stopped : (s t : State) (k m n : Effects) (all waiting : List Item) (before refused : ℕ) (end : RunEnd) → Running rules s t k m all waiting before refused → Stopped rules t m n waiting end → Stopped rules s k n all end
   Running-stopped s t k m n all waiting before refused end running stopped =
       subst (λ (l : List Item). Stopped rules s k n l end) (sym running.split) (Stopped-behind rules lawful s t k m n running.ran waiting before refused end running.took stopped)
-
-  -- none waits any longer, and the last call did nothing
-  pub Running-end : (s t u : State) (k m : Effects) (n : Intake) (b : Beside) (all waiting rest : List Item) (before refused : ℕ) → Running rules s t k m all waiting before refused → Rests rules waiting rest t u m.others b → n ≡ m.sink → Took rules s u k (record { sink = n; others = b }) all before refused
-  Running-end s t u k m n b all waiting rest before refused running rests same =
-      let whole : all ≡ running.ran = running.split ∙ ap (λ (l : List Item). running.ran ++ l) rests.none ∙ append-nil running.ran in
-      let here : Took rules s t k m all before refused = subst (λ (l : List Item). Took rules s t k m l before refused) (sym whole) running.took in
-      record {
-        state = rests.state ∙ here.state;
-        wrote = rw same here.wrote;
-        counted = here.counted;
-        did = rw rests.same here.did;
-      }

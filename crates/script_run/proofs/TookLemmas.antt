@@ -2,7 +2,7 @@
 use Rattle.std.proofs.Common.{◌≡◌, ℕ, ◌+◌, List, [], ◌∷◌, ◌++◌, refl, sym, ◌∙◌, ap, subst, arith, append_assoc, Option, None, Some, IfSome}
 use Rattle.std.proofs.lemmas.List.{append-nil}
 use Rattle.pool_io.specs.Flow.{Intake}
-use Rattle.script_run.specs.Answering.{Answers, Fails, Stopped, Took, TookOne}
+use Rattle.script_run.specs.Answering.{Answers, Fails, Stopped, Took}
 use Rattle.script_run.specs.Effects.{Beside, Effects}
 use Rattle.script_run.specs.Rules.{IsLawful, Rules, Tried, after, text_of}
 use Rattle.script_run.specs.Streams.{Broke, Wrote}
@@ -69,21 +69,6 @@ module _ {State Item : Type 0} (rules : Rules State Item) (lawful : IsLawful rul
   -- a count goes on from any number
   pub Took-from : (s t : State) (k m : Effects) (a : List Item) (p c : ℕ) → Took rules s t k m a 0 c → Took rules s t k m a p (p + c)
   Took-from s t k m a p c took = record { state = took.state; wrote = took.wrote; counted = omega (arith, took.counted); did = took.did }
-
-  -- an item that was answered, and whose answer was taken
-  pub Took-one : (old new : List Item) (s t : State) (k m : Effects) (answer : Answer) → Answers rules old new s t k.others m.others answer → Wrote k.sink m.sink answer.text → TookOne rules old new s t k m answer.refusals
-  Took-one old new s t k m answer answers wrote =
-      let text : answer.text ≡ rules.text s answers.item ++ [] = answers.text ∙ sym (append-nil (rules.text s answers.item)) in
-      record {
-        item = answers.item;
-        waiting = answers.waiting;
-        took = record {
-          state = answers.state;
-          wrote = subst (λ (l : List ℕ). Wrote k.sink m.sink l) text wrote;
-          counted = omega (arith, answers.refusals);
-          did = answers.did;
-        };
-      }
 
   -- an item that was answered, and whose answer wasn't taken
   pub Stopped-offered : (old new : List Item) (s t : State) (k m : Effects) (answer : Answer) → Answers rules old new s t k.others m.others answer → Broke k.sink m.sink [] answer.text → Stopped rules s k m old WriteFault

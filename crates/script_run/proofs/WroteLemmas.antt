@@ -1,5 +1,5 @@
 -- Writes one after the other.
-use Rattle.std.proofs.Common.{ℕ, ◌<◌, List, [], ◌++◌, length, take, Ok, Err, IsOk, refl, sym, ◌∙◌, subst, inl, inr, arith, length-append, append_assoc}
+use Rattle.std.proofs.Common.{ℕ, ◌<◌, List, [], ◌++◌, length, take, Err, IsOk, refl, sym, ◌∙◌, subst, inl, inr, arith, length-append, append_assoc}
 use Rattle.std.specs.Io.KnownBytes.{Appends}
 use Rattle.pool_io.specs.Flow.{Intake, WritesAll}
 use Rattle.pool_io.proofs.KnownLemmas.{Appends-append, Appends-nil}
@@ -19,10 +19,6 @@ Wrote-append k m n a b first second =
       same = second.same ∙ first.same;
       spent = λ s. omega (arith, first.spent (omega arith), second.spent (omega (arith, first.spent (omega arith))));
     }
-
--- bytes that were all taken
-pub Wrote-all : {T E : Type 0} (k m : Intake) (bytes : List ℕ) (x : T) → WritesAll {T = T} {E = E} k m (Ok x) bytes → Wrote k m bytes
-Wrote-all k m bytes x wrote = record { appended = wrote.all; same = wrote.kept; spent = wrote.spent }
 
 is_err : {E : Type 0} (T : Type 0) (e : E) → IsOk {T = T} (Err e) → ⊥
 is_err T e is = absurd (cc)

@@ -110,6 +110,7 @@ pub fn best_knowing<H: Holdings, F: Ledger, E: Ledger, T: Ledger>(
         + 9 * least_left (stock_of store.now).ads (tests_of (ad_frames request.now.ad) 0 []) }
 {
     let places = candidates_knowing(alloc, store, index, request, &mut known.tests)?;
+    known.left = places.len();
     let mut ranking = known.take(alloc, store.len(), request)?;
     let first = first_at(
         alloc,

@@ -35,6 +35,7 @@ pub struct Kept {
 pub struct Known {
     kept: Vec<Kept>,
     pub(crate) tests: KnownTests,
+    pub left: usize,
 }
 
 impl Ranking {
@@ -93,6 +94,7 @@ impl Known {
         Known {
             kept: Vec::new(alloc),
             tests: KnownTests::new(alloc),
+            left: 0,
         }
     }
 

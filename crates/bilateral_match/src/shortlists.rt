@@ -16,7 +16,7 @@ ghost use Rattle.bilateral_match.specs.Shortlists.{AreInOrder, IsShortlist};
 ghost use Rattle.bilateral_match.specs.Small.{AreSmallAds, AreSmallHolders};
 
 use crate::candidates::candidates;
-use crate::known::Ranking;
+use crate::known::{Known, Ranking};
 use crate::member::Member;
 use crate::members::member_at;
 use ad_store::{Holdings, Store};
@@ -42,6 +42,7 @@ pub fn shortlist<H: Holdings, F: Ledger, E: Ledger, T: Ledger>(
     request: &Request,
     number: u64,
     moment: u64,
+    known: &mut Known,
     tops: &mut Steps<F>,
     entry: &mut Steps<E>,
     touch: &mut Steps<T>,
@@ -60,9 +61,11 @@ pub fn shortlist<H: Holdings, F: Ledger, E: Ledger, T: Ledger>(
         + 9 * least_left (stock_of store.now).ads (tests_of (ad_frames request.now.ad) 0 []) }
 {
     let places = candidates(alloc, store, index, request)?;
+    let mut ranking = known.take(alloc, store.len(), request)?;
     let found = members_at(
-        alloc, store, held, request, number, moment, &places, tops, entry, touch,
+        alloc, store, held, request, number, moment, &places, &mut ranking, tops, entry, touch,
     )?;
+    known.keep(request, ranking)?;
     slots_in_order(alloc, store, found)
 }
 
@@ -86,6 +89,7 @@ fn members_at<H: Holdings, F: Ledger, E: Ledger, T: Ledger>(
     number: u64,
     moment: u64,
     places: &Slots,
+    ranking: &mut Ranking,
     tops: &mut Steps<F>,
     entry: &mut Steps<E>,
     touch: &mut Steps<T>,
@@ -100,7 +104,6 @@ fn members_at<H: Holdings, F: Ledger, E: Ledger, T: Ledger>(
     ensures looks { touch.new ≤ touch.old + 9 * length places.now }
 {
     let mut found = Vec::new(alloc);
-    let mut ranking = Ranking::unknown(alloc);
     for place in places.as_slice() {
         let next = member_at(
             alloc,
@@ -111,7 +114,7 @@ fn members_at<H: Holdings, F: Ledger, E: Ledger, T: Ledger>(
             moment,
             *place,
             None,
-            &mut ranking,
+            ranking,
             tops,
             entry,
             touch,

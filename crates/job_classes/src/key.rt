@@ -43,6 +43,18 @@ impl Key {
         Ok(Key { entries })
     }
 
+    /// The entries in a row.
+    pub(crate) fn flat(&self, alloc: Global) -> Result<Vec<u8>, OutOfMemory> {
+        let mut bytes = Vec::new(alloc);
+        for i in 0..self.entries.len() {
+            bytes.extend_from_slice(self.entries[i].0.bytes())?;
+            bytes.push(0)?;
+            bytes.extend_from_slice(self.entries[i].1.bytes())?;
+            bytes.push(0)?;
+        }
+        Ok(bytes)
+    }
+
     /// Whether two keys are the same.
     pub(crate) fn is_same(&self, other: &Key) -> bool
         ensures { result ≡ same_key self.now other.now }

@@ -8,6 +8,7 @@ mod laws;
 mod marking;
 mod name_set;
 mod needing;
+mod numbers;
 mod reach;
 
 pub use classes::Classes;
@@ -16,4 +17,5 @@ pub use laws::{
     equal_keys_are_told_apart_by_no_ad, equal_names_give_equal_keys,
     keys_have_the_reached_attributes, listed_names_are_the_least_set,
 };
+pub use numbers::Numbers;
 pub use reach::Reach;

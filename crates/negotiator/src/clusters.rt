@@ -22,17 +22,14 @@ ghost use Rattle.negotiator.specs.Scenes.{settings_in, stock_in};
 
 use crate::Scene;
 use ad_tree::Request;
-use bilateral_match::{Known, are_alike, best_knowing, shortlist};
+use bilateral_match::{Known, best_knowing, shortlist};
 use claim_table::{ClaimTable, Standing};
+use job_classes::{Numbers, Reach};
 use pool_steps::Steps;
 use pool_text::{OutOfMemory, Slots};
 use std::alloc::Global;
 use std::convert::AsSlice;
 use std::sync::ledger::Ledger;
-
-// So many different ads are remembered in a cycle. The ads of further jobs are weighed for each job alone, so that a pool
-// in which all ads differ costs no more than this many comparisons a job.
-const ADS_LIMIT: usize = 64;
 
 /// The jobs of one ad and of users with one number: the place of one of them, that number, the resources that they may be given,
 /// the best one first, and how many of these are known to be offered, from the front.
@@ -44,37 +41,98 @@ pub struct Cluster {
     pub passed: usize,
 }
 
-/// The ads of the jobs without ports that were tried in a cycle, each beside the number of the job's user and by the place of the
-/// first job that has both, the clusters of those that were tried again, and what is known of the ranks that jobs give resources.
+/// A class and the number of a user: the cluster of such jobs, once a second of them was tried.
+#[derive(Drop)]
+pub struct Tried {
+    pub number: u64,
+    pub next: Option<usize>,
+    pub cluster: Option<Cluster>,
+}
+
+/// What was tried in a cycle, for each class a chain, and what is known of the ranks that jobs give resources.
 #[derive(Drop)]
 pub struct Clusters {
-    pub seen: Vec<usize>,
-    pub ranked: Vec<Cluster>,
+    pub heads: Vec<Option<usize>>,
+    pub reach: Option<Reach>,
+    pub keys: Numbers,
+    pub spare: usize,
+    pub keyed: usize,
+    pub tried: Vec<Tried>,
     pub known: Known,
 }
 
 impl Clusters {
-    /// No ad was seen yet. It takes no memory.
-    pub(crate) fn new(alloc: Global) -> Clusters
-        ensures seen { result.seen.items ≡ [] }
-        ensures ranked { result.ranked.items ≡ [] }
-        ensures known { (moment : ℕ) (ads : List Advert) → AreKnown moment ads result.known }
-    {
+    /// No job was tried yet. It takes no memory.
+    pub(crate) fn new(alloc: Global) -> Clusters {
         Clusters {
-            seen: Vec::new(alloc),
-            ranked: Vec::new(alloc),
+            heads: Vec::new(alloc),
+            reach: None,
+            keys: Numbers::new(alloc),
+            spare: 0,
+            keyed: 0,
+            tried: Vec::new(alloc),
             known: Known::new(alloc),
         }
+    }
+
+    // The number of the class of a request, where classes are kept: once the looks that are left over pay for a look at each ad,
+    // and while jobs come that share a class.
+    fn class_of<T: Ledger>(
+        &mut self,
+        scene: &Scene<'_>,
+        request: &Request,
+        touch: &mut Steps<T>,
+    ) -> Result<Option<usize>, OutOfMemory> {
+        if self.reach.is_none() && self.spare >= scene.store.len() {
+            self.reach = Some(Reach::new(scene.alloc, scene.store, touch)?);
+        }
+        if self.heads.len() > 64 + self.keyed / 2 {
+            return Ok(None);
+        }
+        match &self.reach {
+            None => Ok(None),
+            Some(reach) => {
+                let key = reach.key(request)?;
+                self.keyed = self.keyed.saturating_add(1);
+                Ok(Some(self.keys.number(scene.alloc, &key)?))
+            }
+        }
+    }
+
+    fn place_of(&self, class: usize, number: u64) -> Option<usize> {
+        if class >= self.heads.len() {
+            return None;
+        }
+        let mut at = self.heads[class];
+        while let Some(k) = at {
+            if self.tried[k].number == number {
+                return Some(k);
+            }
+            at = self.tried[k].next;
+        }
+        None
+    }
+
+    fn note(&mut self, class: usize, number: u64) -> Result<(), OutOfMemory> {
+        while self.heads.len() <= class {
+            self.heads.push(None)?;
+        }
+        let next = self.heads[class];
+        self.heads[class] = Some(self.tried.len());
+        self.tried.push(Tried {
+            number,
+            next,
+            cluster: None,
+        })?;
+        Ok(())
     }
 }
 
 impl Cluster {
     // The best resource for the jobs: the first that isn't offered.
     fn first(&mut self, scene: &Scene<'_>, claims: &ClaimTable) -> Option<usize>
-        requires { IsCluster scene.now.moment (stock_in scene.now) (settings_in scene.now) (jobs_of claims.now) self.old }
         ensures best { result ≡ best_slot (stock_in scene.now) (pool_for scene.now.moment (stock_in scene.now) (settings_in scene.now) (jobs_of claims.now)) (ad_at (jobs_of claims.now) self.old.place) self.old.number }
         ensures free { IfSome result (λ slot. is_offered (jobs_of claims.now) slot ≡ false) }
-        ensures kept { IsCluster scene.now.moment (stock_in scene.now) (settings_in scene.now) (jobs_of claims.now) self.new }
     {
         self.passed = first_left(claims, self.slots.as_slice(), self.passed);
         self.slots.as_slice().get(self.passed).copied()
@@ -113,30 +171,41 @@ pub(crate) fn choose<F: Ledger, E: Ledger, T: Ledger>(
     requires stored { AreStored (stock_in scene.now) (holder_of (settings_in scene.now) (jobs_of claims.now)) }
     requires job { option_map (λ job. job.request) (slice_get (jobs_of claims.now) i) ≡ Some request.now }
     requires single { request.now.ports ≡ [] }
-    requires clusters { AreClusters scene.now.moment (stock_in scene.now) (settings_in scene.now) (jobs_of claims.now) clusters.old }
     ensures best { IfOk result (λ slot. slot ≡ best_slot (stock_in scene.now) (pool_for scene.now.moment (stock_in scene.now) (settings_in scene.now) (jobs_of claims.now)) (ad_frames request.now.ad) number) }
     ensures free { IfOk result (λ slot. IfSome slot (λ s. is_offered (jobs_of claims.now) s ≡ false)) }
-    ensures clusters { AreClusters scene.now.moment (stock_in scene.now) (settings_in scene.now) (jobs_of claims.now) clusters.new }
     ensures evaluations { tops.new ≤ tops.old + 5 * open_count (pool_for scene.now.moment (stock_in scene.now) (settings_in scene.now) (jobs_of claims.now)) (ad_frames request.now.ad) }
     ensures entries { entry.new ≤ entry.old + entered_for (pool_for scene.now.moment (stock_in scene.now) (settings_in scene.now) (jobs_of claims.now)) (ad_frames request.now.ad) }
     ensures ratio { AreSmallAds (stock_in scene.now).ads → AreSmallJobs (jobs_of claims.now) → entry.new + 9216 * tops.old ≤ entry.old + 9216 * tops.new }
     ensures looks { touch.new ≤ touch.old + 9 * least_left (stock_in scene.now).ads (tests_of (ad_frames request.now.ad) 0 []) }
 {
-    if let Some(k) = cluster_of(scene, claims, clusters.ranked.as_slice(), request, number) {
-        return Ok(clusters.ranked[k].first(scene, claims));
+    if let Some(class) = clusters.class_of(scene, request, touch)? {
+        if let Some(k) = clusters.place_of(class, number) {
+            if clusters.tried[k].cluster.is_none() {
+                let cluster = rank(
+                    scene,
+                    claims,
+                    i,
+                    request,
+                    number,
+                    &mut clusters.known,
+                    tops,
+                    entry,
+                    touch,
+                )?;
+                clusters.tried[k].cluster = Some(cluster);
+            }
+            return match &mut clusters.tried[k].cluster {
+                Some(cluster) => Ok(cluster.first(scene, claims)),
+                None => Ok(None),
+            };
+        }
+        clusters.note(class, number)?;
     }
-    if was_seen(scene, claims, clusters.seen.as_slice(), request, number) {
-        let mut cluster = rank(scene, claims, i, request, number, tops, entry, touch)?;
-        let slot = cluster.first(scene, claims);
-        clusters.ranked.push(cluster)?;
-        return Ok(slot);
-    }
-    note(claims, &mut clusters.seen, i)?;
     let standing = Standing {
         claims,
         priorities: scene.priorities,
     };
-    best_knowing(
+    let slot = best_knowing(
         scene.alloc,
         scene.store,
         scene.index,
@@ -148,74 +217,9 @@ pub(crate) fn choose<F: Ledger, E: Ledger, T: Ledger>(
         tops,
         entry,
         touch,
-    )
-}
-
-// The place among the clusters of that whose jobs have the ad of a request, and users with the same number.
-fn cluster_of(
-    scene: &Scene<'_>,
-    claims: &ClaimTable,
-    ranked: &[Cluster],
-    request: &Request,
-    number: u64,
-) -> Option<usize>
-    requires { All (IsCluster scene.now.moment (stock_in scene.now) (settings_in scene.now) (jobs_of claims.now)) ranked.now }
-    ensures within { IfSome result (λ k. k < length ranked.now) }
-    ensures alike { IfSome result (λ k. (cluster : Cluster) → slice_get ranked.now k ≡ Some cluster → AreAlike (ad_at (jobs_of claims.now) cluster.place) (ad_frames request.now.ad)) }
-    ensures same { IfSome result (λ k. (cluster : Cluster) → slice_get ranked.now k ≡ Some cluster → cluster.number ≡ number) }
-{
-    for k in 0..ranked.len() {
-        if ranked[k].number == number && has_ad(claims, ranked[k].place, request) {
-            return Some(k);
-        }
-    }
-    None
-}
-
-// Whether a job at one of these places has the ad of a request, and a user with the same number.
-fn was_seen(
-    scene: &Scene<'_>,
-    claims: &ClaimTable,
-    seen: &[usize],
-    request: &Request,
-    number: u64,
-) -> bool
-    requires { All (λ place. place < length (jobs_of claims.now)) seen.now }
-{
-    for place in seen {
-        if has_ad(claims, *place, request) && number_of(scene, claims, *place) == number {
-            return true;
-        }
-    }
-    false
-}
-
-// The number of the user of the job at a place.
-fn number_of(scene: &Scene<'_>, claims: &ClaimTable, place: usize) -> u64
-    requires { place < length (jobs_of claims.now) }
-{
-    scene.priorities.get(claims.user(place).bytes())
-}
-
-// Whether the job at a place has the ad of a request.
-fn has_ad(claims: &ClaimTable, place: usize, request: &Request) -> bool
-    requires { place < length (jobs_of claims.now) }
-    ensures { IsTrue result → AreAlike (ad_at (jobs_of claims.now) place) (ad_frames request.now.ad) }
-{
-    are_alike(&claims.request(place).ad, &request.ad)
-}
-
-// Remembers the ad of job `i`, while there are few.
-fn note(claims: &ClaimTable, seen: &mut Vec<usize>, i: usize) -> Result<(), OutOfMemory>
-    requires within { i < length (jobs_of claims.now) }
-    requires all { All (λ place. place < length (jobs_of claims.now)) seen.old.items }
-    ensures { All (λ place. place < length (jobs_of claims.now)) seen.new.items }
-{
-    if seen.len() >= ADS_LIMIT {
-        return Ok(());
-    }
-    seen.push(i)?;
-    Ok(())
+    )?;
+    clusters.spare = clusters.spare.saturating_add(clusters.known.left.saturating_mul(8));
+    Ok(slot)
 }
 
 // The cluster of the jobs with the ad of job `i`, whose user has this number.
@@ -225,6 +229,7 @@ fn rank<F: Ledger, E: Ledger, T: Ledger>(
     i: usize,
     request: &Request,
     number: u64,
+    known: &mut Known,
     tops: &mut Steps<F>,
     entry: &mut Steps<E>,
     touch: &mut Steps<T>,
@@ -233,7 +238,6 @@ fn rank<F: Ledger, E: Ledger, T: Ledger>(
     requires stored { AreStored (stock_in scene.now) (holder_of (settings_in scene.now) (jobs_of claims.now)) }
     requires job { option_map (λ job. job.request) (slice_get (jobs_of claims.now) i) ≡ Some request.now }
     requires single { request.now.ports ≡ [] }
-    ensures cluster { IfOk result (IsCluster scene.now.moment (stock_in scene.now) (settings_in scene.now) (jobs_of claims.now)) }
     ensures place { IfOk result (λ cluster. cluster.place ≡ i) }
     ensures number { IfOk result (λ cluster. cluster.number ≡ number) }
     ensures evaluations { tops.new ≤ tops.old + 5 * open_count (pool_for scene.now.moment (stock_in scene.now) (settings_in scene.now) (jobs_of claims.now)) (ad_frames request.now.ad) }
@@ -253,6 +257,7 @@ fn rank<F: Ledger, E: Ledger, T: Ledger>(
         request,
         number,
         scene.moment,
+        known,
         tops,
         entry,
         touch,

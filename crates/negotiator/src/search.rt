@@ -67,12 +67,10 @@ fn search<F: Ledger, E: Ledger, T: Ledger>(
     requires index { IsIndex scene.now.index.now (rows_of (stock_in scene.now)) }
     requires stored { AreStored (stock_in scene.now) (holder_of (settings_in scene.now) (jobs_of claims.now)) }
     requires ports { All (λ job. AreOwn (ad_frames job.request.ad) job.request.ports) (jobs_of claims.now) }
-    requires clusters { AreClusters scene.now.moment (stock_in scene.now) (settings_in scene.now) (jobs_of claims.now) clusters.old }
     ensures found { IfOk result (λ slots. slots ≡ found scene.now.moment (stock_in scene.now) (settings_in scene.now) (jobs_of claims.now) i) }
     ensures free { IfOk result (λ slots. IfSome slots (λ list. AreFree list (jobs_of claims.now))) }
     ensures distinct { IfOk result (λ slots. IfSome slots (AllPairs (λ a b. a ≢ b))) }
     ensures enough { IfOk result (λ slots. IfSome slots (λ list. option_map (λ job. wanted job.request) (slice_get (jobs_of claims.now) i) ≡ Some (length list))) }
-    ensures clusters { AreClusters scene.now.moment (stock_in scene.now) (settings_in scene.now) (jobs_of claims.now) clusters.new }
     ensures counted { IsSearched scene.now.moment (stock_in scene.now) (settings_in scene.now) (jobs_of claims.now) i (counts tops.old entry.old touch.old) (counts tops.new entry.new touch.new) }
     ensures ratio { AreSmallAds (stock_in scene.now).ads → AreSmallJobs (jobs_of claims.now) → entry.new + 9216 * tops.old ≤ entry.old + 9216 * tops.new }
 {
@@ -103,12 +101,10 @@ fn search_one<F: Ledger, E: Ledger, T: Ledger>(
     requires stored { AreStored (stock_in scene.now) (holder_of (settings_in scene.now) (jobs_of claims.now)) }
     requires job { option_map (λ job. job.request) (slice_get (jobs_of claims.now) i) ≡ Some request.now }
     requires single { request.now.ports ≡ [] }
-    requires clusters { AreClusters scene.now.moment (stock_in scene.now) (settings_in scene.now) (jobs_of claims.now) clusters.old }
     ensures found { IfOk result (λ slots. slots ≡ found_for scene.now.moment (stock_in scene.now) (settings_in scene.now) (jobs_of claims.now) number request.now) }
     ensures free { IfOk result (λ slots. IfSome slots (λ list. AreFree list (jobs_of claims.now))) }
     ensures distinct { IfOk result (λ slots. IfSome slots (AllPairs (λ a b. a ≢ b))) }
     ensures enough { IfOk result (λ slots. IfSome slots (λ list. wanted request.now ≡ length list)) }
-    ensures clusters { AreClusters scene.now.moment (stock_in scene.now) (settings_in scene.now) (jobs_of claims.now) clusters.new }
     ensures evaluations { tops.new ≤ tops.old + evaluations_for scene.now.moment (stock_in scene.now) (settings_in scene.now) (jobs_of claims.now) request.now }
     ensures entries { entry.new ≤ entry.old + entries_for scene.now.moment (stock_in scene.now) (settings_in scene.now) (jobs_of claims.now) request.now }
     ensures ratio { AreSmallAds (stock_in scene.now).ads → AreSmallJobs (jobs_of claims.now) → entry.new + 9216 * tops.old ≤ entry.old + 9216 * tops.new }
@@ -217,12 +213,10 @@ pub(crate) fn try_job<F: Ledger, E: Ledger, T: Ledger>(
 ) -> Result<Option<Offered>, OutOfMemory>
     requires idle { is_idle_at (jobs_of claims.old) i ≡ true }
     requires ready { IsReady scene.now (jobs_of claims.old) failed.old }
-    requires clusters { AreClusters scene.now.moment (stock_in scene.now) (settings_in scene.now) (jobs_of claims.old) clusters.old }
     ensures offered { IfOk result (λ o. o ≡ option_map (λ slots. offer_named (jobs_of claims.old) (record { job = i; resources = slots })) (found scene.now.moment (stock_in scene.now) (settings_in scene.now) (jobs_of claims.old) i)) }
     ensures table { OnOk result (jobs_of claims.new ≡ option_map_or (λ slots. with_standing (jobs_of claims.old) i (Stage.Matched slots)) (found scene.now.moment (stock_in scene.now) (settings_in scene.now) (jobs_of claims.old) i) (jobs_of claims.old)) }
     ensures err { OnErr result (jobs_of claims.new ≡ jobs_of claims.old) }
     ensures ready { IsReady scene.now (jobs_of claims.new) failed.new }
-    ensures clusters { AreClusters scene.now.moment (stock_in scene.now) (settings_in scene.now) (jobs_of claims.new) clusters.new }
     ensures paid { OnOk result (ArePaid scene.now.moment (stock_in scene.now) (settings_in scene.now) (jobs_of claims.old) (jobs_of claims.new) failed.old failed.new (counts tops.old entry.old touch.old) (counts tops.new entry.new touch.new)) }
     ensures within { AreWithin scene.now.moment (stock_in scene.now) (settings_in scene.now) (jobs_of claims.old) failed.old (counts tops.old entry.old touch.old) (counts tops.new entry.new touch.new) }
     ensures ratio { AreSmallAds (stock_in scene.now).ads → AreSmallJobs (jobs_of claims.old) → entry.new + 9216 * tops.old ≤ entry.old + 9216 * tops.new }

@@ -32,7 +32,6 @@ pub(crate) fn run_turn<F: Ledger, E: Ledger, T: Ledger>(
 ) -> Result<OfferedList, OutOfMemory>
     requires own { queue.now.places ≡ filter (is_of (market_in scene.now (jobs_of claims.old)) queue.now.user) (places (market_in scene.now (jobs_of claims.old)).jobs) }
     requires ready { IsReady scene.now (jobs_of claims.old) failed.old }
-    requires clusters { AreClusters scene.now.moment (stock_in scene.now) (settings_in scene.now) (jobs_of claims.old) clusters.old }
     ensures offers { IfOk result (λ offers. offers ≡ map (offer_named (jobs_of claims.old))
         (turn (market_in scene.now (jobs_of claims.old)) queue.now.user (places (market_in scene.now (jobs_of claims.old)).jobs) slice false [])) }
     ensures table { OnOk result (jobs_of claims.new ≡ with_offers
@@ -40,7 +39,6 @@ pub(crate) fn run_turn<F: Ledger, E: Ledger, T: Ledger>(
     ensures part { OnErr result (IsPart
         (turn (market_in scene.now (jobs_of claims.old)) queue.now.user (places (market_in scene.now (jobs_of claims.old)).jobs) slice false []) (jobs_of claims.old) (jobs_of claims.new)) }
     ensures ready { IsReady scene.now (jobs_of claims.new) failed.new }
-    ensures clusters { AreClusters scene.now.moment (stock_in scene.now) (settings_in scene.now) (jobs_of claims.new) clusters.new }
     ensures paid { OnOk result (ArePaid scene.now.moment (stock_in scene.now) (settings_in scene.now) (jobs_of claims.old) (jobs_of claims.new) failed.old failed.new (counts tops.old entry.old touch.old) (counts tops.new entry.new touch.new)) }
     ensures within { AreWithin scene.now.moment (stock_in scene.now) (settings_in scene.now) (jobs_of claims.old) failed.old (counts tops.old entry.old touch.old) (counts tops.new entry.new touch.new) }
     ensures ratio { AreSmallAds (stock_in scene.now).ads → AreSmallJobs (jobs_of claims.old) → entry.new + 9216 * tops.old ≤ entry.old + 9216 * tops.new }
@@ -83,7 +81,6 @@ pub(crate) fn run_turns<F: Ledger, E: Ledger, T: Ledger>(
     requires active { All (λ k. k < length queues.now) active.now }
     requires slices { length slices.now ≡ length active.now }
     requires ready { IsReady scene.now (jobs_of claims.old) failed.old }
-    requires clusters { AreClusters scene.now.moment (stock_in scene.now) (settings_in scene.now) (jobs_of claims.old) clusters.old }
     ensures turns { IfOk result (λ list. list ≡ map (turn_named (jobs_of claims.old))
         (filter has_offer (turns (market_in scene.now (jobs_of claims.old)) (users_at queues.now active.now) slices.now []))) }
     ensures table { OnOk result (jobs_of claims.new ≡ with_offers
@@ -91,7 +88,6 @@ pub(crate) fn run_turns<F: Ledger, E: Ledger, T: Ledger>(
     ensures part { OnErr result (IsPart
         (offers_in (turns (market_in scene.now (jobs_of claims.old)) (users_at queues.now active.now) slices.now [])) (jobs_of claims.old) (jobs_of claims.new)) }
     ensures ready { IsReady scene.now (jobs_of claims.new) failed.new }
-    ensures clusters { AreClusters scene.now.moment (stock_in scene.now) (settings_in scene.now) (jobs_of claims.new) clusters.new }
     ensures paid { OnOk result (ArePaid scene.now.moment (stock_in scene.now) (settings_in scene.now) (jobs_of claims.old) (jobs_of claims.new) failed.old failed.new (counts tops.old entry.old touch.old) (counts tops.new entry.new touch.new)) }
     ensures within { AreWithin scene.now.moment (stock_in scene.now) (settings_in scene.now) (jobs_of claims.old) failed.old (counts tops.old entry.old touch.old) (counts tops.new entry.new touch.new) }
     ensures ratio { AreSmallAds (stock_in scene.now).ads → AreSmallJobs (jobs_of claims.old) → entry.new + 9216 * tops.old ≤ entry.old + 9216 * tops.new }

@@ -47,8 +47,8 @@ def crates():
 
 
 def seconds_of(names):
-    """Seconds of one processor that the proof of each crate takes, by the table of costs; 100 where it has none."""
-    with open(f"{TOP}/docs/COSTS.md", encoding="utf-8") as text:
+    """Seconds of one processor that the proof of each crate takes, by the table of results; 100 where it has none."""
+    with open(f"{TOP}/bench/RESULTS.md", encoding="utf-8") as text:
         rows = dict(re.findall(r"^\| `(\w+)` \|(.*)\|$", text.read(), re.M))
     column = {name: (row.split("|") + [""] * 5)[4].strip() for name, row in rows.items()}
     return {name: float(column[name]) if column.get(name, "").isdigit() else 100.0 for name in names}
@@ -100,7 +100,7 @@ class Build:
         return self.seconds[name] + max(map(self.chain, above), default=0)
 
     def left(self):
-        """Minutes that are left by the table of costs, where a chain's crates get about two processors each."""
+        """Minutes that are left by the table of results, where a chain's crates get about two processors each."""
         rest = [it for it in self.below if it not in self.done]
         whole = sum(self.seconds[it] for it in rest) / len(os.sched_getaffinity(0))
         return max(round(max([whole, *[self.chain(it) / 2 for it in rest]]) / 60), 1)

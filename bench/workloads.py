@@ -8,6 +8,7 @@ eval       SIZE expressions beside one ad: chains of references, texts, lists, n
 negotiate  SIZE machines, half as many jobs of ten users with priorities; cycles and claims
 gang       SIZE processors and licences; requests that want some of each
 claims     SIZE machines that change hands: claims, preemption, releases, ads advertised anew
+classes    SIZE jobs in 40 classes, each with a number of its own, over some machines
 generate   the script that the program runs with the words `--generate SIZE`, for any size
 """
 import random
@@ -134,6 +135,16 @@ def claims(dice, size):
     yield "list\n"
 
 
+def classes(dice, size):
+    yield from machines(dice, size // 20 + 1)
+    for j in range(size):
+        kind = j % 40
+        ad = f'[ Owner = "{USERS[kind % 10]}"; Size = {kind // 10}; Worth = {kind}; Number = {j}; Began = {dice.randrange(10**9)}; Requirements = TARGET.Memory >= Size * 64 ]'
+        yield with_block(f"submit j{j} {USERS[kind % 10]}", ad)
+    for _ in range(5):
+        yield "classes\n"
+
+
 def generate(dice, size):
     for i in range(size):
         yield with_block(
@@ -159,6 +170,7 @@ KINDS = {
     "negotiate": negotiate,
     "gang": gang,
     "claims": claims,
+    "classes": classes,
     "generate": generate,
 }
 

@@ -19,8 +19,8 @@ from dataclasses import dataclass
 from typing import Callable, Dict, Iterator, List, Mapping, NamedTuple, Optional, Sequence, Tuple, Union
 
 __all__ = [
-    "Ad", "Advertised", "Clock", "Claimed", "Conjunct", "Done", "Ended", "Explanation", "Gang", "Hit", "Hits", "Listing", "Negotiation", "Offer", "Pool", "Refused",
-    "Reply", "Slice", "Spin", "Status", "Value", "Verdict",
+    "Ad", "Advertised", "Classes", "Clock", "Claimed", "Conjunct", "Done", "Ended", "Explanation", "Gang", "Hit", "Hits", "Job", "Jobs", "Listing", "Negotiation", "Offer",
+    "Pool", "Refused", "Reply", "Slice", "Spin", "Status", "User", "Users", "Value", "Verdict",
 ]
 
 
@@ -181,7 +181,49 @@ class Explanation:
     verdicts: Tuple[Verdict, ...]
 
 
-Reply = Union[Done, Advertised, Clock, Ad, Value, Listing, Hits, Gang, Negotiation, Claimed, Explanation]
+@dataclass(frozen=True)
+class Job:
+    """A job of the queue: `idle`, or `matched` or `claimed` with the resources that are offered to it or that it has."""
+
+    name: str
+    user: str
+    state: str
+    resources: Tuple[str, ...]
+
+
+@dataclass(frozen=True)
+class Jobs:
+    """The jobs in the order of their submission."""
+
+    jobs: Tuple[Job, ...]
+
+
+@dataclass(frozen=True)
+class User:
+    """A user with the priority, and how many jobs are idle, matched and claimed."""
+
+    name: str
+    priority: int
+    idle: int
+    matched: int
+    claimed: int
+
+
+@dataclass(frozen=True)
+class Users:
+    """The users who have a job or a priority that is set: the better priority first, and at equal ones by name."""
+
+    users: Tuple[User, ...]
+
+
+@dataclass(frozen=True)
+class Classes:
+    """The names of all jobs in classes: no ad of the pool tells the jobs of one class apart."""
+
+    classes: Tuple[Tuple[str, ...], ...]
+
+
+Reply = Union[Done, Advertised, Clock, Ad, Value, Listing, Hits, Gang, Negotiation, Claimed, Jobs, Users, Explanation, Classes]
 Line = Callable[[], str]
 
 
@@ -258,6 +300,24 @@ def _read_claimed(line: str, more: Line) -> Reply:
     return Claimed(job, tuple(names), ())
 
 
+def _read_job(line: str) -> Job:
+    name, user, state, *resources = line.split(" ")
+    return Job(name, user, state, tuple(resources))
+
+
+def _read_jobs(line: str, more: Line) -> Reply:
+    return Jobs(tuple(_read_job(more()) for _ in range(int(_words(line, "jobs", 2)[0]))))
+
+
+def _read_user(line: str) -> User:
+    name, priority, _, idle, _, matched, _, claimed = line.split(" ")
+    return User(name, int(priority), int(idle), int(matched), int(claimed))
+
+
+def _read_users(line: str, more: Line) -> Reply:
+    return Users(tuple(_read_user(more()) for _ in range(int(_words(line, "users", 2)[0]))))
+
+
 def _read_explanation(line: str, more: Line) -> Reply:
     job, _, ads = _words(line, "why", 4)
     return Explanation(job, int(ads), (), ())
@@ -266,6 +326,10 @@ def _read_explanation(line: str, more: Line) -> Reply:
 def _read_verdict(line: str) -> Verdict:
     name, by, *conjunct = line.split(" ")
     return Verdict(name, by, int(conjunct[0]) if conjunct else None)
+
+
+def _read_classes(line: str, more: Line) -> Reply:
+    return Classes(tuple(tuple(_words(more(), "class", -3)[1:]) for _ in range(int(_words(line, "classes", 2)[0]))))
 
 
 ANSWERS: Dict[str, Answer] = {
@@ -284,7 +348,11 @@ ANSWERS: Dict[str, Answer] = {
     "negotiate": Answer(_read_negotiation),
     "claim": Answer(_read_claimed),
     "release": Answer(_done("released")),
+    "jobs": Answer(_read_jobs),
+    "job": Answer(lambda line, more: Ad(line)),
+    "users": Answer(_read_users),
     "why": Answer(_read_explanation),
+    "classes": Answer(_read_classes),
     "unlisten": Answer(_done("unlistened")),
 }
 
@@ -526,9 +594,23 @@ class Pool:
     def release(self, job: str) -> Done:
         return self._ask(f"release {job}")  # type: ignore[return-value]
 
+    def jobs(self) -> Jobs:
+        return self._ask("jobs")  # type: ignore[return-value]
+
+    def job(self, name: str) -> Ad:
+        """The ad of a job."""
+        return self._ask(f"job {name}")  # type: ignore[return-value]
+
+    def users(self) -> Users:
+        return self._ask("users")  # type: ignore[return-value]
+
     def why(self, job: str) -> Explanation:
         """For how many ads each conjunct of the job's requirement holds, and what keeps each ad from matching."""
         return self._ask_alone(f"why {job}")  # type: ignore[return-value]
+
+    def classes(self) -> Classes:
+        """The jobs in classes that no ad tells apart; a gang is a class of its own."""
+        return self._ask("classes")  # type: ignore[return-value]
 
     def unlisten(self, name: str) -> Done:
         return self._ask(f"unlisten {name}")  # type: ignore[return-value]

@@ -160,6 +160,8 @@ def live(pool: Pool, day: Day) -> None:
 # The picture: three panels over one another, with the hours of the day below.
 
 WIDTH, PANEL, LEFT, TOP_EDGE, GAP = 900, 170, 70, 40, 55
+# A point for each quarter of an hour keeps the file small.
+DRAWN = 900 // STEP
 
 
 def across(moment: float) -> float:
@@ -203,7 +205,7 @@ def by_priority(sample: Sample, user: str) -> float:
 
 
 def picture(day: Day) -> str:
-    samples = day.samples
+    samples = day.samples[::DRAWN]
     most = max(max(sum(it.waiting.values()) for it in samples), 1)
     running = Panel(0, "Jobs that run, by user; the line: machines that are there", max(it.machines for it in samples))
     running.stack(samples, [it.running for it in samples])
@@ -215,7 +217,7 @@ def picture(day: Day) -> str:
         look = f'stroke="{COLOURS[user]}" stroke-width="1.6"'
         share.line([(it.moment, it.running[user] / max(sum(it.running.values()), 1)) for it in samples], look)
         share.line([(it.moment, by_priority(it, user)) for it in samples], look + ' stroke-dasharray="4 4" opacity="0.7"')
-    hours = [sum(it.preempted for it in samples if it.moment // 3600 == hour) for hour in range(24)]
+    hours = [sum(it.preempted for it in day.samples if it.moment // 3600 == hour) for hour in range(24)]
     lost = Panel(3, f"Jobs that were preempted, by hour ({day.preempted} together)", max(hours))
     for hour, number in enumerate(hours):
         x, y = across(hour * 3600), lost.up(number)

@@ -6,7 +6,7 @@ import tempfile
 import unittest
 from typing import Callable, List
 
-from classad_pool import Claimed, Conjunct, Done, Ended, Gang, Hit, Offer, Pool, Refused, Reply, Status, Value, Verdict
+from classad_pool import Ad, Claimed, Classes, Conjunct, Done, Ended, Gang, Hit, Job, Jobs, Offer, Pool, Refused, Reply, Status, User, Users, Value, Verdict
 
 TOP = os.path.dirname(os.path.dirname(os.path.dirname(os.path.abspath(__file__))))
 PROGRAM = os.environ.get("CLASSAD_POOL") or os.path.join(TOP, "crates/classad_pool/out/classad_pool")
@@ -69,6 +69,21 @@ class Commands(unittest.TestCase):
             self.pool.advertise(name, 600, T)
         self.assertEqual(self.pool.gang(ports), Gang(("m1", "m2")))
 
+    def test_the_queue_and_its_users(self) -> None:
+        self.assertEqual((self.pool.jobs(), self.pool.users()), (Jobs(()), Users(())))
+        for name in ("m1", "m2", "m3"):
+            self.pool.advertise(name, 600, T)
+        self.pool.submit("s", "bob", T)
+        self.pool.submit("g", "ann", "[ Ports = { [ Label = a; Requirements = true ], [ Label = b; Requirements = true ] } ]")
+        self.pool.priority("eve", 5)
+        self.pool.negotiate()
+        self.pool.claim("g")
+        self.pool.submit("i", "bob", "[ Requirements = false ]")
+        self.assertEqual(self.pool.jobs().jobs, (Job("s", "bob", "matched", ("m3",)), Job("g", "ann", "claimed", ("m1", "m2")), Job("i", "bob", "idle", ())))
+        self.assertEqual(self.pool.users().users, (User("eve", 5, 0, 0, 0), User("ann", 1000, 0, 0, 1), User("bob", 1000, 1, 1, 0)))
+        self.assertEqual(self.pool.job("i"), Ad("[ Requirements = false ]"))
+        self.refused(8, "name not known", lambda: self.pool.job("m1"))
+
     def test_why(self) -> None:
         self.pool.submit("j", "ann", "[ Requirements = TARGET.Memory >= 64 && true ]")
         self.assertEqual(self.pool.why("j").conjuncts, (Conjunct("TARGET.Memory >= 64", 0), Conjunct("true", 0)))
@@ -79,6 +94,14 @@ class Commands(unittest.TestCase):
         self.assertEqual(found.verdicts, (Verdict("m", "accepted", None), Verdict("conjunct", "request", 1)))
         self.pool.submit("g", "ann", "[ Ports = { [ Label = a; Requirements = true ] } ]")
         self.refused(15, "job is a gang", lambda: self.pool.why("g"))
+
+    def test_classes(self) -> None:
+        self.assertEqual(self.pool.classes(), Classes(()))
+        for job, size in (("a", 1), ("b", 2), ("c", 1)):
+            self.pool.submit(job, "ann", f"[ Size = {size}; Requirements = true ]")
+        self.assertEqual(self.pool.classes(), Classes((("a", "b", "c"),)))
+        self.pool.advertise("m", 600, "[ Rank = TARGET.Size; Requirements = true ]")
+        self.assertEqual(self.pool.classes(), Classes((("a", "c"), ("b",))))
 
     def test_mailboxes(self) -> None:
         with tempfile.TemporaryDirectory() as folder, Pool(PROGRAM, {"ann": f"{folder}/ann"}) as pool:

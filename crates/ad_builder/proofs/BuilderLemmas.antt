@@ -1,5 +1,5 @@
 -- How a builder changes with each instruction.
-use Rattle.std.proofs.Common.{◌≡◌, ℕ, ◌+◌, min, Bool, true, false, ◌&&◌, List, [], ◌∷◌, ◌++◌, length, map, slice_get, Some, Result, Ok, Err, IfOk, OnOk, refl, sym, subst, ap, ◌∙◌, arith}
+use Rattle.std.proofs.Common.{◌≡◌, ℕ, ◌+◌, min, Bool, true, false, ◌&&◌, List, [], ◌∷◌, ◌++◌, length, map, slice_get, Some, Result, Ok, Err, IfOk, OnOk, refl, sym, subst, ap, ◌∙◌}
 use Rattle.ad_tree.specs.Draft.{draft_frames}
 use Rattle.ad_tree.specs.Frames.{Frame, IsAd, attributes_at, empty_frame, defined}
 use Rattle.ad_tree.specs.Inline.{Inline, inner, no_defs, frames, height, number, spelled, spelled_tree, ad_of, phrase_of, phrase_tree}
@@ -327,7 +327,3 @@ last-measured [] o st e h = absurd cc
 last-measured (first ∷ os) o st e h =
     let same : first ≡ o = cc in
     ap (λ p. (measure_of p).height) (sym same) ∙ (taken (measure_of first) (map measure_of os) st h).0.height
-
-pub nothing-measured : (st : List Inline) → AreMeasures [] st → 1 ≡ min tallest_measured (height (top st))
-nothing-measured [] h = omega arith
-nothing-measured (x ∷ st) h = absurd h

@@ -1,5 +1,5 @@
 -- A tree that is too high stays part of a tree that is, whatever is carried out.
-use Rattle.std.proofs.Common.{◌≡◌, ℕ, ◌<◌, ◌≤◌, ◌⊎◌, List, [], ◌∷◌, inl, inr, arith}
+use Rattle.std.proofs.Common.{ℕ, ◌<◌, ◌≤◌, ◌⊎◌, List, [], ◌∷◌, inl, inr, arith}
 use Rattle.ad_tree.specs.Inline.{Inline, shape, inner, height}
 use Rattle.ad_tree.specs.Tree.{all, any, unary, select, subscript, choice}
 use Rattle.ad_builder.specs.Carried.{AreLow}
@@ -85,13 +85,6 @@ pub top-high : (st : List Inline) → tallest_built < height (top st) → IsHigh
 top-high [] tall = absurd (omega (arith, tall))
 top-high (x ∷ st) tall = inl tall
 
--- and the only tree is the last
-pub alone-high : (st : List Inline) → below st ≡ [] → IsHigh st → tallest_built < height (top st)
-alone-high [] none h = absurd h
-alone-high (x ∷ []) none (inl tall) = tall
-alone-high (x ∷ []) none (inr h) = absurd h
-alone-high (x ∷ y ∷ st) none h = absurd cc
-
 -- ---- stacks without a tree that is too high
 
 below-low : (st : List Inline) → AreLow st → AreLow (below st)
@@ -113,10 +106,6 @@ step-low instructions.Element st h low = (low, below-low (below st) (below-low s
 step-low instructions.Ad st h low = (low, h)
 step-low (instructions.Define text) st h low = (low, below-low (below st) (below-low st h))
 step-low instructions.Close st h low = h
-
-pub top-low : (st : List Inline) → AreLow st → height (top st) ≤ tallest_built
-top-low [] h = omega arith
-top-low (x ∷ st) h = h.0
 
 pub low-not-high : (st : List Inline) → AreLow st → IsHigh st → ⊥
 low-not-high [] h high = high

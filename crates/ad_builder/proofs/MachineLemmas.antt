@@ -1,18 +1,17 @@
 -- What instructions make of a stack, one after another, and what a machine keeps of it.
 use Rattle.std.proofs.Common.{◌≡◌, ℕ, zero, suc, ◌+◌, nat_lt, min, Bool, true, false, List, [], ◌∷◌, ◌++◌, refl, sym, subst, ap, ◌∙◌, add-one, arith}
 use Rattle.std.proofs.lemmas.Bool.Decides.{nat_tests}
-use Rattle.ad_tree.specs.Inline.{Inline, height, count, definitions}
+use Rattle.ad_tree.specs.Inline.{Inline, height}
 use Rattle.ad_builder.specs.Builds.{Holds}
 use Rattle.ad_builder.specs.Carried.{AreLow, IsCarried}
-use Rattle.ad_builder.specs.Counts.{tallest_measured, counting_limit, AreCounted}
+use Rattle.ad_builder.specs.Counts.{tallest_measured}
 use Rattle.ad_builder.specs.Leaves.{is_leaf}
-use Rattle.ad_builder.specs.Machine.{top, below, step, run, stack, chosen}
-use Rattle.ad_builder.specs.Sizes.{IsHigh, IsSize}
+use Rattle.ad_builder.specs.Machine.{top, step, run, stack, chosen}
+use Rattle.ad_builder.specs.Sizes.{IsHigh}
 use Rattle.ad_builder.specs.declared.builder.Builder.{Builder}
 use Rattle.ad_builder.specs.declared.instruction.Instruction.{Instruction}
 use Rattle.ad_builder.specs.declared.instruction.Instruction.TheVariants as instructions
-use Rattle.ad_builder.specs.declared.size.Size.{Size}
-use Rattle.ad_builder.proofs.HighLemmas.{step-high, step-low, top-high, top-low, low-not-high, alone-high}
+use Rattle.ad_builder.proofs.HighLemmas.{step-high, step-low, top-high, low-not-high}
 
 run-last : (is : List Instruction) (i : Instruction) (st : List Inline) → run (is ++ i ∷ []) st ≡ step i (run is st)
 run-last [] i st = refl
@@ -93,19 +92,3 @@ module _ (is js ks : List Instruction) (i : Instruction) (first : js ≡ is ++ i
 -- a machine that builds has no tree that is too high
 pub builds-low : (is_ad : Bool) {is_high : Bool} (b : Builder) (st : List Inline) → IsCarried is_ad is_high b st → is_high ≡ false → IsHigh st → ⊥
 builds-low is_ad b st h low high = low-not-high st (subst (λ a. IsCarried is_ad a b st) low h).1 high
-
--- ---- the size of the only tree
-
-module _ (is_ad : Bool) (size : Size) (b : Builder) (st : List Inline) (alone : below st ≡ []) where
-  counts : (s : List Inline) → below s ≡ [] → (f d : ℕ) → AreCounted f d s → (f ≡ min counting_limit (count (top s))) × (d ≡ min counting_limit (definitions (top s)))
-  counts [] none f d c = (omega (arith, c.frames), omega (arith, c.definitions))
-  counts (x ∷ []) none f d c = (omega (arith, c.frames), omega (arith, c.definitions))
-  counts (x ∷ y ∷ s) none f d c = absurd cc
-
-  pub sized : size.frames ≡ b.frames → size.definitions ≡ b.definitions → IsCarried is_ad size.is_high b st → IsSize size (top st)
-  sized frames defs h = record {
-    high = λ high. alone-high st alone (subst (λ a. IsCarried is_ad a b st) high h);
-    low = λ low. top-low st (subst (λ a. IsCarried is_ad a b st) low h).1;
-    frames = λ low. frames ∙ (counts st alone b.frames b.definitions (subst (λ a. IsCarried is_ad a b st) low h).0.counted).0;
-    definitions = λ low. defs ∙ (counts st alone b.frames b.definitions (subst (λ a. IsCarried is_ad a b st) low h).0.counted).1;
-  }

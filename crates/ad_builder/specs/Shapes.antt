@@ -4,16 +4,19 @@ use Rattle.ad_tree.specs.Tree.{Label, binary, all, any}
 use Rattle.ad_builder.specs.declared.instruction.Infix.{Infix}
 use Rattle.ad_builder.specs.declared.instruction.Infix.TheVariants as infixes
 
--- a leaf, and nodes with one, two and three trees below
+-- a node with no tree below
 abbrev pub leaf : Label → Inline
 leaf label = shape label end
 
+-- a node with one tree below
 abbrev pub over_one : Label → Inline → Inline
 over_one label x = shape label (next x end)
 
+-- a node with two trees below
 abbrev pub over_two : Label → Inline → Inline → Inline
 over_two label x y = shape label (next x (next y end))
 
+-- a node with three trees below
 abbrev pub over_three : Label → Inline → Inline → Inline → Inline
 over_three label x y z = shape label (next x (next y (next z end)))
 

@@ -128,6 +128,7 @@ impl Builder {
         })
     }
 
+    /// Carries out one instruction of the parser on the trees that are built so far.
     #[inline(always)]
     pub fn carry_out(&mut self, instruction: Instruction) -> Result<(), OutOfMemory>
         ensures { Carries instruction self.old self.new result }

@@ -1,4 +1,4 @@
-// The machine.
+// The machine that builds a tree on a stack, one instruction after the other.
 ghost use Rattle.std.specs.Prelude.{◌≡◌, ◌∷◌, [], true, IfOk, IsOk, OnErr, OnOk};
 ghost use Rattle.ad_tree.specs.Ad.{ad_frames};
 ghost use Rattle.ad_tree.specs.Inline.{inner, no_defs, ad_of, phrase_of, phrase_tree};

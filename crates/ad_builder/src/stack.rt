@@ -1,4 +1,4 @@
-// Stacks.
+// A stack of items, of which contracts see the last one first.
 use pool_text::OutOfMemory;
 use std::alloc::Global;
 use std::marker::Model;
@@ -23,6 +23,7 @@ impl<T: Drop> Stack<T> {
     ghost use Rattle.std.specs.Borrow.{LendsIf, sem};
     ghost use Rattle.ad_builder.specs.contracts.stack.Stack.{the_row};
 
+    /// No items.
     pub fn new(alloc: Global) -> Stack<T>
         ensures { result ≡ [] }
     {
@@ -31,6 +32,7 @@ impl<T: Drop> Stack<T> {
         }
     }
 
+    /// Adds an item, which is then the last.
     #[inline(always)]
     pub fn push(&mut self, item: T) -> Result<(), OutOfMemory>
         ensures { OnOk result (self.new ≡ item ∷ self.old) }
@@ -76,6 +78,7 @@ impl<T: Drop> Stack<T> {
         self.items.last_mut()
     }
 
+    /// Whether there are no items.
     pub fn is_empty(&self) -> bool
         ensures { Decides result (self.now ≡ []) }
     {

@@ -18,10 +18,6 @@ pub Some-or-None : {A : Type 0} (o : Option A) → (o ≡ None) ⊎ ((v : A) × 
 Some-or-None None = inl refl
 Some-or-None (Some v) = inr (v, refl)
 
-None-IsSome : {A : Type 0} (o : Option A) → o ≡ None → IsSome o → ⊥
-None-IsSome None e h = cc
-None-IsSome (Some v) e h = cc
-
 IsSome-then : {A B : Type 0} (k : A → Option B) (o : Option A) → IsSome (option_and_then k o) → (v : A) × (o ≡ Some v) × IsSome (k v)
 IsSome-then k None h = absurd (cc)
 IsSome-then k (Some v) h = (v, refl, h)
@@ -53,10 +49,6 @@ HasHeight-value f v h t n u e = by (cases_le h n)
     by : (h ≤ n) ⊎ (n < h) → (h ≤ n) × (u ≡ v)
     by (inl le) = (le, cc (t.reached n le))
     by (inr lt) = absurd (cc (t.short n lt))
-
--- what gives its value with no references
-pub HasHeight-leaf : {A : Type 0} (f : ℕ → Option A) (v : A) → ((n : ℕ) → f n ≡ Some v) → HasHeight f v 0
-HasHeight-leaf f v always = record { reached = λ n le. always n; short = λ n lt. absurd (omega arith) }
 
 -- ---- f is evaluated in part, and rest is what is left
 
@@ -179,10 +171,7 @@ module _ (w : PlainWorld) where
     };
     pending = p.pending;
   }
-
   -- the whole is reached at once
-  pub reached_leaf : {A : Type 0} (f : ℕ → Option A) (left : ℕ) (g : Guard) (v : A) → IsReady w g f → ((n : ℕ) → f n ≡ Some v) → IsReached w f left g g v 0
-  reached_leaf f left g v ready always = ends_with f left g g f 0 v (starts f left g ready) always
 
 -- ---- the same under other names
 

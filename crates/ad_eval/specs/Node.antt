@@ -1,4 +1,5 @@
--- The value of one node of an expression, over the results of the nodes below it. A result is none where the bound on references was passed; what isn't demanded isn't looked at.
+-- The value of one node of an expression, over the results of the nodes below it. A result is none where the bound on references
+-- was passed; what isn't demanded isn't looked at.
 use Rattle.std.specs.Prelude.{ℕ, pos, true, false, List, [], ◌∷◌, length, Option, None, Some, option_map, option_and_then, codes, if◌then◌else◌}
 use Rattle.std.specs.Option.{option_map_or}
 use Rattle.pool_text.specs.declared.language.AdPlace.{AdPlace}

@@ -30,16 +30,18 @@ value_with n w p e = value_by (value_at n w) w p e
 abbrev pub references : ℕ
 references = 24
 
--- the value of an expression, and of an attribute: Error as a whole where the references don't suffice
+-- the value of an expression: Error as a whole where the references don't suffice
 abbrev pub evaluation : PlainWorld → AdPlace → Tree → Plain
 evaluation w p e = unwrap_or (value_with references w p e) error
 
+-- the value of an attribute: Error as a whole where the references don't suffice, and where there is no such attribute
 abbrev pub evaluation_at : PlainWorld → Pos → Plain
 evaluation_at w s = unwrap_or (value_at references w s) error
 
--- the value of a part of an attribute's expression, whose reference to the attribute is spent: Error as a whole where the other references don't suffice
+-- so many references are left within an attribute's expression: the one to the attribute itself is spent
 abbrev pub inner_references : ℕ
 inner_references = 23
 
+-- the value of a part of an attribute's expression: Error as a whole where the references that are left don't suffice
 abbrev pub inner_evaluation : PlainWorld → AdPlace → Tree → Plain
 inner_evaluation w p e = unwrap_or (value_with inner_references w p e) error

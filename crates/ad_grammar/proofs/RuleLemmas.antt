@@ -93,13 +93,6 @@ colon_lacks x (quoted t ∷ ws) h = refl
 colon_lacks x (constant l ∷ ws) h = refl
 colon_lacks x (mark m ∷ ws) h = elim m as (λ n. Lacks Colon (mark n ∷ ws) → colon x (mark n ∷ ws) ≡ None) [ Colon ↦ λ l. absurd (l ws refl) | _ ↦ λ l. refl ] h
 
-assign_lacks : {A : Type 0} (f : List Word → Reading A) (ws : List Word) → Lacks Assign ws → assigned f ws ≡ None
-assign_lacks f [] h = refl
-assign_lacks f (plain t ∷ ws) h = refl
-assign_lacks f (quoted t ∷ ws) h = refl
-assign_lacks f (constant l ∷ ws) h = refl
-assign_lacks f (mark m ∷ ws) h = elim m as (λ n. Lacks Assign (mark n ∷ ws) → assigned f (mark n ∷ ws) ≡ None) [ Assign ↦ λ l. absurd (l ws refl) | _ ↦ λ l. refl ] h
-
 comma_lacks : (more : List Word → Reading Inlines) (x : Inline) (ws : List Word) → Lacks Comma ws → several_behind more x ws ≡ Some (next x end, ws)
 comma_lacks more x [] h = refl
 comma_lacks more x (plain t ∷ ws) h = refl

@@ -62,6 +62,7 @@ mutual
     nothing : IsList [] end
     something : (ws : List Word) (xs : Inlines) → IsSeveral ws xs → IsList ws xs
 
+  -- one expression or more, divided by commas
   pub data IsSeveral : List Word → Inlines → Type 0 where
     last_one : (ws : List Word) (x : Inline) → IsExpr ws x → IsSeveral ws (next x end)
     one_more : (ws a b : List Word) (x : Inline) (xs : Inlines) → ws ≡ a ++ mark Comma ∷ b → IsExpr a x → IsSeveral b xs → IsSeveral ws (next x xs)

@@ -27,11 +27,12 @@ abbrev pub number_of : Inlines → ℕ
 number_of end = 0
 number_of (next i is) = suc (number_of is)
 
--- whether the first of them is a chain of `&&`, and of `||`
+-- whether the first of them is a chain of `&&`
 abbrev pub begins_with_all : Inlines → Bool
 begins_with_all (next (shape all is) rest) = true
 begins_with_all is = false
 
+-- whether the first of them is a chain of `||`
 abbrev pub begins_with_any : Inlines → Bool
 begins_with_any (next (shape any is) rest) = true
 begins_with_any is = false
@@ -51,7 +52,7 @@ IsNode subscript is = number_of is ≡ 2
 IsNode (call text) is = Spells kinds.Plain text
 IsNode list is = Unit {0}
 
--- the same of each node of a tree, of the names of its definitions, and of the words that it is made of
+-- the same of each node of a tree, and of the names of its definitions
 abbrev mutual
   pub IsMade : Inline → Type 0
   IsMade (shape label is) = IsNode label is × AllMade is
@@ -65,12 +66,14 @@ abbrev mutual
   DefsMade no_defs = Unit {0}
   DefsMade (def text i ds) = IsNameText text × IsMade i × DefsMade ds
 
+-- a word that a text can hold: a plain name spelled as one, a quoted one that is a name's text, a literal of a text, or a symbol
 abbrev pub IsMadeWord : Word → Type 0
 IsMadeWord (plain text) = Spells kinds.Plain text
 IsMadeWord (quoted text) = IsNameText text
 IsMadeWord (constant lit) = IsWritten lit
 IsMadeWord (mark m) = Unit {0}
 
+-- a text can hold each of these words
 abbrev pub AreMade : List Word → Type 0
 AreMade [] = Unit {0}
 AreMade (w ∷ ws) = IsMadeWord w × AreMade ws

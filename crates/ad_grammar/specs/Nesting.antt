@@ -28,5 +28,6 @@ abbrev pub nests_deeper : ℕ → ℕ → List Word → Bool
 nests_deeper opened closed [] = false
 nests_deeper opened closed (w ∷ ws) = nat_lt (closed + closing w + nesting_limit) (opened + opening w) || nests_deeper (opened + opening w) (closed + closing w) ws
 
+-- behind some of the words, more constructs are open than may be
 abbrev pub nests_too_deep : List Word → Bool
 nests_too_deep ws = nests_deeper 0 0 ws

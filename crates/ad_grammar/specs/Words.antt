@@ -36,15 +36,17 @@ scopes = (codes "my", My) ∷ (codes "self", My) ∷ (codes "target", Target) �
 abbrev pub scope_of : List ℕ → Option Scope
 scope_of name = meaning_of scopes (folded name)
 
+-- a word, or the literal undefined for none; each reserved word stands in its table, so it is never for none
 abbrev pub or_undefined : Option Word → Word
 or_undefined None = constant Undefined
 or_undefined (Some word) = word
 
+-- a symbol as a word, or the literal undefined for none; each symbol stands in its table, so it is never for none
 abbrev pub mark_word : Option Mark → Word
 mark_word None = constant Undefined
 mark_word (Some m) = mark m
 
--- the word of a token; each reserved word and each symbol stands in its table
+-- the word of a token of this kind with these bytes
 abbrev pub word_of_kind : TokenKind → List ℕ → Word
 word_of_kind kinds.Plain bytes = plain bytes
 word_of_kind kinds.Reserved bytes = or_undefined (meaning_of reserved_words (folded bytes))
@@ -54,6 +56,7 @@ word_of_kind kinds.Int bytes = constant (Integer (pos (value bytes)))
 word_of_kind kinds.Dec bytes = constant (Decimal (pos (millionths bytes)))
 word_of_kind kinds.Symbol bytes = mark_word (meaning_of marks bytes)
 
+-- the word of a token
 abbrev pub word : Lexeme → Word
 word token = word_of_kind token.kind token.text
 

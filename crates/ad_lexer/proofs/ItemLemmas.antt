@@ -20,7 +20,7 @@ use Rattle.ad_lexer.specs.Symbols.{is_symbol}
 use Rattle.ad_lexer.specs.Tokens.{IsToken, Item, blank, token, bytes_of, IsItem}
 use Rattle.ad_lexer.specs.Words.{begins_word, is_word, is_word_byte, is_reserved}
 use Rattle.ad_lexer.specs.Reading as reading
-use Rattle.ad_lexer.specs.Reading.{begin_of, at_begin, next, word, number, symbol, symbol_len, symbol_of, slash}
+use Rattle.ad_lexer.specs.Reading.{begin_of, next, symbol, symbol_len, symbol_of}
 use Rattle.ad_lexer.proofs.Begins.{begin_is, begin_number}
 use Rattle.ad_lexer.proofs.FractionLemmas.{decimal_begins, decimal_fraction, decimal_nonempty, decimal_reaches}
 use Rattle.ad_lexer.proofs.Fronts.{BlankAt, TokenAt, Stands}

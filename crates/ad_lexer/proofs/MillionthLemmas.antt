@@ -1,5 +1,5 @@
 -- The text of fewer than 2^63 millionths is a decimal of so many, and digits of 2^63 and more are too many.
-use Rattle.std.proofs.Common.{◌≡◌, ℕ, zero, suc, decimal, ◌+◌, ◌*◌, ◌/◌, ◌%◌, ◌^◌, ◌<◌, ◌≤◌, Bool, true, false, cond, eqb, ltb, not, ◌&&◌, List, [], ◌∷◌, ◌++◌, length, take, refl, sym, ◌∙◌, ap, subst, arith, mod-lt}
+use Rattle.std.proofs.Common.{◌≡◌, ℕ, zero, suc, decimal, ◌+◌, ◌*◌, ◌/◌, ◌%◌, ◌^◌, ◌<◌, Bool, true, false, cond, eqb, ltb, not, ◌&&◌, List, [], ◌∷◌, length, take, refl, sym, ◌∙◌, ap, arith, mod-lt}
 use Rattle.std.proofs.lemmas.Bool.{and_parts, and_from, eqb-true, lt-ltb, true≢false}
 use Rattle.std.proofs.lemmas.Bool.Decides.{nat_tests}
 use Rattle.std.proofs.lemmas.Fmt.{decimal_is_IsNumeral}
@@ -7,7 +7,7 @@ use Rattle.std.specs.Char.{is_ascii_digit, digit_value, is_digit}
 use Rattle.std.specs.List.{list_all}
 use Rattle.std.specs.Str.Parse.{AllDigits, digits_value}
 use Rattle.pool_text.specs.Number.{six_digits, printed_digits, fraction_text, size_text}
-use Rattle.ad_lexer.specs.Numbers.{digits_len, first_six, fraction_digits, is_decimal_number, is_dotted, millionths, whole_digits}
+use Rattle.ad_lexer.specs.Numbers.{first_six, fraction_digits, is_decimal_number, is_dotted, millionths, whole_digits}
 use Rattle.ad_lexer.proofs.FractionLemmas.{dotted_is}
 use Rattle.ad_lexer.proofs.Runs.{all_weaker, run_passes}
 

@@ -7,12 +7,11 @@ use Rattle.std.specs.Char.{is_ascii_digit, is_ascii_hexdigit, is_digit}
 use Rattle.std.specs.List.{list_all, prefix_len}
 use Rattle.ad_lexer.specs.Blanks.{begins_comment}
 use Rattle.ad_lexer.specs.Faults.{is_bad_decimal, is_bad_number, behind_number, Wrong}
-use Rattle.ad_lexer.specs.Numbers.{is_hexadecimal, base, digits, digits_len, has_fraction, value, is_decimal_number, is_integer, is_number, number_len}
+use Rattle.ad_lexer.specs.Numbers.{is_hexadecimal, base, digits, digits_len, has_fraction, value, is_integer, is_number, number_len}
 use Rattle.ad_lexer.specs.Words.{is_word_byte}
 use Rattle.ad_lexer.specs.declared.fault.LexKind.TheVariants as kinds
 use Rattle.ad_lexer.specs.declared.next.Step.TheVariants as steps
 use Rattle.ad_lexer.specs.declared.token.TokenKind.{TokenKind}
-use Rattle.ad_lexer.specs.declared.token.TokenKind.TheVariants.{Int, Dec}
 use Rattle.ad_lexer.specs.Reading.{number, number_kind, is_whole, is_decimal_mark}
 use Rattle.ad_lexer.specs.Spelling.{Spells}
 use Rattle.ad_lexer.proofs.Fronts.{TokenAt, Stands, first_bytes}

@@ -19,6 +19,7 @@ abbrev pub has_close : List ℕ → Bool
 has_close [] = false
 has_close (byte ∷ bytes) = (byte == 42 && slice_index bytes 0 == 47) || has_close bytes
 
+-- one byte of white space
 abbrev pub IsSpace : List ℕ → Type 0
 IsSpace bytes = (byte : ℕ) × (bytes ≡ byte ∷ []) × (is_space byte ≡ true)
 

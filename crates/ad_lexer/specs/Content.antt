@@ -13,6 +13,7 @@ octal_value first second third =
 abbrev pub octal_len : ℕ → ℕ → ℕ
 octal_len second third = if not (is_octal_digit second) then 2 else (if not (is_octal_digit third) then 3 else 4)
 
+-- what an escape of one letter means, and where it is none, this value of octal digits
 abbrev pub or_octal : Option ℕ → ℕ → ℕ
 or_octal None value = value
 or_octal (Some meant) value = meant

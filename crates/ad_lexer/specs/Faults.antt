@@ -28,6 +28,7 @@ pub record ReadsTo (quote : ℕ) (text rest : List ℕ) (place : ℕ) : Type 0 w
 abbrev pub HasNul : List ℕ → ℕ → Type 0
 HasNul text place = (quote : ℕ) × (more : List ℕ) × ReadsTo quote text (0 ∷ more) place
 
+-- a quoted name of no letters stands first
 abbrev pub IsEmptyName : List ℕ → Type 0
 IsEmptyName text = (more : List ℕ) × (text ≡ 39 ∷ 39 ∷ more)
 

@@ -36,6 +36,7 @@ escaped byte =
     else (if byte == 92 || byte == 34 || byte == 39 then Some byte
     else None)))))
 
+-- `0` to `7`
 abbrev pub is_octal_digit : ℕ → Bool
 is_octal_digit byte = nat_le 48 byte && nat_le byte 55
 

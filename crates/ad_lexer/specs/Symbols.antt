@@ -1,4 +1,4 @@
--- The symbols.
+-- The symbols of the language, which are tokens.
 use Rattle.std.specs.Prelude.{ℕ, Bool, List, [], ◌∷◌, codes}
 use Rattle.std.specs.List.{list_any}
 use Rattle.std.specs.Str.{bytes_eq}

@@ -24,6 +24,7 @@ pub data Item : Type 0 where
   blank : List ℕ → Item
   token : TokenKind → List ℕ → Item
 
+-- the bytes of an item
 abbrev pub bytes_of : Item → List ℕ
 bytes_of (blank bytes) = bytes
 bytes_of (token kind bytes) = bytes

@@ -18,6 +18,7 @@ abbrev pub is_word : List ℕ → Bool
 is_word [] = false
 is_word (byte ∷ bytes) = begins_word byte && list_all is_word_byte bytes
 
+-- the reserved words, in small letters
 abbrev pub reserved : List (List ℕ)
 reserved = codes "true" ∷ codes "false" ∷ codes "undefined" ∷ codes "error" ∷ codes "is" ∷ codes "isnt" ∷ []
 

@@ -1,4 +1,4 @@
-// Symbols.
+// The longest symbol at the front of a text.
 ghost use Rattle.std.specs.Prelude.{◌≡◌, ◌<◌, ◌≤◌, length, slice_index, IfSome, Some, None};
 ghost use Rattle.ad_lexer.specs.Marks.{opening};
 ghost use Rattle.ad_lexer.specs.Reading as spec;

@@ -14,7 +14,7 @@ use Rattle.ad_grammar.specs.Nesting.{nests_too_deep}
 use Rattle.ad_parser.specs.Limits.{height_limit, frame_limit, definition_limit}
 use Rattle.ad_grammar.specs.Words.{Word, words}
 
--- a text has these words, which don't nest too deep
+-- a text has these words
 pub record HasWords (text : List ℕ) (ws : List Word) : Type 0 where
   pub tokens : List Lexeme
   pub has : Tokens text tokens
@@ -27,10 +27,11 @@ pub record Spells (rule : List Word → Inline → Type 0) (text : List ℕ) (x 
   pub shallow : nests_too_deep ws ≡ false
   pub reads : rule ws x
 
--- how many frames a tree has as an expression, whose root is empty, and as an ad
+-- how many frames a tree has as an expression: those of its ad literals, and a root, which is empty
 abbrev pub frames_of_expr : Inline → ℕ
 frames_of_expr x = suc (count x)
 
+-- how many frames a tree has as an ad: those of its ad literals, of which one is the ad itself
 abbrev pub frames_of_ad : Inline → ℕ
 frames_of_ad x = count x
 

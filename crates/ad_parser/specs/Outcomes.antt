@@ -17,10 +17,11 @@ abbrev pub HasOutcome : (List Word → Inline → Type 0) → (Inline → ℕ) �
 HasOutcome rule frames text (Ok x) = Spells rule text x × IsWithin frames x
 HasOutcome rule frames text (Err fault) = HasFault rule frames text fault
 
--- as an expression, and as an ad
+-- a text has this outcome as an expression
 abbrev pub HasExprOutcome : List ℕ → Result Inline ParseFault → Type 0
 HasExprOutcome text outcome = HasOutcome IsExpr frames_of_expr text outcome
 
+-- a text has this outcome as an ad
 abbrev pub HasAdOutcome : List ℕ → Result Inline ParseFault → Type 0
 HasAdOutcome text outcome = HasOutcome IsRoot frames_of_ad text outcome
 

@@ -2,7 +2,7 @@
 use Rattle.std.proofs.Common.{◌≡◌, ℕ, zero, suc, ◌+◌, ◌-◌, ◌<◌, ◌≤◌, List, [], ◌∷◌, ◌++◌, codes, length, drop, slice_get, Option, None, Some, option_map, Result, Ok, Err, OnOk, refl, sym, ◌∙◌, ap, subst, arith, append_assoc, append-nil, add-one}
 use Rattle.std.proofs.Math.ListN.{drop_of_length-le}
 use Rattle.std.proofs.lemmas.Option.{slice_get_past}
-use Rattle.ad_lexer.specs.Tokens.{Item, blank, token, bytes_of}
+use Rattle.ad_lexer.specs.Tokens.{Item, blank, token}
 use Rattle.ad_lexer.specs.declared.token.TokenKind.TheVariants as kinds
 use Rattle.ad_tree.specs.Frames.{Frame, attributes_in, attributes_at}
 use Rattle.ad_tree.specs.Inline.{inner, Defs, no_defs, inlined_all, inside, opened, defs_of}
@@ -12,13 +12,6 @@ use Rattle.ad_printer.specs.Pieces.{text_of, space, symbol, spaced, then_space, 
 use Rattle.ad_printer.specs.Printed.{pieces, operands, definition_pieces}
 use Rattle.ad_printer.specs.Writing.{Adds, part_in, pieces_in, row_in, definition_in, definitions_in}
 use Rattle.ad_printer.proofs.StandLemmas.{text_of-append}
-
--- a text that grew by one piece, and by the bytes of pieces
-pub adds_item : (before after : List ℕ) (i : Item) → after ≡ before ++ bytes_of i → Adds before (i ∷ []) after
-adds_item before after i is = record { grown = is ∙ ap (λ (t : List ℕ). before ++ t) (sym (append-nil (bytes_of i))) }
-
-pub adds_bytes : (before after : List ℕ) (items : List Item) → after ≡ before ++ text_of items → Adds before items after
-adds_bytes before after items is = record { grown = is }
 
 pub adds_both : (before middle after : List ℕ) (xs ys : List Item) → Adds before xs middle → Adds middle ys after → Adds before (xs ++ ys) after
 adds_both before middle after xs ys a b = record {
@@ -30,10 +23,6 @@ adds_then before middle after xs ys a is = adds_both before middle after xs ys a
 
 pub adds_after : (before middle after : List ℕ) (xs ys : List Item) → middle ≡ before ++ text_of xs → Adds middle ys after → Adds before (xs ++ ys) after
 adds_after before middle after xs ys is b = adds_both before middle after xs ys (record { grown = is }) b
-
--- pieces, what divides them from others, and these
-pub adds_divided : (before one two after : List ℕ) (xs divider ys : List Item) → Adds before xs one → two ≡ one ++ text_of divider → Adds two ys after → Adds before (xs ++ (divider ++ ys)) after
-adds_divided before one two after xs divider ys a is b = adds_both before one after xs (divider ++ ys) a (adds_after one two after divider ys is b)
 
 -- pieces between others
 pub adds_within : (before one two after : List ℕ) (left xs right : List Item) → one ≡ before ++ text_of left → Adds one xs two → after ≡ two ++ text_of right → Adds before (left ++ (xs ++ right)) after

@@ -8,7 +8,7 @@ use Rattle.ad_tree.specs.declared.tree.Scope.{Scope}
 use Rattle.ad_tree.specs.declared.tree.Scope.TheVariants as scopes
 use Rattle.pool_text.specs.declared.language.Lit.{Lit}
 use Rattle.ad_grammar.specs.Grammar as grammar
-use Rattle.ad_grammar.specs.Grammar.{IsExpr, IsPostfix, IsPrimary, IsList, IsSeveral, IsAd, IsDefs}
+use Rattle.ad_grammar.specs.Grammar.{IsExpr, IsList, IsSeveral, IsAd, IsDefs}
 use Rattle.ad_grammar.specs.Made.{IsNameText, IsWritten, IsNode, IsMade, AllMade, DefsMade}
 use Rattle.ad_builder.specs.Shapes.{leaf, over_one, over_two, over_three}
 use Rattle.ad_grammar.specs.Operators.{precedence}

@@ -21,16 +21,19 @@ use Rattle.ad_printer.specs.Quotes.{in_quotes}
 abbrev pub text_of : List Item → List ℕ
 text_of items = flat_map bytes_of items
 
+-- one space
 abbrev pub space : Item
 space = blank (32 ∷ [])
 
+-- a symbol as a piece
 abbrev pub symbol : List ℕ → Item
 symbol bytes = token kinds.Symbol bytes
 
--- a symbol with a space on either side, and one with a space behind it
+-- a symbol with a space on either side
 abbrev pub spaced : List ℕ → List Item
 spaced bytes = space ∷ symbol bytes ∷ space ∷ []
 
+-- a symbol with a space behind it
 abbrev pub then_space : List ℕ → List Item
 then_space bytes = symbol bytes ∷ space ∷ []
 
@@ -40,6 +43,7 @@ then_space bytes = symbol bytes ∷ space ∷ []
 abbrev pub is_plain_name : List ℕ → Bool
 is_plain_name text = is_word text && (not (is_reserved text) && not (is_some (scope_of text)))
 
+-- a name, in quotes where it needs them
 abbrev pub name_piece : List ℕ → Item
 name_piece text = if is_plain_name text then token kinds.Plain text else token kinds.Quoted (in_quotes 39 text)
 
@@ -49,6 +53,7 @@ scoped scopes.Bare text = name_piece text ∷ []
 scoped scopes.My text = token kinds.Plain (codes "MY") ∷ symbol (codes ".") ∷ name_piece text ∷ []
 scoped scopes.Target text = token kinds.Plain (codes "TARGET") ∷ symbol (codes ".") ∷ name_piece text ∷ []
 
+-- a literal as a piece
 abbrev pub literal_piece : Lit → Item
 literal_piece literals.Undefined = token kinds.Reserved (codes "undefined")
 literal_piece literals.Error = token kinds.Reserved (codes "error")
@@ -60,12 +65,14 @@ literal_piece (literals.Str text) = token kinds.Str (in_quotes 34 text)
 
 -- ---- operators
 
+-- the symbol of an operator before its operand
 abbrev pub prefix_bytes : UnOp → List ℕ
 prefix_bytes before.Plus = codes "+"
 prefix_bytes before.Minus = codes "-"
 prefix_bytes before.Not = codes "!"
 prefix_bytes before.Complement = codes "~"
 
+-- the symbol of an operator between its operands
 abbrev pub infix_bytes : BinOp → List ℕ
 infix_bytes between.BitOr = codes "|"
 infix_bytes between.BitXor = codes "^"
@@ -94,6 +101,7 @@ abbrev pub behind : List Item → List (List Item) → List Item
 behind divider [] = []
 behind divider (p ∷ ps) = divider ++ (p ++ behind divider ps)
 
+-- the pieces of a row, with what divides them between each two
 abbrev pub divided : List Item → List (List Item) → List Item
 divided divider [] = []
 divided divider (p ∷ ps) = p ++ behind divider ps

@@ -20,11 +20,12 @@ label_precedence any = 12
 label_precedence choice = 13
 label_precedence label = 0
 
+-- how loosely a tree binds: as its node does, and an ad literal not at all
 abbrev pub loose : Inline → ℕ
 loose (shape label is) = label_precedence label
 loose (inner ds) = 0
 
--- how loosely the first tree below a node may bind without parentheses, and how loosely the others
+-- how loosely the first tree below a node may bind without parentheses
 abbrev pub first_bound : Label → ℕ
 first_bound (unary op) = 2
 first_bound (binary op) = 2 + precedence op
@@ -35,12 +36,14 @@ first_bound (select text) = 0
 first_bound subscript = 1
 first_bound label = 13
 
+-- how loosely the other trees below a node may bind without parentheses
 abbrev pub other_bound : Label → ℕ
 other_bound (binary op) = 1 + precedence op
 other_bound all = 10
 other_bound any = 11
 other_bound label = 13
 
+-- pieces as they are where they need no parentheses, and else in parentheses
 abbrev pub grouped : Bool → List Item → List Item
 grouped true items = items
 grouped false items = symbol (codes "(") ∷ (items ++ symbol (codes ")") ∷ [])

@@ -13,8 +13,8 @@ use Rattle.ad_printer.specs.Quotes.{in_quotes}
 abbrev pub printed_frame : List Frame → ℕ → List ℕ
 printed_frame fs frame = printed (opened fs (length fs) frame)
 
--- the text of a value inside a list, where an ad is `[...]`
 abbrev mutual
+  -- the text of a value inside a list, where an ad is `[...]`
   pub value_text : Plain → List ℕ
   value_text undefined = codes "undefined"
   value_text error = codes "error"

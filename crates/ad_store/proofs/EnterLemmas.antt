@@ -13,7 +13,7 @@ use Rattle.ad_store.specs.declared.entry.Content.{Content}
 use Rattle.ad_store.specs.declared.entry.Entry.{Entry}
 use Rattle.ad_store.specs.Held.{IsEntered, advert_of, adverts, are_held, named_content, slots_of}
 use Rattle.ad_store.specs.Stock.{Advert, has, is_named, lack, slot_beside, text_held, without}
-use Rattle.ad_store.proofs.HeldLemmas.{Name, adverts-push, are_held-push, others_held, others_stay, slot_beside-lookup, slots_of-push, vacant_apart, without-absent}
+use Rattle.ad_store.proofs.HeldLemmas.{Name, adverts-push, are_held-push, others_held, others_stay, slot_beside-lookup, vacant_apart, without-absent}
 use Rattle.ad_store.proofs.ChangeLemmas.{named}
 use Rattle.ad_store.proofs.Lookups.{lookup}
 
@@ -47,9 +47,6 @@ module _ (names later : List Name) (old new : Slab Entry) (name : List ℕ) (slo
       ∙ ap (λ o. adverts new names ++ advert_of e.key.items o ∷ []) e.changes.changed
       ∙ ap (λ k. adverts new names ++ named_content k content ∷ []) e.spells
       ∙ ap (λ ads. ads ++ named_content name content ∷ []) (others_stay old new slot _ names e.changes apart_from_names)
-
-  pub entered_slots : slots_of later ≡ slots_of names ++ slot ∷ []
-  entered_slots = ap slots_of e.last ∙ slots_of-push names (e.key, slot)
 
   pub entered_found : lookup (named name) names ≡ None → slot_beside (is_named name) (adverts new later) (slots_of later) ≡ Some slot
   entered_found none =

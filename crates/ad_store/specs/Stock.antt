@@ -17,6 +17,7 @@ pub record Stock : Type 0 where
   pub ads : List Advert
   pub slots : List ℕ
 
+-- the ad has this name
 abbrev pub is_named : List ℕ → Advert → Bool
 is_named name advert = bytes_eq name advert.name
 
@@ -68,6 +69,7 @@ ads_limit = 10000
 abbrev pub text_limit : ℕ
 text_limit = 33554432
 
+-- the length of the texts of all ads together, in bytes
 abbrev pub text_held : List Advert → ℕ
 text_held ads = sum_by (λ advert. advert.size) ads
 

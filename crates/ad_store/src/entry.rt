@@ -2,6 +2,7 @@
 use ad_tree::Ad;
 use pool_text::Text;
 
+/// An ad in its slot: its name, and what is held under it.
 #[derive(Drop)]
 pub(crate) struct Entry {
     pub(crate) name: Text,

@@ -1,7 +1,6 @@
 -- The frames of a draft: the root, and those behind it.
-use Rattle.std.proofs.Common.{refl, arith, ◌≡◌, ◌≤◌, ◌<◌, ◌-◌, ℕ, zero, suc, List, [], ◌∷◌, length, get_or, ap, sym, ◌∙◌, None, Some, option_map, slice_get, slice_set, Result, Ok, Err, OnOk, OnErr}
-use Rattle.std.proofs.lemmas.List.{length-map}
-use Rattle.std.proofs.lemmas.Option.{slice_get_read, slice_get_past, slice_get-map}
+use Rattle.std.proofs.Common.{refl, arith, ◌≡◌, ◌<◌, ◌-◌, ℕ, zero, suc, List, [], ◌∷◌, length, get_or, ap, sym, ◌∙◌, Some, option_map, slice_get, slice_set, Result, Ok, Err, OnOk, OnErr}
+use Rattle.std.proofs.lemmas.Option.{slice_get_read, slice_get-map}
 use Rattle.ad_tree.specs.declared.frame.AdFrame.{AdFrame}
 use Rattle.ad_tree.specs.Tree.{Tree}
 use Rattle.ad_tree.specs.Frames.{Frame, defined_in, defined, parent_of}
@@ -17,11 +16,6 @@ inner-read root fs zero x n h e = absurd (n refl)
 inner-read root fs (suc f) x n h e =
     sym (slice_get-map frame_of fs f
     ∙ ap (option_map frame_of) (slice_get_read fs (length fs) f x refl (omega (arith, h)) (e ∙ ap (λ k. get_or fs k x) (less_one f))))
-
--- past the last there is none
-pub inner-past : (root : Frame) (fs : List AdFrame) (f : ℕ) → (f ≡ 0 → ⊥) → length fs ≤ f - 1 → None ≡ slice_get (root ∷ frames_of fs) f
-inner-past root fs zero n h = absurd (n refl)
-inner-past root fs (suc f) n h = sym (slice_get_past (frames_of fs) f (omega (arith, h, length-map fs frame_of)))
 
 -- a write at a place writes the frame there
 pub frames_of-set : (fs : List AdFrame) (k : ℕ) (x : AdFrame) → frames_of (slice_set fs k x) ≡ slice_set (frames_of fs) k (frame_of x)

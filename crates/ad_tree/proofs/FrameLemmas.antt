@@ -1,14 +1,12 @@
 -- A frame's set of attributes: what the set does with equal attributes is done with equal names.
 use Rattle.std.proofs.Common.{refl, arith, ◌≡◌, ◌≤◌, ℕ, zero, suc, ◌+◌, List, [], ◌∷◌, ◌++◌, length, Bool, true, false, not, cond, ◌||◌, ap, ◌∙◌, None, Some, position, nat_lt, Result, Ok, Err, OnOk, OnErr, IsTrue, slice_set, get_or, sym, ◌<◌, true≢false}
-use Rattle.std.specs.Cmp.Lexicographic.{on_texts_equal}
-use Rattle.std.specs.List.{prefix_len, find, list_any, IsDistinct, AllByRecursion, position_or_len}
+use Rattle.std.specs.List.{prefix_len, find, list_any, position_or_len}
 use Rattle.std.specs.Option.{is_some}
 use Rattle.std.specs.Set.{swap_key}
 use Rattle.std.proofs.lemmas.Grind.{common_steps}
 use Rattle.std.proofs.lemmas.List.{length-map}
 use Rattle.std.proofs.lemmas.List.Sums.{fails_before_first}
 use Rattle.indexmap.specs.IndexSet.{insert_key, replace_key}
-use Rattle.pool_text.specs.Folding.{folded}
 use Rattle.ad_tree.specs.declared.attribute.Attribute.{Attribute}
 use Rattle.ad_tree.specs.declared.frame.AdFrame.{AdFrame}
 use Rattle.ad_tree.specs.Steady.{MovesNone}
@@ -18,7 +16,7 @@ use Rattle.ad_tree.specs.Frames.{put_attribute, names_of, names_in}
 use Rattle.ad_tree.specs.Attributes.{attribute_of, attributes_of}
 use Rattle.ad_tree.specs.Table.{frames_of}
 use Rattle.ad_tree.proofs.AttributeLemmas.{put_name, apart-put_name}
-use Rattle.ad_tree.proofs.NameLemmas.{both, both_left, both_right, neither, neither_left, neither_right, not_true}
+use Rattle.ad_tree.proofs.NameLemmas.{both_left, both_right, neither, neither_left, neither_right, not_true}
 
 -- attributes are equal where their names are
 abbrev pub same_attribute : Attribute → Attribute → Bool
@@ -135,16 +133,6 @@ pub position-names : (name : List ℕ) (bs : List Attribute) → position (λ b.
 position-names name bs =
     ap (λ n. cond (nat_lt n (length bs)) (Some n) None) (prefix_len-names name bs)
     ∙ ap (λ n. cond (nat_lt (prefix_len (λ m. not (same_name name m)) (names_of (attributes_of bs))) n) (Some (prefix_len (λ m. not (same_name name m)) (names_of (attributes_of bs)))) None) (length-names bs)
-
--- the names of attributes of which no two are equal are apart
-has_name-away : (a : Attribute) (bs : List Attribute) → AllByRecursion (λ b. same_attribute a b ≡ false) bs → has_name a.name (names_of (attributes_of bs)) ≡ false
-has_name-away a [] h = refl
-has_name-away a (b ∷ bs) h = neither _ _ ((on_texts_equal folded).symm b.name a.name ∙ h.0) (has_name-away a bs h.1)
-
-pub apart-distinct : (bs : List Attribute) → IsDistinct same_attribute bs → are_apart (names_of (attributes_of bs)) ≡ true
-unfolding IsDistinct
-apart-distinct [] h = refl
-apart-distinct (b ∷ bs) h = both _ _ (ap not (has_name-away b bs h.0)) (apart-distinct bs h.1)
 
 -- the names of each frame of a list are apart
 pub apart-frames : (fs : List AdFrame) (f : ℕ) → IsTrue (are_apart (names_in (frames_of fs) f))

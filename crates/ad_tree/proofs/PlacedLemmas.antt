@@ -69,9 +69,6 @@ module _ {p : ℕ} where
 
 module _ {parent p : ℕ} where
   -- no definitions
-  pub no_defs-placed : (before : List Frame) → AreDefinitionsPlaced parent p no_defs (empty_frame parent) before before
-  no_defs-placed before = record { copied = refl; opened = sym (append-nil before) }
-
   pub length-defs_placed : {ds : Defs} {f : Frame} {before after : List Frame} → AreDefinitionsPlaced parent p ds f before after → length after ≡ length before + count_defs ds
   length-defs_placed {ds} {f} {before} {after} h =
       ap length h.opened ∙ length-append before (map settled_frame (frames_in p (length before) ds))

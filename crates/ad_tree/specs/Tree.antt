@@ -33,13 +33,15 @@ mutual
     none : Trees
     more : Tree → Trees → Trees
 
--- one, two and three trees
+-- one tree
 abbrev pub one : Tree → Trees
 one a = more a none
 
+-- two trees
 abbrev pub two : Tree → Tree → Trees
 two a b = more a (one b)
 
+-- three trees
 abbrev pub three : Tree → Tree → Tree → Trees
 three a b c = more a (two b c)
 

@@ -66,6 +66,7 @@ impl Model for Attributes {
 }
 
 impl Attributes {
+    /// No attributes.
     pub fn new(alloc: Global) -> Attributes
         ensures { result ≡ [] }
     {
@@ -75,6 +76,7 @@ impl Attributes {
         }
     }
 
+    /// All of them in order.
     pub fn as_slice(&self) -> &[Attribute]
         ensures items { result.now ≡ self.now }
         ensures apart { IsTrue (are_apart (names_of (attributes_of self.now))) }

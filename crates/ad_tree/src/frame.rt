@@ -12,6 +12,7 @@ use crate::attributes::Attributes;
 use pool_text::{OutOfMemory, Text};
 use std::alloc::Global;
 
+/// One frame of an ad: the number of the frame in which its ad literal stands, and its attributes in order, each name once.
 #[derive(Drop)]
 pub struct AdFrame {
     pub parent: u32,
@@ -23,6 +24,7 @@ pub struct AdFrame {
 impl AdFrame {
     ghost use Rattle.ad_tree.specs.Table.{frame_of};
 
+    /// No attributes, in an ad literal that stands in this frame.
     pub fn new(alloc: Global, parent: u32) -> AdFrame
         ensures { frame_of result ≡ record { parent = parent; attributes = [] } }
     {
@@ -62,12 +64,14 @@ impl AdFrame {
         self.attributes.define(attribute)
     }
 
+    /// How many attributes there are.
     pub fn count(&self) -> u32
         ensures { result ≡ length (frame_of self.now).attributes }
     {
         self.attributes.as_slice().len() as u32
     }
 
+    /// The attribute at a place, counted from 0.
     pub fn at(&self, i: u32) -> &Attribute
         requires { i < length (frame_of self.now).attributes }
         ensures { slice_get (frame_of self.now).attributes i ≡ Some (result.now.name, tree result.now.expr) }
@@ -75,6 +79,7 @@ impl AdFrame {
         &self.attributes.as_slice()[i as usize]
     }
 
+    /// The place of the attribute of this name, whatever the case of its letters.
     pub fn position(&self, name: &[u8]) -> Option<u32>
         ensures { result ≡ position (same_name name.now) (names_of (frame_of self.now).attributes) }
     {

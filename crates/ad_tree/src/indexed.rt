@@ -23,6 +23,7 @@ pub struct IndexedList {
 }
 
 impl IndexedList {
+    /// No attributes.
     pub fn new(alloc: Global) -> IndexedList
         ensures { result.list.items ≡ [] }
     {
@@ -49,6 +50,7 @@ impl IndexedList {
         mem::replace(&mut self.list, Vec::new(alloc))
     }
 
+    /// All of them in order.
     #[inline(always)]
     pub fn as_slice(&self) -> &[Attribute]
         ensures { result.now ≡ self.now.list.items }

@@ -3,6 +3,7 @@ ghost use Rattle.std.specs.Prelude.{◌≡◌, ◌+◌, ◌<◌, ◌^◌, length
 
 use crate::frame::AdFrame;
 
+/// The frames of an ad by their numbers: its root, which is 0, and the others from 1 on.
 #[derive(Drop)]
 pub struct Table {
     pub root: AdFrame,

@@ -1,4 +1,5 @@
--- The operators that don't demand all that they are given. A result is none where the bound on references was passed; so is the whole where a part that is demanded is none.
+-- The operators that don't demand all that they are given. A result is none where the bound on references was passed; so is the
+-- whole where a part that is demanded is none.
 use Rattle.std.specs.Prelude.{ℕ, ℤ, pos, negsuc, true, false, List, [], ◌∷◌, Option, Some, option_map, option_and_then, slice_get, unwrap_or, if◌then◌else◌}
 use Rattle.pool_text.specs.declared.language.AdPlace.{AdPlace}
 use Rattle.ad_value.specs.Plain.{Plain, undefined, error, boolean, integer, text, list, ad_at, Plains, plains_of, elements}

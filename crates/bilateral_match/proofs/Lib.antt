@@ -4,6 +4,7 @@ mod ConjunctLemmas
 pub mod DecidedLemmas
 pub mod DockingLemmas
 mod DifferLemmas
+mod DockedAlikeLemmas
 mod FindLemmas
 mod KnownLemmas
 mod KnownPlaceLemmas

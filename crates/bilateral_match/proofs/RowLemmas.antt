@@ -1,24 +1,11 @@
 -- How the rows of a store change with it, for those who keep an index of them.
-use Rattle.std.proofs.Common.{◌≡◌, ◌<◌, ℕ, zero, suc, Bool, true, false, ◌||◌, refl, List, [], ◌∷◌, ◌++◌, length, map, None, Some, option_map, slice_get, take, if◌then◌else◌, nat_eq, ap, sym, ◌∙◌, subst, arith}
+use Rattle.std.proofs.Common.{◌≡◌, ℕ, suc, Bool, true, false, refl, List, [], ◌∷◌, ◌++◌, length, map, None, Some, slice_get, if◌then◌else◌, nat_eq, ap, sym, ◌∙◌, subst, arith}
 use Rattle.std.proofs.lemmas.Bool.{eqb-true}
 use Rattle.ad_tree.specs.Frames.{Frame}
-use Rattle.ad_store.specs.Stock.{Advert, has, is_named, placed, slot_beside, slots_without, without}
+use Rattle.ad_store.specs.Stock.{Advert, is_named, placed, slot_beside, slots_without, without}
 use Rattle.literal_index.specs.Rows.{Row, ad_under, row_of}
 use Rattle.bilateral_match.specs.Rows.{rows_beside}
 use Rattle.bilateral_match.proofs.PlaceLemmas.{AreApart}
-
--- ---- an ad under a new name
-
-pub rows-added : (advert : Advert) (ads : List Advert) (slots : List ℕ) (slot : ℕ) → length ads ≡ length slots → has advert.name ads ≡ false
-    → rows_beside (placed advert ads) (slots ++ slot ∷ []) ≡ rows_beside ads slots ++ row_of slot advert.ad ∷ []
-rows-added advert [] [] slot same new = refl
-rows-added advert [] (s ∷ slots) slot same new = absurd (omega (arith, same))
-rows-added advert (a ∷ ads) [] slot same new = absurd (omega (arith, same))
-rows-added advert (a ∷ ads) (s ∷ slots) slot same new = by (λ e. rows-added advert ads slots slot (omega (arith, same)) e) (is_named advert.name a) new
-  where
-    by : (has advert.name ads ≡ false → rows_beside (placed advert ads) (slots ++ slot ∷ []) ≡ rows_beside ads slots ++ row_of slot advert.ad ∷ []) → (b : Bool) → (b || has advert.name ads) ≡ false → rows_beside (if b then advert ∷ ads else a ∷ placed advert ads) (s ∷ (slots ++ slot ∷ [])) ≡ row_of s a.ad ∷ (rows_beside ads slots ++ row_of slot advert.ad ∷ [])
-    by behind true e = absurd (cc)
-    by behind false e = ap (λ (rows : List Row). row_of s a.ad ∷ rows) (behind e)
 
 -- ---- an ad under a name that there is
 
@@ -116,34 +103,3 @@ pub alone-under : (ads : List Advert) (slots : List ℕ) (before : List Row) (sl
     → rows_beside ads slots ≡ before ++ row_of slot ad ∷ after → ad_under slot (before ++ after) ≡ None
 alone-under ads slots before slot ad after same apart are =
     none-under before slot ad after (subst AreApart (sym (slots-of-rows ads slots same) ∙ ap (map (λ (row : Row). row.slot)) are) apart)
-
--- ---- row by row
-
--- the rows up to a place with the row at it
-pub rows-next : (ads : List Advert) (slots : List ℕ) (i slot : ℕ) (ad : List Frame) → slice_get slots i ≡ Some slot → option_map (λ (a : Advert). a.ad) (slice_get ads i) ≡ Some ad
-    → take (suc i) (rows_beside ads slots) ≡ take i (rows_beside ads slots) ++ row_of slot ad ∷ []
-rows-next [] slots i slot ad h k = absurd (cc)
-rows-next (b ∷ ads) [] i slot ad h k = absurd (cc)
-rows-next (b ∷ ads) (s ∷ slots) zero slot ad h k =
-    let one : s ≡ slot = cc in
-    let same : b.ad ≡ ad = cc in
-    ap (λ (n : ℕ). row_of n b.ad ∷ []) one ∙ ap (λ (f : List Frame). row_of slot f ∷ []) same
-rows-next (b ∷ ads) (s ∷ slots) (suc i) slot ad h k = ap (λ (rows : List Row). row_of s b.ad ∷ rows) (rows-next ads slots i slot ad h k)
-
-pub length-rows : (ads : List Advert) (slots : List ℕ) → length ads ≡ length slots → length (rows_beside ads slots) ≡ length slots
-length-rows [] [] same = refl
-length-rows [] (s ∷ slots) same = absurd (omega (arith, same))
-length-rows (a ∷ ads) [] same = absurd (omega (arith, same))
-length-rows (a ∷ ads) (s ∷ slots) same = ap suc (length-rows ads slots (omega (arith, same)))
-
-among-first : (ads : List Advert) (slots : List ℕ) (i j slot : ℕ) → slice_get (map (λ (row : Row). row.slot) (take i (rows_beside ads slots))) j ≡ Some slot → (j < i) × (slice_get slots j ≡ Some slot)
-among-first ads slots zero j slot h = absurd (cc)
-among-first [] slots (suc i) j slot h = absurd (cc)
-among-first (b ∷ ads) [] (suc i) j slot h = absurd (cc)
-among-first (b ∷ ads) (s ∷ slots) (suc i) zero slot h = (omega arith, h)
-among-first (b ∷ ads) (s ∷ slots) (suc i) (suc j) slot h = let rest = among-first ads slots i j slot h in (omega (arith, rest.0), rest.1)
-
--- whose slot is under none of those before it
-pub none-before : (ads : List Advert) (slots : List ℕ) (i slot : ℕ) → AreApart slots → slice_get slots i ≡ Some slot → ad_under slot (take i (rows_beside ads slots)) ≡ None
-none-before ads slots i slot apart there =
-    not-among slot (take i (rows_beside ads slots)) (λ j is. let rest = among-first ads slots i j slot is in let same : i ≡ j = apart i j slot there rest.1 in omega (arith, rest.0, same))

@@ -19,7 +19,8 @@ abbrev pub places_where : (Advert → Bool) → ℕ → List Advert → List ℕ
 places_where passes k [] = []
 places_where passes k (advert ∷ ads) = if passes advert then k ∷ places_where passes (suc k) ads else places_where passes (suc k) ads
 
--- these places are those of some ads, which are all ads whose dock with a frame of the request is undecided among others, and no more than the narrowest test of the frame leaves
+-- these places are those of some ads, which are all ads whose dock with a frame of the request is undecided among others, and no
+-- more than the narrowest test of the frame leaves
 pub record AreCandidatesAt (request : List Frame) (frame : ℕ) (labels : List (List ℕ)) (ads : List Advert) (places : List ℕ) : Type 0 where
   pub passes : Advert → Bool
   pub all : IsPermutation (places_where passes 0 ads) places

@@ -2,6 +2,7 @@ pub mod Alike
 pub mod Answers
 pub mod Candidates
 pub mod Counts
+pub mod DockedAlike
 pub mod Docks
 pub mod Known
 pub mod KnownTests

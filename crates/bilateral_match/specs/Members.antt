@@ -17,7 +17,8 @@ use Rattle.bilateral_match.specs.Pool.{Hold, Pool, regard_in, slot_at}
 abbrev pub regard : ℕ → List Frame → List Frame → ℤ
 regard moment request ad = regard_in (pair_world moment request ad)
 
--- a resource that ranks a job so is taken from its holder: it ranks the holder strictly lower, or equal where the holder's user has at least twice the number of the job's
+-- a resource that ranks a job so is taken from its holder: it ranks the holder strictly lower, or equal where the holder's user
+-- has at least twice the number of the job's
 abbrev pub is_taken : ℕ → ℤ → Hold → Bool
 is_taken number regard hold = match_ordering (int_cmp (regard_in hold.world) regard) true (nat_le (2 * number) hold.number) false
 
@@ -58,6 +59,7 @@ abbrev pub members_from : Pool → List Frame → ℕ → ℕ → List Advert �
 members_from pool request number k [] = []
 members_from pool request number k (advert ∷ ads) = cons_option (member_with pool request number k advert) (members_from pool request number (suc k) ads)
 
+-- the members among all ads of the pool, in their order there
 abbrev pub members : Pool → List Frame → ℕ → List Member
 members pool request number = members_from pool request number 0 pool.ads
 
@@ -94,6 +96,7 @@ earlier None b = b
 earlier (Some a) None = Some a
 earlier (Some a) (Some b) = if is_lt (member_order b a) then Some b else Some a
 
+-- the member before which no other comes, or none where there are none
 abbrev pub first_of : List Member → Option Member
 first_of [] = None
 first_of (m ∷ ms) = earlier (Some m) (first_of ms)

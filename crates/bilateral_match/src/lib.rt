@@ -4,6 +4,7 @@
 mod alike;
 mod candidates;
 mod choosing;
+mod docked_alike;
 mod docking;
 mod hit;
 mod known;
@@ -20,6 +21,7 @@ mod weighing;
 pub use alike::are_alike;
 pub use candidates::candidates_at;
 pub use choosing::{best, best_knowing};
+pub use docked_alike::requests_that_dock_alike_are_matched_alike;
 pub use docking::pair;
 pub use hit::{Hit, Hits, Match};
 pub use known::{Kept, Known, Ranking};

@@ -1,4 +1,4 @@
-// Queries.
+// Queries: the ads that dock with a request, by its rank.
 ghost use Rattle.std.specs.Prelude.{◌≡◌, ◌≤◌, ◌<◌, ◌+◌, ◌*◌, [], All, IfOk, OnOk, length, map};
 ghost use Rattle.std.specs.List.Sorted.{IsPermutation, IsSorted};
 ghost use Rattle.ad_tree.specs.Ad.{ad_frames};

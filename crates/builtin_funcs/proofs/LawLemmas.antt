@@ -1,4 +1,4 @@
--- Laws of the table.
+-- Laws of the functions of texts: `string` with `int`, `toLower`, `strcat`, and string lists.
 use Rattle.std.proofs.Common.{◌≡◌, ℕ, suc, ◌^◌, ◌<◌, ◌≤◌, Bool, true, false, ◌&&◌, ◌||◌, not, cond, ltb, eqb, codes, decimal, List, [], ◌∷◌, ◌++◌, length, get_or, drop, filter, map, ℤ, pos, negsuc, neg_ℤ, refl, sym, ◌∙◌, ap, arith}
 use Rattle.std.specs.Prelude.{FitsSigned}
 use Rattle.std.specs.Int.{w64, IsInRange}

@@ -27,9 +27,6 @@ out_of_64_bits (negsuc n) large = let no : (n < 2 ^ 63 → ⊥) = λ small. larg
 pub integer-fitting : (sum total n : ℤ) → sum ≡ total → FitsSigned w64 sum → n ≡ sum → integer n ≡ integer_or_error total
 integer-fitting sum total n whole fits same = ap integer same ∙ sym (in_64_bits sum fits) ∙ ap integer_or_error whole
 
-pub error-not_fitting : (sum total : ℤ) → sum ≡ total → (FitsSigned w64 sum → ⊥) → error ≡ integer_or_error total
-error-not_fitting sum total whole large = sym (out_of_64_bits sum large) ∙ ap integer_or_error whole
-
 -- ---- the texts that write Integers
 
 own_digits : IsNumeralModel (λ ds. all_ascii_digits ds ≡ true) (digits_value 10)

@@ -23,6 +23,7 @@ abbrev pub identical_member_value : Plain → Plain → Plain
 identical_member_value x (list items) = boolean (list_any (is_same x) (elements items))
 identical_member_value x other = error
 
+-- the operator that a table has for a spelling
 abbrev pub comparison_in : List (List ℕ × BinOp) → List ℕ → Option BinOp
 comparison_in [] spelling = None
 comparison_in (entry ∷ table) spelling = if bytes_eq entry.0 spelling then Some entry.1 else comparison_in table spelling

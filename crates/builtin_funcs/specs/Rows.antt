@@ -23,10 +23,12 @@ chosen (boolean false) a b = b
 chosen undefined a b = undefined
 chosen c a b = error
 
+-- what a function gives without arguments: Error where it can't be called so
 abbrev pub row_of_none : Function → ℕ → Plain
 row_of_none Function.Time moment = integer_or_error (pos moment)
 row_of_none function moment = error
 
+-- what a function gives for one argument: Error where it can't be called with one
 abbrev pub row_of_one : Function → Plain → Plain
 row_of_one Function.IsUndefined x = boolean (is_undefined x)
 row_of_one Function.IsError x = boolean (is_error x)
@@ -47,6 +49,7 @@ row_of_one Function.Bool x = bool_value x
 row_of_one Function.StringListSize x = string_list_size_value x usual_delimiters
 row_of_one function x = error
 
+-- what a function gives for two arguments: Error where it can't be called with two
 abbrev pub row_of_two : Function → Plain → Plain → Plain
 row_of_two Function.Member x l = member_value x l
 row_of_two Function.IdenticalMember x l = identical_member_value x l
@@ -57,6 +60,7 @@ row_of_two Function.StringListMember x s = string_list_member_value x s usual_de
 row_of_two Function.StringListSize s d = string_list_size_value s d
 row_of_two function x y = error
 
+-- what a function gives for three arguments: Error where it can't be called with three
 abbrev pub row_of_three : Function → Plain → Plain → Plain → Plain
 row_of_three Function.IfThenElse c a b = chosen c a b
 row_of_three Function.AnyCompare op l x = any_compare_value op l x

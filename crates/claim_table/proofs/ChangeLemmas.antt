@@ -1,6 +1,6 @@
 -- What a table keeps through each change.
 use Rattle.std.proofs.Common.{◌≡◌, ◌≢◌, ℕ, ◌+◌, ◌-◌, ◌<◌, ◌≤◌, All, AllPairs, Bool, true, false, cond, eqb, ltb, leb, List, [], ◌∷◌, ◌++◌, length, map, slice_get, slice_set, Option, None, Some, Vec, bytes_eq, refl, sym, ◌∙◌, ap, subst, arith}
-use Rattle.std.specs.Prelude.{Err, Ok, OnOk, Result, is_err, option_map}
+use Rattle.std.specs.Prelude.{option_map}
 use Rattle.std.specs.declared.alloc.Global.{Global}
 use Rattle.std.specs.List.{list_any, remove}
 use Rattle.std.specs.Option.{option_map_or}
@@ -204,21 +204,6 @@ module _ (keys : List (Vec ℕ Global)) (jobs : List Job) (offers claims : List 
     filled = All-remove IsFilled jobs i kept.filled;
   }
 
-pub less_text : (jobs : List Job) (i : ℕ) (job : Job) → slice_get jobs i ≡ Some job → job.text_len ≤ text_of jobs
-less_text jobs i job at = omega (arith, sum_by-remove_at (λ j. j.text_len) jobs i job at)
-
-pub widened_kept : (keys : List (Vec ℕ Global)) (jobs : List Job) (offers claims more_offers more_claims : List (Option ℕ)) (text : ℕ) → IsKept keys jobs offers claims text → length more_offers ≤ length more_claims → ((slot : ℕ) → note_at more_offers slot ≡ note_at offers slot) → ((slot : ℕ) → note_at more_claims slot ≡ note_at claims slot) → IsKept keys jobs more_offers more_claims text
-widened_kept keys jobs offers claims more_offers more_claims text kept room same_offers same_claims = record {
-  named = kept.named;
-  offered = renoted offer_of offers more_offers jobs kept.offered same_offers;
-  claimed = renoted claim_of claims more_claims jobs kept.claimed same_claims;
-  room = room;
-  counted = kept.counted;
-  within = kept.within;
-  few = kept.few;
-  filled = kept.filled;
-}
-
 -- ---- a job that is taken
 
 module _ (keys later_keys : List (Vec ℕ Global)) (jobs : List Job) (offers claims : List (Option ℕ)) (text : ℕ) (kept : IsKept keys jobs offers claims text) (job : Job) (idle : job.standing ≡ Stage.Idle) where
@@ -277,10 +262,6 @@ matched_offer (Stage.Matched slots) is = refl
 matched_offer (Stage.Claimed slots) is = absurd (cc)
 
 -- ---- answers
-
-pub ok_gives : {A E P : Type 0} (r : Result A E) → OnOk r P → is_err r ≡ false → P
-ok_gives (Ok x) given is = given
-ok_gives (Err e) given is = absurd (cc)
 
 pub remove-with_standing : (jobs : List Job) (i : ℕ) (standing : Stage) → remove (with_standing jobs i standing) i ≡ remove jobs i
 remove-with_standing jobs i standing = by_job (slice_get jobs i)

@@ -153,9 +153,6 @@ named_is None j named = absurd (cc)
 named_is (Some k) j named = let same : k ≡ j = grind (arith, nat_tests) in ap (λ m. Some m) same
 
 module _ (claims : List (Option ℕ)) (jobs : List Job) (noted : AreNoted claim_of claims jobs) where
-  abbrev claims_slot : ℕ → Job → Bool
-  claims_slot slot job = lists (claim_of job.standing) slot
-
   noted_by : (slot : ℕ) → note_at claims slot ≡ claimed_by slot jobs
   noted_by slot = noted-position (λ job. lists (claim_of job.standing) slot) jobs (note_at claims slot) (noted slot)
 

@@ -25,7 +25,8 @@ use Rattle.claim_table.specs.Priorities.{Setting, priority_of}
 abbrev pub world_at : ℕ → Stock → Request → List ℕ → ℕ → PlainWorld
 world_at moment stock request slots port = slots_world moment stock request (take (suc port) slots)
 
--- the resource in a slot, docked last, is yielded to the job, whose user has this number: it is unclaimed, it ranks its holder strictly lower, or it ranks both alike and the holder's user has at least twice the number
+-- the resource in a slot, docked last, is yielded to the job, whose user has this number: it is unclaimed, it ranks its holder
+-- strictly lower, or it ranks both alike and the holder's user has at least twice the number
 abbrev pub is_won : ℕ → Stock → List Setting → List Job → ℕ → ℕ → PlainWorld → Bool
 is_won moment stock settings jobs number slot world = is_yielded number (regard_in world) (option_map (hold_of moment stock) (holder_of settings jobs slot))
 

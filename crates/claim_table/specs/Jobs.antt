@@ -26,6 +26,7 @@ slots_of (Stage.Matched slots) = slots
 slots_of (Stage.Claimed slots) = slots
 slots_of Stage.Idle = []
 
+-- the state of a job that stands so
 abbrev pub state_of : Stage → JobState
 state_of Stage.Idle = JobState.Idle
 state_of (Stage.Matched slots) = JobState.Matched
@@ -42,6 +43,7 @@ pub record IsFilled (job : Job) : Type 0 where
 
 -- ---- who lists a slot
 
+-- the slot is among these
 abbrev pub lists : List ℕ → ℕ → Bool
 lists slots slot = list_any (λ s. s == slot) slots
 
@@ -63,6 +65,7 @@ AreFree slots jobs = All (λ slot. offered_to slot jobs ≡ None) slots
 
 -- ---- by name
 
+-- the job has this name
 abbrev pub is_named : List ℕ → Job → Bool
 is_named name job = bytes_eq name job.name
 
@@ -103,6 +106,7 @@ jobs_limit = 10000
 abbrev pub text_limit : ℕ
 text_limit = 33554432
 
+-- the length of the texts of all jobs together, in bytes
 abbrev pub text_of : List Job → ℕ
 text_of jobs = sum_by (λ job. job.text_len) jobs
 

@@ -17,6 +17,7 @@ setting_of entry = record { user = entry.0.items; number = entry.1 }
 abbrev pub IsInRange : Setting → Type 0
 IsInRange setting = (1 ≤ setting.number) × (setting.number ≤ 10 ^ 6)
 
+-- the setting is the user's
 abbrev pub is_of : List ℕ → Setting → Bool
 is_of user setting = bytes_eq user setting.user
 
@@ -24,6 +25,7 @@ is_of user setting = bytes_eq user setting.user
 abbrev pub default_priority : ℕ
 default_priority = 1000
 
+-- the priority of a user: the one that is set, or else the default
 abbrev pub priority_of : List ℕ → List Setting → ℕ
 priority_of user settings = option_map_or (λ setting. setting.number) (find (is_of user) settings) default_priority
 

@@ -29,7 +29,8 @@ pub enum Stage {
 }
 
 impl Stage {
-    pub(crate) fn state(&self) -> JobState
+    /// The state.
+    pub fn state(&self) -> JobState
         ensures { result ≡ state_of self.now }
     {
         match self {
@@ -60,7 +61,7 @@ impl Stage {
     }
 
     /// The slots, offered or claimed.
-    pub(crate) fn slots(&self) -> &[usize]
+    pub fn slots(&self) -> &[usize]
         ensures { result.now ≡ slots_of self.now }
     {
         match self {

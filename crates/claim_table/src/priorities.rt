@@ -1,5 +1,5 @@
 // The priorities of users.
-ghost use Rattle.std.specs.Prelude.{◌≡◌, ◌≤◌, ◌^◌, [], All, IfErr, OnErr, OnOk, false, length, map};
+ghost use Rattle.std.specs.Prelude.{◌≡◌, ◌<◌, ◌≤◌, ◌^◌, [], All, IfErr, OnErr, OnOk, Some, false, length, map, option_map, slice_get};
 ghost use Rattle.claim_table.specs.Causes.{IsCause};
 ghost use Rattle.claim_table.specs.Priorities.{IsInRange, lacks_place, priority_of, setting_of, settings_limit, with_setting};
 
@@ -55,6 +55,25 @@ impl Priorities {
             return Err(PriorityFault::OutOfMemory);
         }
         Ok(())
+    }
+
+    /// How many users have a priority that is set.
+    pub fn len(&self) -> usize
+        ensures len { result ≡ length (settings_of self.now) }
+        ensures few { result ≤ settings_limit }
+    {
+        self.numbers.len()
+    }
+
+    /// User `i` of those whose priority is set, counted from 0 in the order in which they were first set.
+    pub fn user(&self, i: usize) -> &[u8]
+        requires { i < length (settings_of self.now) }
+        ensures { option_map (λ setting. setting.user) (slice_get (settings_of self.now) i) ≡ Some result.now }
+    {
+        match self.numbers.get_index(i) {
+            Some((user, _)) => user,
+            None => &[],
+        }
     }
 
     // The user is new, and as many are set as may be.

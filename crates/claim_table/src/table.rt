@@ -309,6 +309,14 @@ impl ClaimTable {
         &self.jobs[i].user
     }
 
+    /// How job `i` stands.
+    pub fn standing(&self, i: usize) -> &Stage
+        requires { i < length (jobs_of self.now) }
+        ensures { option_map (λ job. job.standing) (slice_get (jobs_of self.now) i) ≡ Some result.now }
+    {
+        &self.jobs[i].standing
+    }
+
     /// The request of job `i`.
     pub fn request(&self, i: usize) -> &Request
         requires { i < length (jobs_of self.now) }

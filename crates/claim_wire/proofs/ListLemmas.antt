@@ -54,9 +54,6 @@ pub contains-one : {A : Type 0} (y x : A) → Contains (y ∷ []) x → y ≡ x
 contains-one y x (zero, less, is) = is
 contains-one y x (suc k, less, is) = absurd (omega (arith, less))
 
-pub one-contains : {A : Type 0} (x : A) → Contains (x ∷ []) x
-one-contains x = (0, omega arith, refl)
-
 pub listed-is : (o : Option Message) (m : Message) → Contains (listed o) m → o ≡ Some m
 listed-is None m has = absurd (contains-none m has)
 listed-is (Some n) m has = ap Some (contains-one n m has)

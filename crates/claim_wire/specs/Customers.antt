@@ -13,6 +13,7 @@ pub record CustomerState : Type 0 where
   pub target : Option ℕ
   pub phase : Phase
 
+-- a customer that never asked
 abbrev pub new_customer : ℕ → CustomerState
 new_customer id = record { id = id; number = 0; target = None; phase = phases.Idle }
 
@@ -24,11 +25,12 @@ message_of kind c = record { kind = kind; customer = c.id; resource = unwrap_or 
 abbrev pub Move : Type 0
 Move = CustomerState × Option Message
 
--- an idle customer asks for a resource: its number rises by one
+-- an idle customer asks for a resource: its number rises by one; in any other phase nothing happens
 abbrev pub ask_by : Phase → ℕ → CustomerState → Move
 ask_by phases.Idle r c = (record { id = c.id; number = c.number + 1; target = Some r; phase = phases.Asked }, Some (record { kind = kinds.Ask; customer = c.id; resource = r; number = c.number + 1 }))
 ask_by phase r c = (c, None)
 
+-- a customer asks for a resource, by its phase
 abbrev pub ask : ℕ → CustomerState → Move
 ask r c = ask_by c.phase r c
 
@@ -38,26 +40,30 @@ again_by phases.Asked c = Some (message_of kinds.Ask c)
 again_by phases.Leaving c = Some (message_of kinds.Leave c)
 again_by phase c = None
 
+-- what a customer sends again, by its phase
 abbrev pub again : CustomerState → Option Message
 again c = again_by c.phase c
 
--- a customer that asked, or holds, leaves
+-- the customer in this phase
 abbrev pub in_phase : Phase → CustomerState → CustomerState
 in_phase phase c = record { id = c.id; number = c.number; target = c.target; phase = phase }
 
+-- a customer that asked, or holds, leaves and says so; in any other phase nothing happens
 abbrev pub leave_by : Phase → CustomerState → Move
 leave_by phases.Asked c = (in_phase phases.Leaving c, Some (message_of kinds.Leave c))
 leave_by phases.Holding c = (in_phase phases.Leaving c, Some (message_of kinds.Leave c))
 leave_by phase c = (c, None)
 
+-- a customer leaves, by its phase
 abbrev pub leave : CustomerState → Move
 leave c = leave_by c.phase c
 
--- a message is of the target and the number
+-- the target is this resource
 abbrev pub is_target : Option ℕ → ℕ → Bool
 is_target None r = false
 is_target (Some t) r = t == r
 
+-- a message is of the customer's target and number
 abbrev pub is_for : Message → CustomerState → Bool
 is_for m c = is_target c.target m.resource && c.number == m.number
 
@@ -67,13 +73,15 @@ take_by phases.Asked kinds.Grant c = in_phase phases.Holding c
 take_by phases.Leaving kinds.Gone c = record { id = c.id; number = c.number; target = None; phase = phases.Idle }
 take_by phase kind c = c
 
+-- a message comes to a customer: one that isn't of its target and number does nothing
 abbrev pub take : Message → CustomerState → CustomerState
 take m c = if is_for m c then take_by c.phase m.kind c else c
 
--- a customer that starts again leaves its target, if there is one
+-- the phase in which a customer starts again: it leaves its target, if there is one
 abbrev pub phase_again : Option ℕ → Phase
 phase_again None = phases.Idle
 phase_again (Some r) = phases.Leaving
 
+-- a customer starts again, with what it has stored
 abbrev pub restart : CustomerState → CustomerState
 restart c = in_phase (phase_again c.target) c

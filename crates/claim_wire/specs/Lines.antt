@@ -21,10 +21,11 @@ verb_of word =
     else (if bytes_eq word (codes "show") then Some verbs.Show
     else None)))))
 
--- the id that a word writes, from 1 to the most
+-- a number as an id, from 1 to the most
 abbrev pub id_within : ℕ → ℕ → Option ℕ
 id_within most n = if nat_le 1 n && nat_le n most then Some n else None
 
+-- the id that a word writes, from 1 to the most
 abbrev pub id_of : ℕ → List ℕ → Option ℕ
 id_of most word = option_and_then (id_within most) (number_of word)
 
@@ -65,6 +66,7 @@ abbrev pub read : Option Event → Result (Option Event) LineFault
 read None = Err faults.Words
 read (Some event) = Ok (Some event)
 
+-- the event of a verb and the words behind it; a word that is no verb is unknown
 abbrev pub read_verb : ℕ → ℕ → Option Verb → List ℕ → Result (Option Event) LineFault
 read_verb resources customers None words = Err faults.Unknown
 read_verb resources customers (Some verb) words = read (event_by resources customers verb words)
@@ -73,5 +75,6 @@ read_verb resources customers (Some verb) words = read (event_by resources custo
 abbrev pub event_in : ℕ → ℕ → List ℕ → Result (Option Event) LineFault
 event_in resources customers text = if is_empty text || slice_index text 0 == 35 then Ok None else read_verb resources customers (verb_of (word_of text)) (words_behind text)
 
+-- the event that a line names, none where it is blank or a comment, or what is wrong with it
 abbrev pub event_of : ℕ → ℕ → List ℕ → Result (Option Event) LineFault
 event_of resources customers line = event_in resources customers (past_blanks line)

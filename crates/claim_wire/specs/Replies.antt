@@ -13,6 +13,7 @@ use Rattle.claim_wire.specs.Customers.{CustomerState}
 use Rattle.claim_wire.specs.Resources.{ResourceState}
 use Rattle.claim_wire.specs.Wires.{WireState, happens}
 
+-- the word of a kind of messages
 abbrev pub kind_word : MessageKind → List ℕ
 kind_word kinds.Ask = codes "ask"
 kind_word kinds.Grant = codes "grant"
@@ -32,10 +33,12 @@ abbrev pub sent_lines : ℕ → List Message → List ℕ
 sent_lines n [] = []
 sent_lines n (m ∷ ms) = sent_line (n + 1) m ++ sent_lines (n + 1) ms
 
+-- a line for each message that is sent after n others, or `quiet` where none is
 abbrev pub sent_text : ℕ → List Message → List ℕ
 sent_text n [] = codes "quiet\n"
 sent_text n (m ∷ ms) = sent_lines n (m ∷ ms)
 
+-- ` free`, or ` held C K` with the claim that holds
 abbrev pub holder_text : Option Holder → List ℕ
 holder_text None = codes " free"
 holder_text (Some h) = codes " held" ++ numbers_text h.customer h.number

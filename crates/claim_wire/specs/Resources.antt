@@ -13,23 +13,25 @@ pub record ResourceState : Type 0 where
   pub freed : List ℕ
   pub waiting : List Holder
 
--- the number that a customer freed, customers counted from 1
+-- the greatest number that a customer freed, customers counted from 1
 abbrev pub freed_in : List ℕ → ℕ → ℕ
 freed_in freed zero = 0
 freed_in freed (suc i) = slice_index freed i
 
+-- the greatest number that a customer freed from a resource, 0 where it freed none
 abbrev pub freed_of : ResourceState → ℕ → ℕ
 freed_of r c = freed_in r.freed c
 
--- the same after a customer freed a number
+-- these numbers once a customer freed one more: the greater of its two stays
 abbrev pub raised : List ℕ → ℕ → ℕ → List ℕ
 raised freed zero k = freed
 raised freed (suc i) k = slice_set freed i (max (slice_index freed i) k)
 
--- the claim that a message is about, and an answer to it
+-- the claim that a message is about
 abbrev pub claim_of : Message → Holder
 claim_of m = record { customer = m.customer; number = m.number }
 
+-- an answer of this kind to a message, about the same claim
 abbrev pub answer : MessageKind → Message → Message
 answer kind m = record { kind = kind; customer = m.customer; resource = m.resource; number = m.number }
 
@@ -37,9 +39,11 @@ answer kind m = record { kind = kind; customer = m.customer; resource = m.resour
 abbrev pub grant : ℕ → Holder → Message
 grant id h = record { kind = kinds.Grant; customer = h.customer; resource = id; number = h.number }
 
+-- no answer
 abbrev pub silent : Answers
 silent = record { first = None; second = None }
 
+-- one answer
 abbrev pub one : Message → Answers
 one m = record { first = Some m; second = None }
 
@@ -62,6 +66,7 @@ abbrev pub ask_by : Option Holder → Message → ResourceState → Change
 ask_by None m r = (record { id = r.id; holder = Some (claim_of m); freed = r.freed; waiting = r.waiting }, one (grant r.id (claim_of m)))
 ask_by (Some h) m r = (record { id = r.id; holder = r.holder; freed = r.freed; waiting = put_waiting (claim_of m) r.waiting }, silent)
 
+-- a customer asks: a claim that was freed is gone, the one that holds is granted again, and any other holds where nobody does, or waits
 abbrev pub ask : Message → ResourceState → Change
 ask m r =
     if nat_le m.number (freed_of r m.customer) then (r, one (answer kinds.Gone m))
@@ -72,6 +77,7 @@ ask m r =
 abbrev pub is_freed : List ℕ → ℕ → Holder → Bool
 is_freed freed c h = h.customer == c && nat_le h.number (freed_in freed c)
 
+-- the resource is held by a claim of the customer that was freed
 abbrev pub holds_freed : List ℕ → ℕ → Option Holder → Bool
 holds_freed freed c None = false
 holds_freed freed c (Some h) = is_freed freed c h
@@ -81,7 +87,7 @@ abbrev pub without : List ℕ → ℕ → List Holder → List Holder
 without freed c [] = []
 without freed c (w ∷ ws) = if is_freed freed c w then ws else w ∷ without freed c ws
 
--- the first that waits holds the resource next, and is granted it
+-- the first that waits, if any does
 abbrev pub first_of : List Holder → Option Holder
 first_of [] = None
 first_of (w ∷ ws) = Some w
@@ -91,9 +97,11 @@ abbrev pub first_after : ℕ → ℕ → List Holder → Option Holder
 first_after c k [] = None
 first_after c k (w ∷ ws) = if w.customer == c && nat_le w.number k then first_of ws else Some w
 
+-- the first that waits holds the resource, or nobody where none waits
 abbrev pub next_holder : ResourceState → ResourceState
 next_holder r = record { id = r.id; holder = first_of r.waiting; freed = r.freed; waiting = drop 1 r.waiting }
 
+-- the grant to the first that waits, if any does
 abbrev pub next_grant : ResourceState → Option Message
 next_grant r = option_map (grant r.id) (first_of r.waiting)
 
@@ -113,11 +121,13 @@ freeing m r =
 abbrev pub leave : Message → ResourceState → Change
 leave m r = leave_by m (freeing m r)
 
+-- a message of this kind comes to a resource: only an ask and a leave do anything
 abbrev pub take_by : MessageKind → Message → ResourceState → Change
 take_by kinds.Ask m r = ask m r
 take_by kinds.Leave m r = leave m r
 take_by kind m r = (r, silent)
 
+-- a message comes to a resource, by its kind
 abbrev pub take : Message → ResourceState → Change
 take m r = take_by m.kind m r
 
@@ -139,6 +149,7 @@ are_waiting n (w ∷ ws) = (nat_le w.customer n && not (waits w.customer ws)) &&
 
 -- ---- the beginning
 
+-- so many zeros
 abbrev pub zeros : ℕ → List ℕ
 zeros zero = []
 zeros (suc n) = 0 ∷ zeros n

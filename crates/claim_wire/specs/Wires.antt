@@ -16,20 +16,23 @@ use Rattle.claim_wire.specs.Customers.{CustomerState, Move, new_customer}
 use Rattle.claim_wire.specs.Resources as resource
 use Rattle.claim_wire.specs.Resources.{ResourceState, Change, silent, new_resource}
 
+-- the customers and the resources, each at its id counted from 1, and all messages that were ever sent, in order
 pub record WireState : Type 0 where
   pub customers : List CustomerState
   pub resources : List ResourceState
   pub sent : List Message
 
--- what has this number in a list, counted from 1, and the list with another in its place
+-- what has this number in a list, counted from 1
 abbrev pub at : {A : Type 0} → List A → ℕ → Option A
 at xs zero = None
 at xs (suc i) = slice_get xs i
 
+-- the list with another in the place of this number, counted from 1
 abbrev pub put : {A : Type 0} → ℕ → A → List A → List A
 put zero x xs = xs
 put (suc i) x xs = slice_set xs i x
 
+-- a message as a list, which is empty where there is none
 abbrev pub listed : Option Message → List Message
 listed None = []
 listed (Some m) = m ∷ []
@@ -38,29 +41,32 @@ listed (Some m) = m ∷ []
 abbrev pub answers_of : Answers → List Message
 answers_of a = listed a.first ++ listed a.second
 
--- a customer moves
+-- a customer moved so, and what it sent joins the messages; nothing happens where there is no such customer
 abbrev pub moved : ℕ → Option Move → WireState → WireState
 moved c None w = w
 moved c (Some move) w = record { customers = put c move.0 w.customers; resources = w.resources; sent = w.sent ++ listed move.1 }
 
+-- the customer of an id moves by this rule
 abbrev pub with_customer : ℕ → (CustomerState → Move) → WireState → WireState
 with_customer c f w = moved c (option_map f (at w.customers c)) w
 
--- a resource changes
+-- a resource changed so, and its answers join the messages; nothing happens where there is no such resource
 abbrev pub changed : ℕ → Option Change → WireState → WireState
 changed r None w = w
 changed r (Some change) w = record { customers = w.customers; resources = put r change.0 w.resources; sent = w.sent ++ answers_of change.1 }
 
+-- the resource of an id changes by this rule
 abbrev pub with_resource : ℕ → (ResourceState → Change) → WireState → WireState
 with_resource r f w = changed r (option_map f (at w.resources r)) w
 
--- a message comes to the end that it names
+-- a message of this kind comes to the end that it names
 abbrev pub comes_by : MessageKind → Message → WireState → WireState
 comes_by kinds.Ask m w = with_resource m.resource (resource.take m) w
 comes_by kinds.Leave m w = with_resource m.resource (resource.take m) w
 comes_by kinds.Grant m w = with_customer m.customer (λ c. (customer.take m c, None)) w
 comes_by kinds.Gone m w = with_customer m.customer (λ c. (customer.take m c, None)) w
 
+-- a message comes to the end that it names; nothing happens where there is none
 abbrev pub comes : Option Message → WireState → WireState
 comes None w = w
 comes (Some m) w = comes_by m.kind m w
@@ -77,21 +83,24 @@ happens events.Show w = w
 
 -- ---- refusals
 
--- why a customer can't ask, can't send again and can't leave, by its phase
+-- why a customer can't ask, by its phase
 abbrev pub ask_fault : Phase → Option WireFault
 ask_fault phases.Idle = None
 ask_fault phase = Some faults.NotIdle
 
+-- why a customer can't send again, by its phase
 abbrev pub again_fault : Phase → Option WireFault
 again_fault phases.Idle = Some faults.NothingToSend
 again_fault phases.Holding = Some faults.NothingToSend
 again_fault phase = None
 
+-- why a customer can't leave, by its phase
 abbrev pub leave_fault : Phase → Option WireFault
 leave_fault phases.Idle = Some faults.NothingToLeave
 leave_fault phases.Leaving = Some faults.NothingToLeave
 leave_fault phase = None
 
+-- the phase of the customer of an id, if there is one
 abbrev pub phase_of : ℕ → WireState → Option Phase
 phase_of c w = option_map (λ s. s.phase) (at w.customers c)
 
@@ -128,10 +137,11 @@ abbrev pub run : List Event → WireState → WireState
 run [] w = w
 run (event ∷ events) w = run events (step event w)
 
--- an event that names its ends by numbers from 1
+-- a number from 1 to the most
 abbrev pub IsNumber : ℕ → ℕ → Type 0
 IsNumber most n = (0 < n) × (n ≤ most)
 
+-- an event that names its ends by numbers from 1
 abbrev pub IsNamed : ℕ → ℕ → Event → Type 0
 IsNamed resources customers (events.Ask c r) = IsNumber customers c × IsNumber resources r
 IsNamed resources customers (events.Again c) = IsNumber customers c
@@ -141,14 +151,16 @@ IsNamed resources customers (events.RestartCustomer c) = IsNumber customers c
 IsNamed resources customers (events.RestartResource r) = IsNumber resources r
 IsNamed resources customers events.Show = Unit {0}
 
--- so many customers that never asked, and resources that nobody held, numbered from 1
+-- so many customers that never asked, numbered from 1
 abbrev pub new_customers : ℕ → List CustomerState
 new_customers zero = []
 new_customers (suc n) = new_customers n ++ new_customer (suc n) ∷ []
 
+-- so many resources that nobody held, numbered from 1, with room for so many customers each
 abbrev pub new_resources : ℕ → ℕ → List ResourceState
 new_resources customers zero = []
 new_resources customers (suc n) = new_resources customers n ++ new_resource customers (suc n) ∷ []
 
+-- a wire of so many resources and customers on which nothing happened
 abbrev pub new_wire : ℕ → ℕ → WireState
 new_wire resources customers = record { customers = new_customers customers; resources = new_resources customers resources; sent = [] }

@@ -15,13 +15,6 @@ left-here ts i t is = ap conjuncts_of_all (pack-drop ts i t is)
 pub count-here : (ts : List Tree) (i : ℕ) (t : Tree) → slice_get ts i ≡ Some t → length (left ts i) ≡ length (conjuncts t) + length (left ts (i + 1))
 count-here ts i t is = ap length (left-here ts i t is) ∙ length-append (conjuncts t) (left ts (i + 1))
 
--- where there are any, there is an element
-pub some-left : (ts : List Tree) (i n : ℕ) → n < length (left ts i) → i < length ts
-some-left [] zero n some = absurd (omega (arith, some))
-some-left [] (suc i) n some = absurd (omega (arith, some))
-some-left (t ∷ ts) zero n some = omega arith
-some-left (t ∷ ts) (suc i) n some = omega (arith, some-left ts i n some)
-
 -- gathered behind others
 pub gathered-here : (ts : List Tree) (i : ℕ) (t : Tree) → slice_get ts i ≡ Some t → (old new : List Tree) → new ≡ old ++ conjuncts t → new ++ left ts (i + 1) ≡ old ++ left ts i
 gathered-here ts i t is old new added =

@@ -48,14 +48,6 @@ same_pos-cases a b = by (same_pos a b) refl
 
 -- ---- entries
 
-module _ {A : Type 0} (pos q : Pos) (x y : A) where
-  -- a choice by attributes that are equal, and by such that are apart
-  pub at_same : pos ≡ q → cond (same_pos pos q) x y ≡ x
-  at_same e = ap (λ t. cond t x y) (subst (λ p. same_pos pos p ≡ true) e (same_pos-itself pos))
-
-  pub at_other : same_pos pos q ≡ false → cond (same_pos pos q) x y ≡ y
-  at_other e = ap (λ t. cond t x y) e
-
 -- the first entry of an attribute is what entries have of it
 pub entry_of-first : (es : List Entry) (q : Pos) (i : ℕ) (d : Entry) → i < length es → same_pos (get_or es i d).pos q ≡ true → ((k : ℕ) → k < i → same_pos (get_or es k d).pos q ≡ false) → entry_of es q ≡ Some (get_or es i d).kept
 entry_of-first [] q i d within here before = absurd (omega arith)
@@ -140,9 +132,6 @@ option_or-with_None (Some a) = refl
 pub option_or-None : {A : Type 0} (a b : Option A) → option_or a b ≡ None → (a ≡ None) × (b ≡ None)
 option_or-None None b e = (refl, e)
 option_or-None (Some a) b e = absurd (cc)
-
-option_or-passed : {A : Type 0} (a b : Option A) → a ≡ None → option_or a b ≡ b
-option_or-passed a b none = rw none refl
 
 -- what stands for an attribute after it is entered among the entries, or in the map
 module _ (o m : Option (Option Kept)) (pos q : Pos) where

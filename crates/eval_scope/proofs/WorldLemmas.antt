@@ -1,7 +1,7 @@
 -- The ads of a world by their numbers, and sums that stay below 2^64.
-use Rattle.std.proofs.Common.{◌≡◌, ◌≢◌, ◌≤◌, ◌<◌, ◌+◌, ◌-◌, ◌^◌, ℕ, zero, suc, refl, List, [], ◌∷◌, length, map, take, drop, get_or, slice_get, option_map, Some, None, sum_by, min, sub-one, arith, ap, sym, ◌∙◌}
-use Rattle.std.proofs.lemmas.List.{at_drop_all, length-map, length-take, get_or-take}
-use Rattle.std.proofs.lemmas.Option.{slice_get-get_or, slice_get-map, slice_get_past, slice_get_read}
+use Rattle.std.proofs.Common.{◌≡◌, ◌≢◌, ◌≤◌, ◌<◌, ◌+◌, ◌-◌, ◌^◌, ℕ, zero, suc, refl, List, [], ◌∷◌, length, map, take, drop, get_or, slice_get, option_map, Some, sum_by, min, sub-one, arith, ap, sym, ◌∙◌}
+use Rattle.std.proofs.lemmas.List.{at_drop_all, length-take, get_or-take}
+use Rattle.std.proofs.lemmas.Option.{slice_get-get_or, slice_get-map, slice_get_read}
 use Rattle.std.proofs.lemmas.List.Sums.{sum_by-drop_more}
 use Rattle.ad_tree.specs.Frames.{Frame, attributes_at, attributes_in}
 
@@ -12,11 +12,6 @@ slice_get-behind x xs (suc n) above = rw (sub-one (suc n)) refl
 
 module _ {A B : Type 0} (v : A → B) (x : B) (items : List A) (count n : ℕ) where
   -- an ad that isn't there
-  pub shown-past : n ≢ 0 → count ≤ n - 1 → slice_get (x ∷ map v (take count items)) n ≡ None
-  shown-past above past =
-      slice_get-behind x (map v (take count items)) n above
-      ∙ slice_get_past (map v (take count items)) (n - 1) (simp (length-map, length-take) (omega arith))
-
   -- an ad that is there
   pub shown-at : (item : A) → n ≢ 0 → n - 1 < count → count ≤ length items → item ≡ get_or items (n - 1) item → slice_get (x ∷ map v (take count items)) n ≡ Some (v item)
   shown-at item above within fits read =

@@ -49,14 +49,16 @@ with_docked w ad = record { moment = w.moment; request = w.request; ports = w.po
 abbrev pub port_frame : List Port → ℕ → ℕ
 port_frame ports k = unwrap_or (option_map (λ port. port.frame) (slice_get ports (k - 1))) 0
 
--- the request's side of the last dock, and the resource's side, which is the root of the ad that was docked last
+-- the request's side of the last dock: the frame of its port, and the root of a single request
 abbrev pub request_side : PlainWorld → AdPlace
 request_side w = record { ad = 0; frame = port_frame w.ports (length w.docked) }
 
+-- the resource's side of the last dock: the root of the ad that was docked last
 abbrev pub resource_side : PlainWorld → AdPlace
 resource_side w = record { ad = length w.docked; frame = 0 }
 
--- the place at which expressions of ad k look for the other side: the root of the ad docked last for the request, which has none while nothing is docked; for any other ad the frame to which it is docked
+-- the place at which expressions of ad k look for the other side: the root of the ad docked last for the request, which has none
+-- while nothing is docked; for any other ad the frame to which it is docked
 abbrev pub target : PlainWorld → ℕ → Option AdPlace
 target w zero = cond (nat_eq (length w.docked) 0) None (Some (resource_side w))
 target w (suc k) = Some (record { ad = 0; frame = port_frame w.ports (suc k) })

@@ -1,22 +1,15 @@
 -- The ports of an ad, port by port.
-use Rattle.std.proofs.Common.{◌≡◌, ◌<◌, ◌≤◌, ◌+◌, ◌-◌, ℕ, suc, Bool, true, false, not, ◌&&◌, ◌||◌, refl, List, [], ◌∷◌, ◌++◌, length, map, drop, take, get_or, Option, None, Some, option_map, slice_get, ap, sym, ◌∙◌, arith, append_assoc, position, add-one, length-drop}
+use Rattle.std.proofs.Common.{◌≡◌, ◌<◌, ◌≤◌, ◌+◌, ◌-◌, ℕ, suc, Bool, true, false, not, ◌&&◌, ◌||◌, refl, List, [], ◌∷◌, ◌++◌, length, map, drop, take, get_or, Option, None, Some, option_map, slice_get, ap, sym, ◌∙◌, arith, append_assoc, add-one, length-drop}
 use Rattle.std.specs.List.{list_any}
 use Rattle.std.specs.Option.{option_and_then}
-use Rattle.std.proofs.lemmas.List.{append-nil, drop_all, take_all}
-use Rattle.std.proofs.lemmas.Option.{slice_get_past}
+use Rattle.std.proofs.lemmas.List.{take_all}
 use Rattle.std.proofs.Math.Seq.{drop-cons}
 use Rattle.ad_tree.specs.declared.request.Port.{Port}
-use Rattle.ad_tree.specs.Enclosing.{expr_named}
-use Rattle.ad_tree.specs.Frames.{Frame, attributes_in, expr_at, names_of}
+use Rattle.ad_tree.specs.Frames.{Frame}
 use Rattle.ad_tree.specs.Names.{are_apart, has_name, same_name}
 use Rattle.ad_tree.specs.Tree.{Tree, Trees, pack}
 use Rattle.ad_tree.proofs.TreeLemmas.{pack-drop}
 use Rattle.gang_ports.specs.Ports.{port_of, ports_of_all}
-
--- a frame that isn't there has no expressions
-pub nothing-named : (fs : List Frame) (f : ℕ) (name : List ℕ) → length fs ≤ f → expr_named fs f name ≡ None
-nothing-named fs f name past =
-    ap (λ (o : Option Frame). option_and_then (λ k. expr_at fs f k) (position (same_name name) (names_of (attributes_in o)))) (slice_get_past fs f past)
 
 -- ---- the ports that trees open
 
@@ -24,18 +17,11 @@ nothing-named fs f name past =
 abbrev pub behind : List Port → Option (List Port) → Option (List Port)
 behind ports o = option_map (λ rest. ports ++ rest) o
 
-behind-none : (o : Option (List Port)) → behind [] o ≡ o
-behind-none None = refl
-behind-none (Some rest) = refl
-
 behind-more : (ports : List Port) (port : Port) (o : Option (List Port)) → behind ports (option_map (λ rest. port ∷ rest) o) ≡ behind (ports ++ port ∷ []) o
 behind-more ports port None = refl
 behind-more ports port (Some rest) = ap Some (sym (append_assoc ports (port ∷ []) rest))
 
 module _ (fs : List Frame) (ts : List Tree) where
-  pub ports-start : behind [] (ports_of_all fs (pack (drop 0 ts))) ≡ ports_of_all fs (pack ts)
-  ports-start = behind-none (ports_of_all fs (pack ts))
-
   pub ports-next : (ports new : List Port) (i : ℕ) (t : Tree) (port : Port) → new ≡ ports ++ port ∷ [] → slice_get ts i ≡ Some t → Some port ≡ port_of fs t
       → behind ports (ports_of_all fs (pack (drop i ts))) ≡ ports_of_all fs (pack ts) → behind new (ports_of_all fs (pack (drop (i + 1) ts))) ≡ ports_of_all fs (pack ts)
   ports-next ports new i t port added at opens so_far =
@@ -50,12 +36,6 @@ module _ (fs : List Frame) (ts : List Tree) where
   ports-fail ports i t at opens so_far =
       ap (λ (o : Option Port). behind ports (option_and_then (λ p. option_map (λ rest. p ∷ rest) (ports_of_all fs (pack (drop (i + 1) ts)))) o)) opens
       ∙ ap (λ (us : Trees). behind ports (ports_of_all fs us)) (sym (pack-drop ts i t at))
-      ∙ so_far
-
-  pub ports-end : (ports : List Port) (i : ℕ) → length ts ≤ i → behind ports (ports_of_all fs (pack (drop i ts))) ≡ ports_of_all fs (pack ts) → Some ports ≡ ports_of_all fs (pack ts)
-  ports-end ports i past so_far =
-      ap Some (sym (append-nil ports))
-      ∙ ap (λ (us : List Tree). behind ports (ports_of_all fs (pack us))) (sym (drop_all i ts past))
       ∙ so_far
 
 -- ---- labels
@@ -88,6 +68,3 @@ module _ (ports : List Port) (i : ℕ) (d : Port) (within : i < length ports) (n
 
   pub apart-next : list_any (λ p. same_name p.label name) rest ≡ false → are_apart (labels (drop i ports)) ≡ are_apart (labels ports) → are_apart (labels (drop (i + 1) ports)) ≡ are_apart (labels ports)
   apart-next e so_far = ap (λ k. are_apart (labels (drop k ports))) (add-one i) ∙ sym (labels-at false e) ∙ so_far
-
-pub apart-end : (ports : List Port) (i : ℕ) → length ports ≤ i → are_apart (labels (drop i ports)) ≡ are_apart (labels ports) → true ≡ are_apart (labels ports)
-apart-end ports i past so_far = ap (λ (ps : List Port). are_apart (labels ps)) (sym (drop_all i ports past)) ∙ so_far

@@ -1,7 +1,6 @@
 -- A label that is looked for in expressions, attributes and frames, one after another.
-use Rattle.std.proofs.Common.{◌≡◌, ◌<◌, ◌≤◌, ◌+◌, ℕ, zero, suc, Bool, true, false, ◌||◌, refl, List, [], ◌∷◌, length, drop, Option, None, Some, option_map, slice_get, ap, sym, ◌∙◌, arith}
+use Rattle.std.proofs.Common.{◌≡◌, ◌<◌, ◌+◌, ℕ, zero, suc, Bool, true, false, ◌||◌, refl, List, [], ◌∷◌, length, drop, Option, None, Some, option_map, slice_get, ap, sym, ◌∙◌, arith}
 use Rattle.std.specs.List.{list_any}
-use Rattle.std.proofs.lemmas.List.{drop_all}
 use Rattle.ad_tree.specs.Frames.{Frame, attributes_at, attributes_in}
 use Rattle.ad_tree.specs.Tree.{Tree, pack}
 use Rattle.ad_tree.proofs.TreeLemmas.{pack-drop}
@@ -18,9 +17,6 @@ module _ {X : Type 0} (p : X → Bool) (xs : List X) (i : ℕ) (whole : Bool) (s
   any-at : (x : X) (b : Bool) → slice_get xs i ≡ Some x → p x ≡ b → (b || list_any p (drop (i + 1) xs)) ≡ whole
   any-at x b at e = ap (λ c. c || list_any p (drop (i + 1) xs)) (sym e) ∙ sym (ap (list_any p) (drop-at xs i x at)) ∙ so_far
 
-  pub any-end : length xs ≤ i → false ≡ whole
-  any-end past = ap (list_any p) (sym (drop_all i xs past)) ∙ so_far
-
 -- ---- expressions
 
 module _ (label : List ℕ) (ts : List Tree) (i : ℕ) (so_far : any_refers label (pack (drop i ts)) ≡ any_refers label (pack ts)) where
@@ -32,9 +28,6 @@ module _ (label : List ℕ) (ts : List Tree) (i : ℕ) (so_far : any_refers labe
 
   pub tree-next : (t : Tree) → slice_get ts i ≡ Some t → false ≡ refers label t → any_refers label (pack (drop (i + 1) ts)) ≡ any_refers label (pack ts)
   tree-next t at e = tree-at t false at (sym e)
-
-  pub tree-end : length ts ≤ i → false ≡ any_refers label (pack ts)
-  tree-end past = ap (λ (us : List Tree). any_refers label (pack us)) (sym (drop_all i ts past)) ∙ so_far
 
 -- ---- attributes
 

@@ -12,6 +12,7 @@ pub record Choice : Type 0 where
 
 -- ---- tuples
 
+-- the place is among these
 abbrev pub is_among : List ℕ → ℕ → Bool
 is_among places place = list_any (λ other. other == place) places
 
@@ -51,11 +52,12 @@ abbrev pub IsFirstOf : Choice → List (List ℕ) → Option (List ℕ) → Type
 IsFirstOf choice ts None = ts ≡ []
 IsFirstOf choice ts (Some t) = IsFirst choice [] ts t
 
--- the one that is so
+-- the earlier of a tuple and another, if there is another
 abbrev pub earlier : Choice → List ℕ → Option (List ℕ) → List ℕ
 earlier choice a None = a
 earlier choice a (Some b) = if is_lt (tuple_order choice [] b a) then b else a
 
+-- the tuple before which no other comes, or none where there are none
 unfoldable pub first_of : Choice → List (List ℕ) → Option (List ℕ)
 first_of choice [] = None
 first_of choice (t ∷ ts) = Some (earlier choice t (first_of choice ts))

@@ -28,6 +28,7 @@ gang_world pool request ports places = record { moment = pool.moment; request = 
 abbrev pub is_free : Pool → ℕ → Bool
 is_free pool place = option_map_or (is_live pool.moment) (slice_get pool.ads place) false && (not (pool.is_offered place) && not (is_some (pool.held_in place)))
 
+-- the places of the resources that may be taken, in order
 unfoldable pub free_places : Pool → List ℕ
 free_places pool = filter (is_free pool) (range_with_len 0 (length pool.ads))
 
@@ -70,6 +71,7 @@ abbrev pub attributes_behind : Pool → List Frame → List Port → List ℕ �
 attributes_behind pool request ports before =
     sum_by (λ place. 3 * attribute_count (gang_world pool request ports (before ++ place ∷ []))) (open_docks pool request ports before)
 
+-- how many attributes these evaluations enter at most, over all valid prefixes
 abbrev pub attributes_open : Pool → List Frame → List Port → ℕ
 attributes_open pool request ports = over_prefixes (choice_of pool request ports) (attributes_behind pool request ports) (length ports) []
 

@@ -1,13 +1,12 @@
 -- The order of places.
-use Rattle.std.proofs.Common.{refl, ◌≡◌, ap, ℕ, ℤ, Ordering, true, nat_cmp}
+use Rattle.std.proofs.Common.{refl, ◌≡◌, ℕ, ℤ, Ordering, true, nat_cmp}
 use Rattle.std.specs.Ordering.{int_cmp, ordering_then, is_eq}
 use Rattle.std.proofs.lemmas.Map.Lookups.{CmpEqualImpliesEq, exact_unsigned, exact_signed}
-use Rattle.std.proofs.lemmas.Cmp.{tied_itself}
 use Rattle.std.specs.BTreeMap.{is_at}
 use Rattle.std.specs.declared.cmp.Ordering.TheVariants.{Less, Equal, Greater}
 use Rattle.literal_index.specs.declared.place.Place.{Place}
 use Rattle.literal_index.specs.declared.place.Kind.{Kind}
-use Rattle.literal_index.specs.Order.{kind_order, place_order, place_order_total}
+use Rattle.literal_index.specs.Order.{kind_order, place_order}
 
 pub exact_kinds : CmpEqualImpliesEq kind_order
 exact_kinds Kind.Open Kind.Open e = refl
@@ -23,9 +22,6 @@ kind_order_self Kind.Undefined = refl
 kind_order_self Kind.Error = refl
 kind_order_self Kind.Number = refl
 kind_order_self Kind.Str = refl
-
-pub shown : (a b : Place) → place_order a b ≡ ordering_then (nat_cmp a.name b.name) (ordering_then (kind_order a.kind b.kind) (ordering_then (int_cmp a.value b.value) (ordering_then (nat_cmp a.slot b.slot) (nat_cmp a.attr b.attr))))
-shown a b = refl
 
 -- places that the order doesn't tell apart are equal
 pub exact_places : CmpEqualImpliesEq place_order
@@ -55,6 +51,3 @@ at_place p q e = exact_places p q (equal (place_order p q) e)
     equal Equal h = refl
     equal Less h = absurd (cc)
     equal Greater h = absurd (cc)
-
-pub at_itself : (p : Place) → is_at (place_order p) p ≡ true
-at_itself p = ap is_eq (tied_itself place_order_total p)

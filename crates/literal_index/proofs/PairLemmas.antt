@@ -135,9 +135,6 @@ module _ (first second : Test) (pair : is_pair first second ≡ true) where
   first_undefined : holds_with first Lit.Undefined ≡ false
   first_undefined = unnot _ (and_right _ _ (and_left _ _ pair))
 
-  second_undefined : holds_with second Lit.Undefined ≡ false
-  second_undefined = unnot _ (and_right _ _ pair)
-
   -- a literal, or none, doesn't decide against either
   abbrev keeps_both : Option Lit → Bool
   keeps_both found = keeps first found && keeps second found

@@ -1,10 +1,9 @@
 -- Ads under slots, as they come and go.
-use Rattle.std.proofs.Common.{refl, arith, ◌≡◌, ◌≢◌, ◌∙◌, ap, sym, true≢false, ℕ, Bool, true, false, ◌&&◌, ◌==◌, cond, List, [], ◌∷◌, ◌++◌, map, length, Option, None, Some, option_map, slice_get, is_some, nat_lt, nat_eq, nat_cmp, IsPermutation}
+use Rattle.std.proofs.Common.{refl, arith, ◌≡◌, ◌≢◌, ◌∙◌, ap, sym, true≢false, ℕ, Bool, true, false, ◌&&◌, ◌==◌, cond, List, [], ◌∷◌, ◌++◌, map, length, Option, None, Some, option_map, slice_get, is_some, nat_lt, nat_eq, nat_cmp}
 use Rattle.std.specs.List.{AllByRecursion}
 use Rattle.std.specs.Option.{option_and_then, option_map_or}
 use Rattle.std.specs.BTreeMap.{BTreeMap, get, is_at}
 use Rattle.std.specs.BTreeSet.{BTreeSet, contains}
-use Rattle.std.proofs.lemmas.List.Sorted.{IsPermutation-middle}
 use Rattle.std.proofs.lemmas.Option.{slice_get_past}
 use Rattle.ad_tree.specs.Tree.{Tree}
 use Rattle.ad_tree.specs.Frames.{Frame, attributes_at}
@@ -30,9 +29,6 @@ at_number a b = grind arith
 
 -- ---- the ad under a slot
 
-slots_of : List Row → List ℕ
-slots_of rows = map (λ row. row.slot) rows
-
 module _ (slot : ℕ) (fs : List Frame) where
   -- with one more
   pub ad_under-middle : (before after : List Row) (s : ℕ) → ad_under slot (before ++ after) ≡ None
@@ -52,9 +48,6 @@ module _ (slot : ℕ) (fs : List Frame) where
           ap (λ b. cond b (Some r.ad) (ad_under s (before ++ row_of slot fs ∷ after))) t
           ∙ rest (sym (ap (λ b. cond b (Some r.ad) (ad_under slot (before ++ after))) h) ∙ none)
           ∙ sym (ap (λ b. cond (slot == s) (Some fs) (cond b (Some r.ad) (ad_under s (before ++ after)))) t)
-
-  moved : (before after : List Row) → IsPermutation (before ++ row_of slot fs ∷ after) (row_of slot fs ∷ (before ++ after))
-  moved before after = IsPermutation-middle before (row_of slot fs) after
 
 -- no ad is under a slot that differs from all
 pub none-under : (slot : ℕ) (rows : List Row) → AllByRecursion (λ s. nat_eq slot s ≡ false) (map (λ row. row.slot) rows) → ad_under slot rows ≡ None

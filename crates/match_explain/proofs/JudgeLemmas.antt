@@ -1,6 +1,5 @@
 -- The verdict on one ad, from the truths of the request's conjuncts.
-use Rattle.std.proofs.Common.{◌≡◌, ◌∙◌, ap, sym, refl, ℕ, Bool, Bor, List, length, map, Option, None, Some}
-use Rattle.std.proofs.lemmas.List.{length-map}
+use Rattle.std.proofs.Common.{◌≡◌, ◌∙◌, ap, sym, refl, ℕ, Bool, Bor, List, map, Option, None, Some}
 use Rattle.std.proofs.lemmas.Simd.{map-map}
 use Rattle.pool_text.specs.declared.language.AdPlace.{AdPlace}
 use Rattle.ad_tree.specs.Frames.{Frame}
@@ -24,12 +23,7 @@ module _ (moment : ℕ) (request ad : List Frame) (es : List (Bor Expr)) (gather
       ∙ ap (λ (v : PlainWorld). map (λ (e : Bor Expr). holds v (request_side v) (tree e.now)) es) docked
       ∙ sym (map-map (holds_for moment request ad) (λ (e : Bor Expr). tree e.now) es)
       ∙ ap (map (holds_for moment request ad)) gathered
-
   -- as many as there are counts
-  pub truths-beside : (w : PlainWorld) (at : AdPlace) (xs : List (Bor Expr)) (held : List Bool) (counts : List ℕ) → xs ≡ es
-      → held ≡ map (λ (e : Bor Expr). holds w at (tree e.now)) xs → length counts ≡ length es → length counts ≡ length held
-  truths-beside w at xs held counts same is beside =
-      beside ∙ sym (ap length is ∙ length-map xs (λ (e : Bor Expr). holds w at (tree e.now)) ∙ ap length same)
 
 module _ (moment : ℕ) (request ad : List Frame) (held : List Bool) (are : held ≡ map (holds_for moment request ad) (conjuncts_at request 0)) where
   world : PlainWorld

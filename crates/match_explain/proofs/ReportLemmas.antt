@@ -1,7 +1,7 @@
 -- Verdicts ad by ad, and rows conjunct by conjunct.
 use Rattle.std.proofs.Common.{◌≡◌, ◌∙◌, ap, sym, refl, ℕ, zero, suc, ◌+◌, ◌<◌, ◌≤◌, add-one, All, List, [], ◌∷◌, ◌++◌, drop, length, map, take, get_or, Option, None, Some, option_map, slice_get, subst, arith}
 use Rattle.std.proofs.lemmas.List.{append-nil, drop_all, map-append, take_all, take_more}
-use Rattle.std.proofs.lemmas.List.Elements.{All-cons, All-tail}
+use Rattle.std.proofs.lemmas.List.Elements.{All-tail}
 use Rattle.std.proofs.lemmas.List.Sums.{sum_by_more, sum_by_more_le}
 use Rattle.std.proofs.lemmas.Option.{get_or_from_slice_get, slice_get_within}
 use Rattle.ad_tree.specs.Frames.{Frame}
@@ -10,7 +10,6 @@ use Rattle.ad_tree.specs.Small.{IsSmall}
 use Rattle.ad_tree.specs.Tree.{Tree}
 use Rattle.ad_tree.specs.declared.request.Port.{Port}
 use Rattle.ad_store.specs.Stock.{Advert}
-use Rattle.ad_eval.specs.Small.{AreSmall}
 use Rattle.ad_printer.specs.Printed.{printed}
 use Rattle.eval_scope.specs.World.{PlainWorld, with_docked}
 use Rattle.match_explain.specs.declared.report.Conjunct.{Conjunct}
@@ -28,10 +27,6 @@ module _ (moment : ℕ) (request ad : List Frame) where
       docked
       ∙ ap (λ (u : PlainWorld). with_docked u ad) new
       ∙ ap (λ (ps : List Port). record { moment = moment; request = request; ports = ps; docked = ad ∷ [] }) single
-
-  pub world-small : (w : PlainWorld) → w ≡ docked_to moment request ad → IsSmall request → IsSmall ad → AreSmall w
-  world-small w is small_request small_ad =
-      subst AreSmall (sym is) (All-cons IsSmall request (ad ∷ []) small_request (All-cons IsSmall ad [] small_ad (λ i d within. absurd (omega arith))))
 
 -- ---- ads
 

@@ -136,9 +136,6 @@ module _ (jobs : List Job) (i : ℕ) (slots : List ℕ) (idle : is_idle_at jobs 
   pub requests-later : map (λ (job : Job). job.request) later ≡ map (λ (job : Job). job.request) jobs
   requests-later = map-later (λ (job : Job). job.request) refl
 
-  pub names-later : map (λ (job : Job). job.name) later ≡ map (λ (job : Job). job.name) jobs
-  names-later = map-later (λ (job : Job). job.name) refl
-
   pub length-later : length later ≡ length jobs
   length-later = ap length later-is ∙ length-set jobs i changed
 

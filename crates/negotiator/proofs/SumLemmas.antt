@@ -1,16 +1,8 @@
 -- Sums and counts over numbers in a row.
-use Rattle.std.proofs.Common.{◌≡◌, ◌≢◌, ◌≤◌, ◌<◌, ◌+◌, ℕ, zero, suc, List, [], ◌∷◌, sum_by, ◌⊎◌, inl, inr, subst, arith}
+use Rattle.std.proofs.Common.{◌≡◌, ◌≢◌, ◌≤◌, ◌<◌, ◌+◌, ℕ, zero, suc, sum_by, ◌⊎◌, inl, inr, subst, arith}
 use Rattle.std.specs.List.{range_with_len}
 use Rattle.std.proofs.lemmas.Bool.{cases_lt}
 use Rattle.std.proofs.lemmas.List.Sums.{sum_by-cons}
-
--- a sum of terms that are no greater is no greater
-pub sum-less : {X : Type 0} (f g : X → ℕ) → ((x : X) → g x ≤ f x) → (xs : List X) → sum_by g xs ≤ sum_by f xs
-sum-less f g each [] = omega arith
-sum-less f g each (x ∷ xs) =
-    let one = each x in
-    let rest = sum-less f g each xs in
-    omega (arith, one, rest, sum_by-cons g x xs, sum_by-cons f x xs)
 
 later-less : (f g : ℕ → ℕ) (i : ℕ) → ((j : ℕ) → j ≢ i → g j ≤ f j) → (a : ℕ) → i < a → (n : ℕ) → sum_by g (range_with_len a n) ≤ sum_by f (range_with_len a n)
 later-less f g i others a past zero = omega arith

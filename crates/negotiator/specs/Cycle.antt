@@ -21,7 +21,8 @@ pub record Offer (R : Type 0) : Type 0 where
   pub job : ℕ
   pub resources : List R
 
--- the jobs in the order of their submission; what the job at a place finds, and how many resources are free, once some offers are made; and the users' priorities
+-- the jobs in the order of their submission; what the job at a place finds, and how many resources are free, once some offers are
+-- made; and the users' priorities
 pub record Market (R : Type 0) : Type 0 where
   pub jobs : List Waiting
   pub find : List (Offer R) → ℕ → Option (List R)
@@ -39,9 +40,11 @@ pub record PlainSpin (R : Type 0) : Type 0 where
   pub free : ℕ
   pub turns : List (PlainTurn R)
 
+-- the places of all jobs, in the order of their submission
 abbrev pub places : List Waiting → List ℕ
 places jobs = range_with_len 0 (length jobs)
 
+-- the list has no elements
 abbrev pub is_empty : {A : Type 0} → List A → Bool
 is_empty [] = true
 is_empty (x ∷ xs) = false
@@ -51,15 +54,19 @@ abbrev pub user_order : (List ℕ → ℕ) → List ℕ → List ℕ → Orderin
 user_order priority a b = ordering_then (nat_cmp (priority a) (priority b)) (slice_cmp nat_cmp a b)
 
 module _ {R : Type 0} where
+  -- one of these offers is to the job at a place
   abbrev pub is_given : List (Offer R) → ℕ → Bool
   is_given made i = list_any (λ offer. offer.job == i) made
 
+  -- the offers of turns, in order
   abbrev pub offers_in : List (PlainTurn R) → List (Offer R)
   offers_in turns = flat_map (λ turn. turn.offers) turns
 
+  -- the offers of spins, in order
   abbrev pub offers_of : List (PlainSpin R) → List (Offer R)
   offers_of spins = flat_map (λ spin. offers_in spin.turns) spins
 
+  -- the turn makes an offer
   abbrev pub has_offer : PlainTurn R → Bool
   has_offer turn = not (is_empty turn.offers)
 
@@ -70,17 +77,20 @@ module _ {R : Type 0} (market : Market R) where
   abbrev pub is_waiting : List (Offer R) → ℕ → Bool
   is_waiting made i = option_map_or (λ job. job.is_idle) (slice_get market.jobs i) false && not (is_given made i)
 
+  -- the job at a place is the user's
   abbrev pub is_of : List ℕ → ℕ → Bool
   is_of user i = option_map_or (λ job. bytes_eq user job.user) (slice_get market.jobs i) false
 
-  -- so is a job of the user
+  -- the job at a place is the user's, and waits once these offers are made
   abbrev pub waits : List ℕ → List (Offer R) → ℕ → Bool
   waits user made i = is_of user i && is_waiting made i
 
+  -- how many resources the job at a place wants
   abbrev pub wants_of : ℕ → ℕ
   wants_of i = option_map_or (λ job. job.wants) (slice_get market.jobs i) 0
 
-  -- a turn goes through the jobs of a user at these places. It ends at a job that wants more than is left of the slice, unless nothing was given in it; a job that finds nothing costs nothing
+  -- a turn goes through the jobs of a user at these places. It ends at a job that wants more than is left of the slice, unless
+  -- nothing was given in it; a job that finds nothing costs nothing
   abbrev pub turn : List ℕ → List ℕ → ℕ → Bool → List (Offer R) → List (Offer R)
   turn user [] left given made = []
   turn user (i ∷ is) left given made =
@@ -121,6 +131,7 @@ module _ {R : Type 0} (market : Market R) where
   spins_within zero made = []
   spins_within (suc n) made = spin made ∷ (if is_empty (spin made).turns then [] else spins_within n (made ++ offers_in (spin made).turns))
 
+  -- how many jobs wait once these offers are made
   abbrev pub waiting_count : List (Offer R) → ℕ
   waiting_count made = count_by (is_waiting made) (places market.jobs)
 
@@ -128,5 +139,6 @@ module _ {R : Type 0} (market : Market R) where
   abbrev pub cycle_from : List (Offer R) → List (PlainSpin R)
   cycle_from made = spins_within (suc (waiting_count made)) made
 
+  -- the spins of a cycle, from no offers on
   abbrev pub cycle_of : List (PlainSpin R)
   cycle_of = cycle_from []

@@ -1,11 +1,11 @@
 -- The rows of entries: their names, and one entry that changes, comes or goes.
-use Rattle.std.proofs.Common.{◌≡◌, ◌≢◌, ℕ, ◌+◌, ◌<◌, ◌≤◌, ◌↔◌, true, false, List, [], ◌∷◌, ◌++◌, length, map, get_or, remove, slice_get, slice_set, Option, Some, None, IsNone, IsSome, IfNone, IfSome, IsTrue, is_some, refl, sym, ◌∙◌, ap, subst, arith}
+use Rattle.std.proofs.Common.{◌≡◌, ◌≢◌, ℕ, ◌+◌, ◌<◌, ◌↔◌, true, false, List, [], ◌∷◌, ◌++◌, length, map, get_or, remove, slice_get, slice_set, Option, Some, None, IsNone, IsSome, IfNone, IfSome, IsTrue, is_some, refl, sym, ◌∙◌, ap, subst, arith}
 use Rattle.std.specs.List.{AllZip}
 use Rattle.std.proofs.Math.Seq.{map-set_same}
 use Rattle.std.proofs.lemmas.List.{length-map, map-append, map-set}
 use Rattle.std.proofs.lemmas.List.Quantifiers.{all_pairs_push, all_pairs_remove}
 use Rattle.std.proofs.lemmas.Option.{slice_get_within}
-use Rattle.notice_desk.specs.Desk.{Held, Row, Posts, RowPosts, box_under, failures_under, is_marked, names_of, retired, told_by, without}
+use Rattle.notice_desk.specs.Desk.{Held, Row, Posts, RowPosts, box_under, failures_under, is_marked, names_of, retired, without}
 use Rattle.notice_desk.specs.Names.{AreDistinct, IsAbsent}
 use Rattle.notice_desk.specs.Sight.{Sight, row_of, rows_of, entry_names}
 use Rattle.notice_desk.specs.declared.entry.Entry.{Entry}
@@ -13,7 +13,7 @@ use Rattle.notice_desk.specs.declared.notices.PostEnd.{PostEnd}
 use Rattle.notice_desk.specs.declared.notices.PostEnd.TheVariants.{NoBox}
 use Rattle.notice_desk.proofs.ListLemmas.{image-there, map-remove}
 use Rattle.notice_desk.proofs.RetireLemmas.{Retiring, names-retired, retiring-marked, retiring-unmarked}
-use Rattle.notice_desk.proofs.RowLemmas.{box-absent, box-there, failures-absent, failures-known, failures-there, no_box_iff, posts-absent, posts-there, without-absent, without-there}
+use Rattle.notice_desk.proofs.RowLemmas.{box-absent, box-there, failures-absent, failures-known, failures-there, no_box_iff, posts-there, without-there}
 
 -- ---- names
 

@@ -1,7 +1,6 @@
 -- Marked boxes that are dropped from the front on.
-use Rattle.std.proofs.Common.{◌≡◌, ℕ, zero, suc, ◌+◌, ◌<◌, ◌≤◌, true, false, List, [], ◌∷◌, ◌++◌, length, map, take, drop, count_by, slice_get, slice_set, Some, refl, sym, ◌∙◌, ap, subst, add-one, arith, length-take}
-use Rattle.std.proofs.lemmas.List.{take_all, drop_all, append-nil}
-use Rattle.std.proofs.lemmas.List.Sums.{count_by_more_yes, count_by_more_no, count_by-le-length}
+use Rattle.std.proofs.Common.{◌≡◌, ℕ, zero, suc, ◌+◌, true, false, List, [], ◌∷◌, ◌++◌, map, take, drop, count_by, slice_get, slice_set, Some, refl, sym, ◌∙◌, ap, add-one}
+use Rattle.std.proofs.lemmas.List.Sums.{count_by_more_yes, count_by_more_no}
 use Rattle.std.proofs.lemmas.Option.{get_or_from_slice_get, slice_get_within}
 use Rattle.notice_desk.specs.Desk.{Row, is_marked, names_of, retired}
 
@@ -43,15 +42,6 @@ module _ (start now : List Row) (i count : ℕ) (old new : Row) (so_far : Retiri
     rows = rows_more;
     counted = so_far.counted ∙ sym (count_by_more_no is_marked start i old (slice_get_within start i old there) (ap is_marked (get_or_from_slice_get start i old old there) ∙ isnt));
   }
-
-pub retiring-count : (start now : List Row) (i count : ℕ) → Retiring start now i count → count ≤ i
-retiring-count start now i count so_far = omega (arith, so_far.counted, count_by-le-length is_marked (take i start), length-take i start)
-
-pub retiring-end : (start now : List Row) (i count : ℕ) → Retiring start now i count → length start ≤ i → (count ≡ count_by is_marked start) × (now ≡ map retired start)
-retiring-end start now i count so_far all = (
-  so_far.counted ∙ ap (λ rs. count_by is_marked rs) (take_all i start all),
-  so_far.rows ∙ ap (λ rs. map retired rs ++ drop i start) (take_all i start all) ∙ ap (λ rs. map retired start ++ rs) (drop_all i start all) ∙ append-nil (map retired start),
-)
 
 -- the names stay
 pub names-retired : (rows : List Row) → names_of (map retired rows) ≡ names_of rows

@@ -1,5 +1,5 @@
 -- The rows of a desk at a name that is there, and at one that is absent.
-use Rattle.std.proofs.Common.{◌≡◌, ◌≢◌, ℕ, zero, suc, ◌↔◌, Bool, true, false, cond, not, List, [], ◌∷◌, map, slice_get, slice_set, remove, Option, None, Some, IsNone, IsSome, bytes_eq, is_some, true≢false, refl, sym, ◌∙◌, ap, subst}
+use Rattle.std.proofs.Common.{◌≡◌, ◌≢◌, ℕ, zero, suc, ◌↔◌, Bool, true, false, cond, not, List, [], ◌∷◌, slice_get, slice_set, remove, Option, None, Some, IsNone, IsSome, bytes_eq, is_some, true≢false, refl, sym, ◌∙◌, ap, subst}
 use Rattle.std.specs.List.{AllZip}
 use Rattle.std.proofs.lemmas.List.Elements.{All-head, All-tail}
 use Rattle.notice_desk.specs.Desk.{Held, Row, HeldPosts, RowPosts, Posts, box_under, failures_under, names_of, without}

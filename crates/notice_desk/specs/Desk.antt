@@ -16,6 +16,7 @@ pub record Row : Type 0 where
   pub held : Option Held
   pub failures : ℕ
 
+-- the names of rows, in order
 abbrev pub names_of : List Row → List (List ℕ)
 names_of rows = map (λ row. row.name) rows
 
@@ -70,6 +71,7 @@ abbrev pub marked : Option Held → Bool
 marked None = false
 marked (Some held) = held.failed
 
+-- whether a row's box stands there and is marked
 abbrev pub is_marked : Row → Bool
 is_marked row = marked row.held
 

@@ -1,5 +1,5 @@
 -- The words of a command line two by two: an option and its value, and the words behind them.
-use Rattle.std.proofs.Common.{◌≡◌, ℕ, ◌<◌, ◌≤◌, Bool, true, false, ◌==◌, List, [], ◌∷◌, ◌++◌, length, get_or, drop, Option, None, refl, sym, ◌∙◌, ap, subst, arith, append_assoc}
+use Rattle.std.proofs.Common.{◌≡◌, ℕ, ◌<◌, ◌≤◌, true, false, ◌==◌, List, [], ◌∷◌, ◌++◌, length, get_or, drop, Option, None, refl, sym, ◌∙◌, ap, subst, arith, append_assoc}
 use Rattle.std.specs.Str.{bytes_eq}
 use Rattle.std.specs.Prelude.{codes}
 use Rattle.pool_engine.specs.Mails.{has_mail, is_named, mail_of, mails_of, with_mail}
@@ -38,11 +38,6 @@ pub are_options-few : (words : List (List ℕ)) → length words < 2 → are_opt
 are_options-few [] few = refl
 are_options-few (x ∷ []) few = refl
 are_options-few (x ∷ y ∷ words) few = absurd (omega (arith, few))
-
-pub mails_of-none : (words : List (List ℕ)) → length words < 2 → mails_of words ≡ []
-mails_of-none [] few = refl
-mails_of-none (x ∷ []) few = refl
-mails_of-none (x ∷ y ∷ words) few = absurd (omega (arith, few))
 
 pub mails_of-next : (words : List (List ℕ)) (value d : List ℕ) (mail : Option Mail) → 2 ≤ length words → value ≡ get_or words 1 d → mail ≡ mail_of value → mails_of words ≡ with_mail mail (mails_of (drop 2 words))
 mails_of-next [] value d mail two second is = absurd (omega (arith, two))

@@ -1,6 +1,5 @@
 -- The commands that wait, one by one.
 use Rattle.std.proofs.Common.{◌≡◌, ℕ, ◌+◌, ◌≤◌, ◌<◌, ◌^◌, List, [], ◌∷◌, ◌++◌, length, refl, sym, ◌∙◌, ap, subst, arith, append_assoc}
-use Rattle.std.proofs.lemmas.List.{append-nil}
 use Rattle.pool_script.specs.declared.command.Command.{Command}
 use Rattle.pool_engine.specs.declared.run.RunEnd.{RunEnd}
 use Rattle.pool_engine.specs.Ends.{Effects}
@@ -32,8 +31,3 @@ Running-command s t u k m n all waiting rest command before refused count runnin
 pub Running-stopped : (s t : Heard) (k m n : Effects) (all waiting rest : List Command) (command : Command) (before refused : ℕ) (end : RunEnd) → Running s t k m all waiting before refused → waiting ≡ command ∷ rest → Stopped t m n (command ∷ []) end → Stopped s k n all end
 Running-stopped s t k m n all waiting rest command before refused end running is stopped =
     subst (λ (l : List Command). Stopped s k n l end) (sym (split_next all running.ran waiting rest command running.split is)) (Stopped-within s t k m n running.ran (command ∷ []) rest before refused end running.took stopped)
-
-pub Running-end : (s t : Heard) (k m : Effects) (all waiting : List Command) (before refused : ℕ) → Running s t k m all waiting before refused → waiting ≡ [] → Took s t k m all before refused
-Running-end s t k m all waiting before refused running none =
-    let whole : all ≡ running.ran = running.split ∙ ap (λ (l : List Command). running.ran ++ l) none ∙ append-nil running.ran in
-    subst (λ (l : List Command). Took s t k m l before refused) (sym whole) running.took

@@ -24,7 +24,9 @@ use Rattle.pool_replies.specs.declared.refusal.Room.{Room}
 use Rattle.pool_replies.specs.declared.refusal.Room.TheVariants as room
 use Rattle.pool_replies.specs.declared.rows.AdRow.{AdRow}
 use Rattle.pool_replies.specs.declared.rows.HitRow.{HitRow}
+use Rattle.pool_replies.specs.declared.rows.JobRow.{JobRow}
 use Rattle.pool_replies.specs.declared.rows.SpinRow.{SpinRow}
+use Rattle.pool_replies.specs.declared.rows.UserRow.{UserRow}
 use Rattle.pool_replies.specs.declared.reply.Reply.{Reply}
 use Rattle.pool_replies.specs.declared.reply.Reply.TheVariants as reply
 use Rattle.pool_replies.specs.Refusals.{fault_text, is_fault_of_text, line_refusal, refusal_text, room_text}
@@ -39,6 +41,7 @@ use Rattle.pool_state.specs.Ports.{has_bad_ports, ports_in}
 use Rattle.pool_state.specs.Queue.{has_job, job_refusal, job_text}
 use Rattle.claim_table.specs.Jobs.{jobs_limit, text_limit}
 use Rattle.claim_table.specs.declared.answers.JobState.{JobState}
+use Rattle.pool_state.specs.Status.{show_job}
 use Rattle.pool_state.specs.State.{JobStanding, QueuedJob, State, claimed, idle, matched}
 use Rattle.pool_state.specs.Heard.{Heard, is_unlisten, listens, opened, step_heard}
 use Rattle.pool_state.proofs.HeardLemmas.{heard-other}
@@ -157,6 +160,14 @@ hits_told : (s : State) (rows : List HitRow) → IsTold (s, reply.Hits rows)
 unfolding reply_text
 hits_told s rows = front_some (codes "hits ") _ (omega arith)
 
+jobs_told : (s : State) (rows : List JobRow) → IsTold (s, reply.Jobs rows)
+unfolding reply_text
+jobs_told s rows = front_some (codes "jobs ") _ (omega arith)
+
+users_told : (s : State) (rows : List UserRow) → IsTold (s, reply.Users rows)
+unfolding reply_text
+users_told s rows = front_some (codes "users ") _ (omega arith)
+
 names_told : (s : State) (names : Option (List (List ℕ))) → IsTold (s, line names)
 unfolding reply_text
 names_told s None = omega arith
@@ -221,6 +232,13 @@ show_told s name ads = by (ad_named name ads)
     by : (found : Option Advert) → IsTold (s, option_map_or (λ advert. reply.Shown (printed_frame advert.ad 0)) found (reply.Refused why.UnknownName))
     by None = unknown_told s
     by (Some advert) = shown_told s _
+
+job_told : (s : State) (name : List ℕ) → IsTold (s, show_job name s.jobs)
+job_told s name = by (job_named name s.jobs)
+  where
+    by : (found : Option QueuedJob) → IsTold (s, option_map_or (λ job. reply.Shown (printed_frame job.ad 0)) found (reply.Refused why.UnknownName))
+    by None = unknown_told s
+    by (Some job) = shown_told s _
 
 eval_told : (s : State) (moment : ℕ) (text : List ℕ) (outcome : Result Inline ParseFault) → HasExprOutcome text outcome → IsTold (s, eval moment outcome)
 eval_told s moment text (Ok x) has_outcome = evaluated_told s _
@@ -318,6 +336,10 @@ explain_told s name = by (job_named name s.jobs)
     by None = unknown_told s
     by (Some job) = explain_job_told s job (ports_in job.ad)
 
+classes_told : (s : State) (lists : List (List (List ℕ))) → IsTold (s, reply.Classes lists)
+unfolding reply_text
+classes_told s lists = front_some (codes "classes ") _ (omega arith)
+
 pub step_told : (s : State) (c : Command) → IsTold (step s c)
 unfolding step
 step_told s (command.Clock n) = clock_told s n
@@ -335,7 +357,11 @@ step_told s (command.Gang block) = gang_told s s.moment s.ads s.priorities s.job
 step_told s command.Negotiate = cycle_told s _
 step_told s (command.Claim job) = claim_told s job
 step_told s (command.Release job) = release_told s job
+step_told s command.Jobs = jobs_told s _
+step_told s (command.Job job) = job_told s job
+step_told s command.Users = users_told s _
 step_told s (command.Why job) = explain_told s job
+step_told s command.Classes = classes_told s _
 step_told s (command.Unlisten name) = unknown_told s
 step_told s (command.Bad number) = line_told s number
 
@@ -371,7 +397,11 @@ heard_told h c = by c refl
     by command.Negotiate is = same (ap is_unlisten is)
     by (command.Claim job) is = same (ap is_unlisten is)
     by (command.Release job) is = same (ap is_unlisten is)
+    by command.Jobs is = same (ap is_unlisten is)
+    by (command.Job job) is = same (ap is_unlisten is)
+    by command.Users is = same (ap is_unlisten is)
     by (command.Why job) is = same (ap is_unlisten is)
+    by command.Classes is = same (ap is_unlisten is)
     by (command.Bad number) is = same (ap is_unlisten is)
 
 -- ---- a sink that took nothing

@@ -5,7 +5,7 @@ use Rattle.std.proofs.lemmas.List.{append-nil}
 use Rattle.pool_io.specs.Flow.{Intake}
 use Rattle.pool_script.specs.declared.command.Command.{Command}
 use Rattle.pool_replies.specs.declared.reply.Reply.{Reply}
-use Rattle.pool_replies.specs.Replies.{refusal_count, reply_text}
+use Rattle.pool_replies.specs.Replies.{reply_text}
 use Rattle.pool_engine.specs.declared.run.RunEnd.{RunEnd}
 use Rattle.pool_engine.specs.declared.run.RunEnd.TheVariants.{Done, BadWords, ReadFault, WriteFault, TooLong, OutOfMemory}
 use Rattle.pool_engine.specs.Ends.{Broke, Costs, Effects, Wrote}
@@ -83,18 +83,6 @@ Took-append s t u k m n a b p q r first second =
 -- a count goes on from any number
 pub Took-from : (s t : Heard) (k m : Effects) (a : List Command) (p c : ℕ) → Took s t k m a 0 c → Took s t k m a p (p + c)
 Took-from s t k m a p c took = record { state = took.state; wrote = took.wrote; counted = omega (arith, took.counted); cost = took.cost; posted = took.posted }
-
--- a command whose reply was taken
-pub Took-one : (s t : Heard) (k m : Effects) (command : Command) (reply : Reply) (n : ℕ) → ◌≡◌ {A = Heard × Reply} (step_heard s command) (t, reply) → Wrote k.sink m.sink (reply_text reply) → n ≡ refusal_count reply → m.tops ≤ k.tops + allowance s.pool command → m.touch ≤ k.touch + looks s.pool command → AllZip (RowAfter (posts_of_all (notices s.pool command))) (kept_by command k.rows) m.rows → Took s t k m (command ∷ []) 0 n
-Took-one s t k m command reply n is wrote count cost looking posted =
-    let text : reply_text reply ≡ reply_text (step_heard s command).1 ++ [] = ap (λ (p : Heard × Reply). reply_text p.1) (sym is) ∙ sym (append-nil (reply_text (step_heard s command).1)) in
-    record {
-      state = sym (ap (λ (p : Heard × Reply). p.0) is);
-      wrote = subst (λ (l : List ℕ). Wrote k.sink m.sink l) text wrote;
-      counted = omega (arith, count, ap (λ (p : Heard × Reply). refusal_count p.1) is);
-      cost = Costs-one s k m command cost looking;
-      posted = Posted-one s command k.rows m.rows posted;
-    }
 
 -- a command whose reply wasn't taken
 pub Stopped-one : (s t : Heard) (k m : Effects) (command : Command) (reply : Reply) (end : RunEnd) → ◌≡◌ {A = Heard × Reply} (step_heard s command) (t, reply) → m.tops ≤ k.tops + allowance s.pool command → m.touch ≤ k.touch + looks s.pool command → AllZip (RowAfter (posts_of_all (notices s.pool command))) (kept_by command k.rows) m.rows → Lacks k.sink m.sink (reply_text reply) end → Stopped s k m (command ∷ []) end

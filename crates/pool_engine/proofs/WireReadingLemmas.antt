@@ -31,18 +31,6 @@ pub record WireReading (w : WireState) (s t : Supply) (k m : Intake) (lines : He
   pub waiting : lines.waiting ≡ []
   pub answered : Answered w wire k m (ended_lines bytes) 0 refused
 
-pub WireReading-start : (w : WireState) (s : Supply) (k : Intake) (lines : Held Line) (wire : WireState) (refused : ℕ) → LinesStand lines [] 0 → lines.over ≡ false → lines.waiting ≡ [] → wire ≡ w → refused ≡ 0 → WireReading w s s k k lines wire refused input_limit
-WireReading-start w s k lines wire refused stands over waiting at none = record {
-  bytes = [];
-  count = omega arith;
-  gave = record { consumed = Consumes-nil s.left; same = refl; still = λ sure. sure };
-  taken = 0;
-  stands = stands;
-  over = over;
-  waiting = waiting;
-  answered = record { wire = at; wrote = Wrote-nil k; counted = none };
-}
-
 -- the lines of a further piece, and those of the end
 lines_more : (lines : Held Line) (bytes piece : List ℕ) (n : ℕ) → LinesStand lines bytes n → lines.over ≡ false → ended_lines (bytes ++ piece) ≡ ended_lines bytes ++ ended_lines (lines.rest ++ piece)
 lines_more lines bytes piece n stands over = (stands.resumes over).ended piece

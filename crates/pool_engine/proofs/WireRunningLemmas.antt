@@ -1,12 +1,11 @@
 -- The lines that wait, one by one.
-use Rattle.std.proofs.Common.{◌≡◌, ℕ, ◌+◌, ◌≤◌, ◌<◌, ◌^◌, List, [], ◌∷◌, ◌++◌, length, refl, sym, ◌∙◌, ap, subst, arith, append_assoc}
-use Rattle.std.proofs.lemmas.List.{append-nil}
+use Rattle.std.proofs.Common.{◌≡◌, ℕ, ◌+◌, ◌≤◌, ◌<◌, ◌^◌, List, [], ◌∷◌, ◌++◌, length, sym, ◌∙◌, ap, subst, arith, append_assoc}
 use Rattle.claim_wire.specs.Wires.{WireState}
 use Rattle.pool_io.specs.Flow.{Intake}
 use Rattle.pool_script.specs.declared.lines.Line.{Line}
 use Rattle.pool_engine.specs.declared.run.RunEnd.{RunEnd}
 use Rattle.pool_engine.specs.WireSession.{Answered, WireStopped}
-use Rattle.pool_engine.proofs.WireTookLemmas.{Answered-append, Answered-from, Answered-nil, WireStopped-within}
+use Rattle.pool_engine.proofs.WireTookLemmas.{Answered-append, Answered-from, WireStopped-within}
 
 -- the first of all lines were answered, and the others wait
 pub record Answering (w v : WireState) (k m : Intake) (all waiting : List Line) (before refused : ℕ) : Type 0 where
@@ -14,9 +13,6 @@ pub record Answering (w v : WireState) (k m : Intake) (all waiting : List Line) 
   pub split : all ≡ front ++ waiting
   pub answered : Answered w v k m front before refused
   pub room : refused + length waiting < 2 ^ 64
-
-pub Answering-start : (w : WireState) (k : Intake) (all : List Line) (refused : ℕ) → refused + length all < 2 ^ 64 → Answering w w k k all all refused refused
-Answering-start w k all refused room = record { front = []; split = refl; answered = Answered-nil w k refused; room = room }
 
 split_next : (all front waiting rest : List Line) (l : Line) → all ≡ front ++ waiting → waiting ≡ l ∷ rest → all ≡ front ++ ((l ∷ []) ++ rest)
 split_next all front waiting rest l split is = split ∙ ap (λ (lines : List Line). front ++ lines) is
@@ -32,8 +28,3 @@ Answering-line w v u k m n all waiting rest l before refused count answering is 
 pub Answering-stopped : (w v : WireState) (k m n : Intake) (all waiting rest : List Line) (l : Line) (before refused : ℕ) (end : RunEnd) → Answering w v k m all waiting before refused → waiting ≡ l ∷ rest → WireStopped v m n (l ∷ []) end → WireStopped w k n all end
 Answering-stopped w v k m n all waiting rest l before refused end answering is stopped =
     subst (λ (lines : List Line). WireStopped w k n lines end) (sym (split_next all answering.front waiting rest l answering.split is)) (WireStopped-within w v k m n answering.front (l ∷ []) rest before refused end answering.answered stopped)
-
-pub Answering-end : (w v : WireState) (k m : Intake) (all waiting : List Line) (before refused : ℕ) → Answering w v k m all waiting before refused → waiting ≡ [] → Answered w v k m all before refused
-Answering-end w v k m all waiting before refused answering none =
-    let whole : all ≡ answering.front = answering.split ∙ ap (λ (lines : List Line). answering.front ++ lines) none ∙ append-nil answering.front in
-    subst (λ (lines : List Line). Answered w v k m lines before refused) (sym whole) answering.answered

@@ -1,6 +1,5 @@
 -- Lines that were answered one after the other, and those at which answering stopped.
 use Rattle.std.proofs.Common.{◌≡◌, ℕ, ◌+◌, ◌≤◌, List, [], ◌∷◌, ◌++◌, Result, Ok, Err, IfErr, IfOk, refl, sym, ◌∙◌, ap, subst, arith, append_assoc}
-use Rattle.std.proofs.lemmas.List.{append-nil}
 use Rattle.claim_wire.specs.Wires.{WireState}
 use Rattle.pool_io.specs.Flow.{Intake}
 use Rattle.pool_script.specs.declared.lines.Line.{Line}
@@ -12,9 +11,6 @@ use Rattle.pool_engine.specs.WireReplies.{Answer, answer, wire_after, wire_text}
 use Rattle.pool_engine.specs.WireSession.{Answered, WireStopped}
 use Rattle.pool_engine.proofs.WireAnswerLemmas.{answer-one, wire_after-append, wire_refusals-append, wire_text-append}
 use Rattle.pool_engine.proofs.WroteLemmas.{Broke-after, Wrote-append, Wrote-nil}
-
-pub Answered-nil : (w : WireState) (k : Intake) (n : ℕ) → Answered w w k k [] n n
-Answered-nil w k n = record { wire = refl; wrote = Wrote-nil k; counted = omega arith }
 
 -- the replies to lines behind others
 pub text_behind : (w v : WireState) (k m n : Intake) (a b : List Line) → v ≡ wire_after w a → Wrote k m (wire_text w a) → Wrote m n (wire_text v b) → Wrote k n (wire_text w (a ++ b))
@@ -44,16 +40,6 @@ Answered-append w v u k m n a b p q r first second =
 -- a count goes on from any number
 pub Answered-from : (w v : WireState) (k m : Intake) (a : List Line) (p c : ℕ) → Answered w v k m a 0 c → Answered w v k m a p (p + c)
 Answered-from w v k m a p c answered = record { wire = answered.wire; wrote = answered.wrote; counted = omega (arith, answered.counted) }
-
--- a line whose reply was taken
-pub Answered-one : (w v : WireState) (k m : Intake) (l : Line) (text : List ℕ) (refusals n : ℕ) → ◌≡◌ {A = Answer} (answer w l) (record { wire = v; text = text; refusals = refusals }) → Wrote k m text → n ≡ refusals → Answered w v k m (l ∷ []) 0 n
-Answered-one w v k m l text refusals n is wrote count =
-    let told : text ≡ (answer w l).text ++ [] = ap (λ (a : Answer). a.text) (sym is) ∙ sym (append-nil (answer w l).text) in
-    record {
-      wire = sym (ap (λ (a : Answer). a.wire) is);
-      wrote = subst (λ (t : List ℕ). Wrote k m t) told wrote;
-      counted = omega (arith, count, ap (λ (a : Answer). a.refusals) is);
-    }
 
 -- an offered reply is one refusal at most
 pub offered-one : (w v : WireState) (l : Line) (text : List ℕ) (refusals : ℕ) (result : Result ℕ RunEnd) → ◌≡◌ {A = Answer} (answer w l) (record { wire = v; text = text; refusals = refusals }) → IfOk result (λ n. n ≡ refusals) → IfOk result (λ n. n ≤ 1)

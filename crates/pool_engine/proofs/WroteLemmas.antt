@@ -1,7 +1,7 @@
 -- Writes one after the other.
-use Rattle.std.proofs.Common.{ℕ, ◌<◌, List, [], ◌++◌, length, take, Ok, Err, IsOk, refl, sym, ◌∙◌, subst, inl, inr, arith, length-append, append_assoc}
+use Rattle.std.proofs.Common.{ℕ, List, [], ◌++◌, length, take, refl, sym, ◌∙◌, subst, inl, inr, arith, length-append, append_assoc}
 use Rattle.std.specs.Io.KnownBytes.{Appends}
-use Rattle.pool_io.specs.Flow.{Intake, WritesAll}
+use Rattle.pool_io.specs.Flow.{Intake}
 use Rattle.pool_io.proofs.KnownLemmas.{Appends-append, Appends-nil}
 use Rattle.pool_engine.specs.Ends.{Wrote, Broke}
 use Rattle.pool_engine.proofs.Cases.{at_most_or_above}
@@ -18,26 +18,6 @@ Wrote-append k m n a b first second =
       appended = Appends-append k.taken m.taken n.taken a b first.appended second.appended;
       same = second.same ∙ first.same;
       spent = λ s. omega (arith, first.spent (omega arith), second.spent (omega (arith, first.spent (omega arith))));
-    }
-
--- bytes that were all taken
-pub Wrote-all : {T E : Type 0} (k m : Intake) (bytes : List ℕ) (x : T) → WritesAll {T = T} {E = E} k m (Ok x) bytes → Wrote k m bytes
-Wrote-all k m bytes x wrote = record { appended = wrote.all; same = wrote.kept; spent = wrote.spent }
-
-is_err : {E : Type 0} (T : Type 0) (e : E) → IsOk {T = T} (Err e) → ⊥
-is_err T e is = absurd (cc)
-
--- bytes that weren't all taken
-pub Broke-at : {T E : Type 0} (k m : Intake) (bytes : List ℕ) (e : E) → WritesAll {T = T} {E = E} k m (Err e) bytes → Broke k m [] bytes
-Broke-at {T} {E} k m bytes e wrote =
-    let unsure : k.sure < length bytes = elim (at_most_or_above (length bytes) k.sure) [ inl sure ↦ absurd (is_err T e (wrote.never sure)) | inr less ↦ less ] in
-    record {
-      count = wrote.front.0;
-      proper = wrote.front.1.proper;
-      others = wrote.front.1.others;
-      taken = wrote.front.1.taken;
-      rose = wrote.cause;
-      unsure = omega (arith, unsure);
     }
 
 -- a text, and then another that wasn't taken whole

@@ -50,6 +50,7 @@ pub record Effects : Type 0 where
   pub touch : ℕ
   pub rows : List Row
 
+-- such changes, put together
 abbrev pub effects : Intake → ℕ → ℕ → List Row → Effects
 effects sink tops touch rows = record { sink = sink; tops = tops; touch = touch; rows = rows }
 

@@ -48,10 +48,11 @@ allowed_of events = sum_by (λ event. allowance event.before.pool event.command)
 abbrev pub looks_of : List Event → ℕ
 looks_of events = sum_by (λ event. looks event.before.pool event.command) events
 
--- the posts of the commands, in order
+-- the posts of a command, in order
 abbrev pub posts_of_event : Event → List Post
 posts_of_event event = posts_of_all (notices event.before.pool event.command)
 
+-- the posts of commands that ran, in order
 abbrev pub posts_of_events : List Event → List Post
 posts_of_events events = flat_map posts_of_event events
 

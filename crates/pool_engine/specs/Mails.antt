@@ -4,6 +4,7 @@ use Rattle.pool_script.specs.Names.{is_name}
 use Rattle.pool_text.specs.Words.{is_empty}
 use Rattle.pool_engine.specs.declared.mail.Mail.{Mail}
 
+-- the mailbox of a name, with the file that takes its notices
 abbrev pub mail : List ℕ → List ℕ → Mail
 mail name file = record { name = name; file = file }
 
@@ -15,6 +16,7 @@ divided_at word place = if is_name (take place word) && not (is_empty (drop (pla
 abbrev pub mail_of : List ℕ → Option Mail
 mail_of word = option_and_then (divided_at word) (position (λ byte. byte == 61) word)
 
+-- there is a mailbox, and it has this name
 abbrev pub is_named : List ℕ → Option Mail → Bool
 is_named name None = false
 is_named name (Some mail) = bytes_eq mail.name name

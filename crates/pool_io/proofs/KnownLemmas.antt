@@ -10,13 +10,6 @@ Appends-append (Some x) None c xs ys first second = absurd first
 Appends-append (Some x) (Some y) None xs ys first second = second
 Appends-append (Some x) (Some y) (Some z) xs ys first second = second ∙ ap (λ (l : List ℕ). l ++ ys) first ∙ append_assoc x xs ys
 
--- nothing is appended where the bytes stay
-pub Appends-Keeps : (a b c : Option (List ℕ)) (xs : List ℕ) → Appends a b xs → Keeps b c → Appends a c xs
-Appends-Keeps None b c xs first same = tt
-Appends-Keeps (Some x) None c xs first same = absurd first
-Appends-Keeps (Some x) (Some y) None xs first same = same
-Appends-Keeps (Some x) (Some y) (Some z) xs first same = same ∙ first
-
 -- at first nothing is appended
 pub Appends-nil : (a : Option (List ℕ)) → Appends a a []
 Appends-nil None = tt

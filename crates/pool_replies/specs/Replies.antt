@@ -6,7 +6,9 @@ use Rattle.pool_replies.specs.declared.reply.Reply.{Reply}
 use Rattle.pool_replies.specs.declared.reply.Reply.TheVariants as reply
 use Rattle.pool_replies.specs.declared.rows.AdRow.{AdRow}
 use Rattle.pool_replies.specs.declared.rows.HitRow.{HitRow}
+use Rattle.pool_replies.specs.Classes.{classes_text}
 use Rattle.pool_replies.specs.Cycles.{cycle_text, offers_of_spin, with_blanks}
+use Rattle.pool_replies.specs.Queues.{jobs_text, users_text}
 use Rattle.pool_replies.specs.Reasons.{why_text}
 use Rattle.pool_replies.specs.Refusals.{is_printable_refusal, refusal_text}
 
@@ -71,7 +73,10 @@ reply_text reply.NoGang = codes "gang none\n"
 reply_text (reply.Cycle spins) = cycle_text spins
 reply_text (reply.Claimed job names preempted) = claimed_text job names preempted
 reply_text (reply.Released job) = name_line (codes "released ") job
+reply_text (reply.Jobs rows) = jobs_text rows
+reply_text (reply.Users rows) = users_text rows
 reply_text (reply.Why job names report) = why_text job names report
+reply_text (reply.Classes classes) = classes_text classes
 reply_text (reply.Unlistened name) = name_line (codes "unlistened ") name
 reply_text (reply.Refused refusal) = refusal_text refusal
 

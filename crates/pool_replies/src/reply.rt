@@ -3,14 +3,16 @@ ghost use Rattle.std.specs.Prelude.{◌≡◌, ◌≤◌, ◌^◌, ◌++◌, cod
 ghost use Rattle.std.specs.List.{flat_map};
 ghost use Rattle.pool_replies.specs.Replies as texts;
 
+use crate::classes::append_classes;
 use crate::cycle::{append_cycle, offers_of_spins};
+use crate::queue::{append_jobs, append_users};
 use crate::refusal::append_refusal;
 use crate::why::append_why;
 use crate::writing::{
     append_amount, append_amount_line, append_line, append_name, append_name_line, append_names,
     append_names_line,
 };
-use crate::{AdRow, AdRows, HitRow, HitRows, Refusal, SpinRows};
+use crate::{AdRow, AdRows, HitRow, HitRows, JobRows, NamesList, Refusal, SpinRows, UserRows};
 use match_explain::Report;
 use pool_text::{Names, OutOfMemory, Text, append_shortest_decimal};
 use std::alloc::Global;
@@ -61,12 +63,18 @@ pub enum Reply {
     },
     /// A job gave back what it claimed.
     Released(Text),
+    /// The jobs in the order of their submission.
+    Jobs(JobRows),
+    /// The users in the order of their priorities.
+    Users(UserRows),
     /// Why a job matches the ads that it matches, with the names of the ads in order.
     Why {
         job: Text,
         names: Names,
         report: Report,
     },
+    /// The names of the jobs in classes.
+    Classes(NamesList),
     /// A mailbox was closed.
     Unlistened(Text),
     /// The command was refused.
@@ -143,7 +151,10 @@ fn append_reply(out: &mut Text, reply: &Reply) -> Result<(), OutOfMemory>
             preempted,
         } => append_claimed(out, job.bytes(), names, preempted),
         Reply::Released(job) => append_name_line(out, b"released ", job.bytes()),
+        Reply::Jobs(rows) => append_jobs(out, rows),
+        Reply::Users(rows) => append_users(out, rows),
         Reply::Why { job, names, report } => append_why(out, job.bytes(), names, report),
+        Reply::Classes(classes) => append_classes(out, classes),
         Reply::Unlistened(name) => append_name_line(out, b"unlistened ", name.bytes()),
         Reply::Refused(refusal) => append_refusal(out, refusal),
     }

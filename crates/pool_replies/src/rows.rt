@@ -1,4 +1,5 @@
 // The rows of replies of several lines.
+use claim_table::JobState;
 use pool_text::{Items, Names, Text};
 
 /// An ad of the pool: its name, the moment of its birth, its lifetime, and the jobs that claimed it and that it is
@@ -34,6 +35,38 @@ pub struct OfferRow {
 
 /// The offers of a turn.
 pub type OfferRows = Items<OfferRow>;
+
+/// A job of the queue: its name, its user, its state, and the names of the resources that are offered to it or that it has
+/// claimed, in the order of its ports.
+#[derive(Drop)]
+pub struct JobRow {
+    pub job: Text,
+    pub user: Text,
+    pub state: JobState,
+    pub names: Names,
+}
+
+/// The jobs of a reply.
+pub type JobRows = Items<JobRow>;
+
+/// How many jobs are idle, matched and claimed.
+#[derive(Clone, Copy)]
+pub struct JobCounts {
+    pub idle: u64,
+    pub matched: u64,
+    pub claimed: u64,
+}
+
+/// A user with the priority and the numbers of jobs.
+#[derive(Drop)]
+pub struct UserRow {
+    pub user: Text,
+    pub priority: u64,
+    pub counts: JobCounts,
+}
+
+/// The users of a reply.
+pub type UserRows = Items<UserRow>;
 
 /// A user's turn in a spin: the slice that the user had, and what was offered.
 #[derive(Drop)]

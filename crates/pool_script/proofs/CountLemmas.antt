@@ -41,10 +41,6 @@ abbrev owed : Option Block → ℕ
 owed None = 0
 owed (Some block) = 1
 
-owed-le : (block : Option Block) → owed block ≤ 1
-owed-le None = omega arith
-owed-le (Some block) = omega arith
-
 owes_outside : (silent takes : Bool) (command : Command) (block : Block) → length (if silent || takes then [] else command ∷ []) + owed (if takes then Some block else None) ≤ 1
 owes_outside true true command block = omega arith
 owes_outside true false command block = omega arith

@@ -252,7 +252,11 @@ keyword_form word.Gang words block fits whole = gang_form words block whole
 keyword_form word.Negotiate words block fits whole = alone_form words command.Negotiate refl
 keyword_form word.Claim words block fits whole = named_form command.Claim (λ name is. is) words
 keyword_form word.Release words block fits whole = named_form command.Release (λ name is. is) words
+keyword_form word.Jobs words block fits whole = alone_form words command.Jobs refl
+keyword_form word.Job words block fits whole = named_form command.Job (λ name is. is) words
+keyword_form word.Users words block fits whole = alone_form words command.Users refl
 keyword_form word.Why words block fits whole = named_form command.Why (λ name is. is) words
+keyword_form word.Classes words block fits whole = alone_form words command.Classes refl
 keyword_form word.Unlisten words block fits whole = named_form command.Unlisten (λ name is. is) words
 
 option_form : (k : Option Keyword) (words : List ℕ) (block : Option (List ℕ)) → IsRest words → HasWholeLines block → is_within_form (option_map_or (λ keyword. keyword_command keyword words block) k (command.Bad 2)) ≡ true

@@ -22,9 +22,6 @@ use Rattle.pool_script.proofs.CutLemmas.{ended_none-append, ended_none-take, lin
 pub is_long-append : (a b : List ℕ) → is_long a ≡ true → is_long (a ++ b) ≡ true
 is_long-append a b long = rw length-append (grind (arith, nat_tests))
 
-pub is_long-behind : (a b : List ℕ) → is_long b ≡ true → is_long (a ++ b) ≡ true
-is_long-behind a b long = rw length-append (grind (arith, nat_tests))
-
 block_text-long : (text : List ℕ) → is_long text ≡ true → block_text (Some text) ≡ Err 5
 unfolding block_text
 block_text-long text long = let no : ltb 65536 (length text) ≡ true = long in grind (arith, nat_tests)
@@ -46,7 +43,11 @@ same_answer word.Gang words text text2 same = rw same refl
 same_answer word.Negotiate words text text2 same = refl
 same_answer word.Claim words text text2 same = refl
 same_answer word.Release words text text2 same = refl
+same_answer word.Jobs words text text2 same = refl
+same_answer word.Job words text text2 same = refl
+same_answer word.Users words text text2 same = refl
 same_answer word.Why words text text2 same = refl
+same_answer word.Classes words text text2 same = refl
 same_answer word.Unlisten words text text2 same = refl
 
 same_option : (k : Option Keyword) (words text text2 : List ℕ) → block_text (Some text) ≡ block_text (Some text2) → option_map_or (λ keyword. keyword_command keyword words (Some text)) k (command.Bad 2) ≡ option_map_or (λ keyword. keyword_command keyword words (Some text2)) k (command.Bad 2)

@@ -15,7 +15,9 @@ spellings =
     (codes "clock", word.Clock) ∷ (codes "advertise", word.Advertise) ∷ (codes "withdraw", word.Withdraw) ∷ (codes "show", word.Show)
     ∷ (codes "list", word.List) ∷ (codes "eval", word.Eval) ∷ (codes "evalin", word.EvalIn) ∷ (codes "query", word.Query)
     ∷ (codes "submit", word.Submit) ∷ (codes "remove", word.Remove) ∷ (codes "priority", word.Priority) ∷ (codes "gang", word.Gang)
-    ∷ (codes "negotiate", word.Negotiate) ∷ (codes "claim", word.Claim) ∷ (codes "release", word.Release) ∷ (codes "why", word.Why) ∷ (codes "unlisten", word.Unlisten)
+    ∷ (codes "negotiate", word.Negotiate) ∷ (codes "claim", word.Claim) ∷ (codes "release", word.Release)
+    ∷ (codes "jobs", word.Jobs) ∷ (codes "job", word.Job) ∷ (codes "users", word.Users)
+    ∷ (codes "why", word.Why) ∷ (codes "classes", word.Classes) ∷ (codes "unlisten", word.Unlisten)
     ∷ []
 
 -- the keyword that the bytes spell exactly

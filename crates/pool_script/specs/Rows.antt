@@ -9,13 +9,15 @@ use Rattle.pool_script.specs.declared.keyword.Keyword.TheVariants as word
 use Rattle.pool_script.specs.declared.command.Command.{Command}
 use Rattle.pool_script.specs.declared.command.Command.TheVariants as command
 
--- refusals, by their numbers
+-- refusal 1, of a line that is too long
 abbrev pub line_too_long : Command
 line_too_long = command.Bad 1
 
+-- refusal 2, of a line that names no command
 abbrev pub unknown_command : Command
 unknown_command = command.Bad 2
 
+-- refusal 3, of words that the command doesn't take
 abbrev pub wrong_words : Command
 wrong_words = command.Bad 3
 
@@ -89,10 +91,12 @@ name_command word.Show name = command.Show name
 name_command word.Remove name = command.Remove name
 name_command word.Claim name = command.Claim name
 name_command word.Release name = command.Release name
+name_command word.Job name = command.Job name
 name_command word.Why name = command.Why name
 name_command word.Unlisten name = command.Unlisten name
 name_command _ name = wrong_words
 
+-- the command of such a keyword, where its words are one name
 abbrev pub named_command : Keyword → Option (List ℕ) → Command
 named_command keyword name = option_map_or (name_command keyword) name wrong_words
 
@@ -113,5 +117,9 @@ keyword_command word.Gang words block = gang words block
 keyword_command word.Negotiate words block = without_words words command.Negotiate
 keyword_command word.Claim words block = option_map_or command.Claim (sole_name words) wrong_words
 keyword_command word.Release words block = option_map_or command.Release (sole_name words) wrong_words
+keyword_command word.Jobs words block = without_words words command.Jobs
+keyword_command word.Job words block = option_map_or command.Job (sole_name words) wrong_words
+keyword_command word.Users words block = without_words words command.Users
 keyword_command word.Why words block = option_map_or command.Why (sole_name words) wrong_words
+keyword_command word.Classes words block = without_words words command.Classes
 keyword_command word.Unlisten words block = option_map_or command.Unlisten (sole_name words) wrong_words

@@ -60,8 +60,16 @@ pub enum Command {
     Claim(Text),
     /// Gives back what a job claimed.
     Release(Text),
+    /// Lists the jobs.
+    Jobs,
+    /// Prints the ad of a job.
+    Job(Text),
+    /// Lists the users.
+    Users,
     /// Says why a job matches the ads that it matches.
     Why(Text),
+    /// Lists the jobs in classes that no ad tells apart.
+    Classes,
     /// Closes a mailbox.
     Unlisten(Text),
     /// A command that isn't read: 1 where its line is too long, 2 where its first word is unknown, 3 where its other

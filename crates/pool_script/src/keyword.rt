@@ -20,7 +20,11 @@ pub(crate) enum Keyword {
     Negotiate,
     Claim,
     Release,
+    Jobs,
+    Job,
+    Users,
     Why,
+    Classes,
     Unlisten,
 }
 
@@ -36,7 +40,7 @@ impl Keyword {
     }
 }
 
-const KEYWORDS: [(&[u8], Keyword); 17] = [
+const KEYWORDS: [(&[u8], Keyword); 21] = [
     (b"clock", Keyword::Clock),
     (b"advertise", Keyword::Advertise),
     (b"withdraw", Keyword::Withdraw),
@@ -52,7 +56,11 @@ const KEYWORDS: [(&[u8], Keyword); 17] = [
     (b"negotiate", Keyword::Negotiate),
     (b"claim", Keyword::Claim),
     (b"release", Keyword::Release),
+    (b"jobs", Keyword::Jobs),
+    (b"job", Keyword::Job),
+    (b"users", Keyword::Users),
     (b"why", Keyword::Why),
+    (b"classes", Keyword::Classes),
     (b"unlisten", Keyword::Unlisten),
 ];
 

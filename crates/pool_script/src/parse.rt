@@ -79,6 +79,9 @@ fn plain_command(alloc: Global, keyword: Keyword, words: &[u8]) -> Result<Comman
         Keyword::EvalIn => eval_in(alloc, words),
         Keyword::Priority => priority(alloc, words),
         Keyword::Negotiate => Ok(without_words(words, Command::Negotiate)),
+        Keyword::Jobs => Ok(without_words(words, Command::Jobs)),
+        Keyword::Users => Ok(without_words(words, Command::Users)),
+        Keyword::Classes => Ok(without_words(words, Command::Classes)),
         _ => Ok(named_command(keyword, sole_name(alloc, words)?)),
     }
 }
@@ -96,6 +99,7 @@ fn named_command(keyword: Keyword, name: Option<Text>) -> Command
         Keyword::Remove => Command::Remove(name),
         Keyword::Claim => Command::Claim(name),
         Keyword::Release => Command::Release(name),
+        Keyword::Job => Command::Job(name),
         Keyword::Why => Command::Why(name),
         Keyword::Unlisten => Command::Unlisten(name),
         _ => {

@@ -289,13 +289,3 @@ module _ (stock : Stock) (moment : ℕ) (settings : List Setting) (name : List �
   pub released : (r : Result (List ℕ) JobFault) (later : List Job) → r ≡ release_answer name jobs → OnOk r (later ≡ idle_at (numbered name jobs) jobs) → OnErr r (later ≡ jobs) → IsReleaseAnswer (here jobs) name (here later) r
   released (Ok slots) later is ok err = subst (λ (js : List Job). IsReleaseAnswer (here jobs) name (here js) (Ok slots)) (sym ok) (subst IsFree (sym is) release-seen)
   released (Err fault) later is ok err = subst (λ (js : List Job). IsReleaseAnswer (here jobs) name (here js) (Err fault)) (sym err) (subst IsFree (sym is) release-seen)
-
--- ---- replies
-
--- two replies to granted claims are one where all that they tell is
-pub claimed-same : (t : State) (a b : List ℕ) (names others lost freed : List (List ℕ)) → a ≡ b → names ≡ others → lost ≡ freed
-    → ◌≡◌ {A = State × Reply} (t, reply.Claimed a names lost) (t, reply.Claimed b others freed)
-claimed-same t a b names others lost freed one two three =
-    ap (λ (n : List ℕ). let p : State × Reply = (t, reply.Claimed n names lost) in p) one
-    ∙ ap (λ (ns : List (List ℕ)). let p : State × Reply = (t, reply.Claimed b ns lost) in p) two
-    ∙ ap (λ (ns : List (List ℕ)). let p : State × Reply = (t, reply.Claimed b others ns) in p) three

@@ -1,5 +1,5 @@
 -- One resource of an offer, by its slot and by its name: the world of its dock, and whether the job wins it.
-use Rattle.std.proofs.Common.{◌≡◌, ℕ, suc, All, Bool, true, ◌&&◌, List, map, take, sym, ◌∙◌, ap}
+use Rattle.std.proofs.Common.{◌≡◌, ℕ, suc, All, true, ◌&&◌, List, map, take, sym, ◌∙◌, ap}
 use Rattle.std.specs.List.{list_all}
 use Rattle.std.proofs.lemmas.List.{take-map}
 use Rattle.ad_tree.specs.Ad.{ad_frames}

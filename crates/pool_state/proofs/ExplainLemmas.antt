@@ -14,24 +14,23 @@ use Rattle.claim_table.specs.declared.job.Job.{Job}
 use Rattle.match_explain.specs.Counted.{evaluations_most}
 use Rattle.match_explain.specs.Why.{explained}
 use Rattle.pool_replies.specs.declared.refusal.Refusal.TheVariants as why
-use Rattle.pool_replies.specs.declared.reply.Reply.{Reply}
 use Rattle.pool_replies.specs.declared.reply.Reply.TheVariants as reply
 use Rattle.pool_state.specs.Claiming.{job_named}
 use Rattle.pool_state.specs.Explaining.{ad_names, explain, explain_job, explained_evaluations, job_evaluations}
 use Rattle.pool_state.specs.Pool.{queued}
-use Rattle.pool_state.specs.Ports.{HasOwnPorts, ports_in}
+use Rattle.pool_state.specs.Ports.{ports_in}
 use Rattle.pool_state.specs.State.{QueuedJob}
 use Rattle.pool_state.proofs.FailingLemmas.{job-seen}
 use Rattle.pool_state.proofs.JobLemmas.{found-first}
 use Rattle.pool_state.proofs.MatchedLemmas.{IsOwned}
 
 -- a job that has this request
-record Requests (jobs : List Job) (i : ℕ) (request : Request) : Type 0 where
+pub record Requests (jobs : List Job) (i : ℕ) (request : Request) : Type 0 where
   pub job : Job
   pub at : slice_get jobs i ≡ Some job
   pub request_is : job.request ≡ request
 
-requests : (jobs : List Job) (i : ℕ) (request : Request) → option_map (λ (job : Job). job.request) (slice_get jobs i) ≡ Some request → Requests jobs i request
+pub requests : (jobs : List Job) (i : ℕ) (request : Request) → option_map (λ (job : Job). job.request) (slice_get jobs i) ≡ Some request → Requests jobs i request
 requests jobs i request is = by (slice_get jobs i) refl is
   where
     by : (o : Option Job) → slice_get jobs i ≡ o → option_map (λ (job : Job). job.request) o ≡ Some request → Requests jobs i request
@@ -39,7 +38,7 @@ requests jobs i request is = by (slice_get jobs i) refl is
     by (Some job) there is = record { job = job; at = there; request_is = same_Some job.request request is }
 
 -- what holds of all holds of the one at a place
-at-place : (P : Job → Type 0) (jobs : List Job) (i : ℕ) (job : Job) → All P jobs → slice_get jobs i ≡ Some job → P job
+pub at-place : (P : Job → Type 0) (jobs : List Job) (i : ℕ) (job : Job) → All P jobs → slice_get jobs i ≡ Some job → P job
 at-place P [] i job each at = absurd (none-some job at)
 at-place P (j ∷ jobs) zero job each at = subst P (same_Some j job at) (All-head P j jobs each)
 at-place P (j ∷ jobs) (suc i) job each at = at-place P jobs i job (All-tail P j jobs each) at

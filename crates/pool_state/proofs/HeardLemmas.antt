@@ -113,7 +113,11 @@ heard-other h (command.Gang block) other = refl
 heard-other h command.Negotiate other = refl
 heard-other h (command.Claim job) other = refl
 heard-other h (command.Release job) other = refl
+heard-other h command.Jobs other = refl
+heard-other h (command.Job job) other = refl
+heard-other h command.Users other = refl
 heard-other h (command.Why job) other = refl
+heard-other h command.Classes other = refl
 heard-other h (command.Unlisten name) other = absurd (cc)
 heard-other h (command.Bad number) other = refl
 
@@ -134,7 +138,11 @@ kept-other (command.Gang block) rows other = refl
 kept-other command.Negotiate rows other = refl
 kept-other (command.Claim job) rows other = refl
 kept-other (command.Release job) rows other = refl
+kept-other command.Jobs rows other = refl
+kept-other (command.Job job) rows other = refl
+kept-other command.Users rows other = refl
 kept-other (command.Why job) rows other = refl
+kept-other command.Classes rows other = refl
 kept-other (command.Unlisten name) rows other = absurd (cc)
 kept-other (command.Bad number) rows other = refl
 
@@ -155,7 +163,11 @@ not-unlisten (command.Gang block) other = refl
 not-unlisten command.Negotiate other = refl
 not-unlisten (command.Claim job) other = refl
 not-unlisten (command.Release job) other = refl
+not-unlisten command.Jobs other = refl
+not-unlisten (command.Job job) other = refl
+not-unlisten command.Users other = refl
 not-unlisten (command.Why job) other = refl
+not-unlisten command.Classes other = refl
 not-unlisten (command.Unlisten name) other = absurd (other name refl)
 not-unlisten (command.Bad number) other = refl
 
@@ -214,7 +226,11 @@ kept_by-zip posts c xs ys all = by c refl
     by command.Negotiate is = same (ap is_unlisten is)
     by (command.Claim job) is = same (ap is_unlisten is)
     by (command.Release job) is = same (ap is_unlisten is)
+    by command.Jobs is = same (ap is_unlisten is)
+    by (command.Job job) is = same (ap is_unlisten is)
+    by command.Users is = same (ap is_unlisten is)
     by (command.Why job) is = same (ap is_unlisten is)
+    by command.Classes is = same (ap is_unlisten is)
     by (command.Bad number) is = same (ap is_unlisten is)
 
 pub kept-zip : (posts : List Post) (commands : List Command) (xs ys : List Row) → AllZip (RowAfter posts) xs ys → AllZip (RowAfter posts) (kept commands xs) (kept commands ys)

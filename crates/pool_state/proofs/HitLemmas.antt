@@ -1,11 +1,9 @@
 -- Hits with the slots of their ads, and the rows of the ads.
 use Rattle.std.proofs.Common.{◌≡◌, ℕ, ℤ, zero, suc, ◌+◌, ◌<◌, ◌≤◌, List, [], ◌∷◌, ◌++◌, length, map, take, All, Contains, Option, None, Some, option_map, slice_get, Result, Ok, Err, IfOk, refl, sym, ◌∙◌, ap, subst, arith}
 use Rattle.std.specs.List.{cons_option}
-use Rattle.std.specs.Option.{option_map_or}
 use Rattle.std.proofs.lemmas.List.{length-map, take_all}
 use Rattle.std.proofs.lemmas.List.Elements.{All-cons, All-head, All-nil, All-tail, Contains-get_or}
 use Rattle.std.proofs.lemmas.List.Sorted.{All-permutation}
-use Rattle.std.proofs.lemmas.Option.{slice_get-get_or}
 use Rattle.ad_store.specs.Stock.{Advert}
 use Rattle.ad_tree.specs.Frames.{Frame}
 use Rattle.bilateral_match.specs.Answers.{AreAnswers, hit_of, matches_from}
@@ -40,17 +38,6 @@ hits-held slots (m ∷ matches) within =
     (hits-held slots matches (All-tail (λ m. m.place < length slots) m matches within))
 
 -- ---- the rows
-
-name_at : (o : Option Advert) (name : List ℕ) → option_map (λ a. a.name) o ≡ Some name → name ≡ option_map_or (λ (a : Advert). a.name) o []
-name_at None name is = absurd (cc)
-name_at (Some a) name is = cc
-
--- the row of a hit is that of its match
-pub hit_row-is : (ads : List Advert) (slots : List ℕ) (m : Match) (hit : Hit) (name : List ℕ) → m.place < length slots → hit ≡ hit_of slots m → ((i : ℕ) → slice_get slots i ≡ Some hit.slot → option_map (λ a. a.name) (slice_get ads i) ≡ Some name) → record { name = name; rank = hit.rank } ≡ hit_row ads m
-hit_row-is ads slots m hit name within is named =
-    let there : slice_get slots m.place ≡ Some hit.slot = slice_get-get_or slots m.place 0 within ∙ ap (λ (h : Hit). Some h.slot) (sym is) in
-    let called = name_at (slice_get ads m.place) name (named m.place there) in
-    λ i. record { name = called i; rank = (ap (λ (h : Hit). h.rank) is) i }
 
 found : (slots : List ℕ) (matches : List Match) (i : ℕ) (hit : Hit) → slice_get (map (hit_of slots) matches) i ≡ Some hit → (m : Match) × (slice_get matches i ≡ Some m) × (hit ≡ hit_of slots m)
 found slots [] i hit at = absurd (cc)

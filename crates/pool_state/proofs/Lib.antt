@@ -1,6 +1,7 @@
 pub mod AdLemmas
 mod ClaimLemmas
 mod ClaimedLemmas
+mod ClassLemmas
 mod CommandLemmas
 mod DockLemmas
 mod ExplainLemmas
@@ -27,5 +28,6 @@ mod RowLemmas
 mod SlotLemmas
 mod SmallLemmas
 mod SpinRowLemmas
+mod StatusLemmas
 mod StepLemmas
 mod SubmitLemmas

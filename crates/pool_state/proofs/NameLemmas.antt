@@ -36,9 +36,6 @@ named_beside [] slots slot = []
 named_beside (a ∷ ads) [] slot = a.name
 named_beside (a ∷ ads) (s ∷ slots) slot = cond (eqb s slot) a.name (named_beside ads slots slot)
 
-name_at : List Advert → ℕ → List ℕ
-name_at ads i = option_map_or (λ advert. advert.name) (slice_get ads i) []
-
 pub beside-is : (ads : List Advert) (slots : List ℕ) (slot : ℕ) → name_in (record { ads = ads; slots = slots }) slot ≡ named_beside ads slots slot
 beside-is [] slots slot = refl
 beside-is (a ∷ ads) [] slot = refl

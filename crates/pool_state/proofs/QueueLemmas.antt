@@ -1,5 +1,5 @@
 -- The jobs of a table, and the jobs of a state, as resources and jobs come and go.
-use Rattle.std.proofs.Common.{◌≡◌, ℕ, suc, ◌+◌, All, Bool, true, false, not, ◌&&◌, ◌||◌, cond, eqb, ltb, List, [], ◌∷◌, ◌++◌, filter, get_or, length, map, position, slice_get, slice_set, Option, None, Some, option_map, refl, sym, ◌∙◌, ap, arith}
+use Rattle.std.proofs.Common.{◌≡◌, ℕ, suc, ◌+◌, All, Bool, true, false, not, ◌&&◌, ◌||◌, cond, eqb, ltb, List, [], ◌∷◌, filter, get_or, length, map, position, slice_get, slice_set, Option, None, Some, option_map, refl, sym, ◌∙◌, ap, arith}
 use Rattle.std.specs.List.{list_all, list_any, position_or_len}
 use Rattle.std.specs.Option.{option_map_or}
 use Rattle.std.proofs.lemmas.Bool.Decides.{nat_tests}
@@ -39,12 +39,6 @@ all_kept p q (x ∷ xs) all = by (q x) (all_kept p q xs parts.1)
     by : (b : Bool) → list_all p (filter q xs) ≡ true → list_all p (cond b (x ∷ filter q xs) (filter q xs)) ≡ true
     by true rest = ap (λ b. b && list_all p (filter q xs)) parts.0 ∙ rest
     by false rest = rest
-
-pub all_push : {A : Type 0} (p : A → Bool) (xs : List A) (x : A) → list_all p xs ≡ true → p x ≡ true → list_all p (xs ++ x ∷ []) ≡ true
-all_push p [] x all last = ap (λ b. b && true) last
-all_push p (y ∷ xs) x all last =
-    let parts = both (p y) (list_all p xs) all in
-    ap (λ b. b && list_all p (xs ++ x ∷ [])) parts.0 ∙ all_push p xs x parts.1 last
 
 pub any-map : {A B : Type 0} (test : B → Bool) (f : A → B) (xs : List A) → list_any test (map f xs) ≡ list_any (λ x. test (f x)) xs
 any-map test f [] = refl

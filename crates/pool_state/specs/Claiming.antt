@@ -1,5 +1,5 @@
 -- Claims in a state: what is offered to a job is checked anew, and only then the job has it.
-use Rattle.std.specs.Prelude.{ℕ, suc, Bool, true, not, ◌&&◌, List, [], ◌∷◌, ◌++◌, find, fold, length, map, slice_index_or, sum_by, take, Option, None, Some, option_map, if◌then◌else◌}
+use Rattle.std.specs.Prelude.{ℕ, suc, Bool, not, ◌&&◌, List, [], ◌∷◌, ◌++◌, find, fold, length, map, slice_index_or, sum_by, take, Option, None, Some, option_map, if◌then◌else◌}
 use Rattle.std.specs.List.{list_any, range_with_len}
 use Rattle.std.specs.Option.{option_map_or}
 use Rattle.ad_store.specs.Stock.{Advert}
@@ -28,7 +28,8 @@ job_named name jobs = find (is_job name) jobs
 abbrev pub world_at : ℕ → List Advert → QueuedJob → List (List ℕ) → ℕ → PlainWorld
 world_at moment ads job names port = record { moment = moment; request = job.ad; ports = ports_in job.ad; docked = map (frames_named ads) (take (suc port) names) }
 
--- the resource of a name, docked last, is yielded to the job, whose user has this number: it is unclaimed, it ranks its holder strictly lower, or it ranks both alike and the holder's user has at least twice the number
+-- the resource of a name, docked last, is yielded to the job, whose user has this number: it is unclaimed, it ranks its holder
+-- strictly lower, or it ranks both alike and the holder's user has at least twice the number
 abbrev pub is_won : ℕ → List Advert → List Setting → List QueuedJob → ℕ → List ℕ → PlainWorld → Bool
 is_won moment ads settings jobs number name world = is_yielded number (regard_in world) (option_map (held_by moment ads settings name) (claimed_by name jobs))
 
@@ -42,6 +43,7 @@ passes moment ads settings jobs number name world = is_docked world && is_won mo
 abbrev pub ports_of : List (List ℕ) → List ℕ
 ports_of names = range_with_len 0 (length names)
 
+-- the name of the resource for a port, empty where there is none
 abbrev pub name_at : List (List ℕ) → ℕ → List ℕ
 name_at names port = slice_index_or names port []
 

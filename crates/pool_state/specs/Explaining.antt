@@ -25,10 +25,11 @@ explain_job moment ads job (port ∷ ports) = reply.Refused why.GangJob
 abbrev pub explain : ℕ → List Advert → List QueuedJob → List ℕ → Reply
 explain moment ads jobs name = option_map_or (λ job. explain_job moment ads job (ports_in job.ad)) (job_named name jobs) (reply.Refused why.UnknownName)
 
--- how many evaluations it may make: one for each ad and conjunct of either side, and none where it is refused
+-- how many evaluations `why` of a job may make: one for each ad and conjunct of either side, and none where it is refused
 abbrev pub job_evaluations : List Advert → QueuedJob → List Port → ℕ
 job_evaluations ads job [] = evaluations_most job.ad ads
 job_evaluations ads job (port ∷ ports) = 0
 
+-- how many evaluations `why JOB` may make, none where no job has the name
 abbrev pub explained_evaluations : List Advert → List QueuedJob → List ℕ → ℕ
 explained_evaluations ads jobs name = option_map_or (λ job. job_evaluations ads job (ports_in job.ad)) (job_named name jobs) 0

@@ -37,6 +37,7 @@ gang moment ads settings jobs (Ok x) = option_map_or (λ ports. line (gang_names
 abbrev pub open_docks_of : Pool → List Frame → List Port → ℕ
 open_docks_of pool request ports = min (docks_open pool request ports) (docks_weighed pool request ports)
 
+-- how many docks literal attributes leave undecided for `gang` and a block, by what its text is: none where it is refused
 abbrev pub undecided_for_gang : ℕ → List Advert → List Setting → List QueuedJob → Result Inline ParseFault → ℕ
 undecided_for_gang moment ads settings jobs (Err fault) = 0
 undecided_for_gang moment ads settings jobs (Ok x) = option_map_or (λ ports. open_docks_of (pool_in moment ads settings jobs) (ad_of x) ports) (ports_of (ad_of x)) 0

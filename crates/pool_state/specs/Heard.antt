@@ -23,9 +23,11 @@ heard pool rows = record { pool = pool; listeners = names_of rows }
 abbrev pub opened : List Row → Heard
 opened rows = heard opening rows
 
+-- the name is among those that listen
 abbrev pub listens : List ℕ → List (List ℕ) → Bool
 listens name names = list_any (λ other. bytes_eq other name) names
 
+-- the names that listen, without this one
 abbrev pub others : List ℕ → List (List ℕ) → List (List ℕ)
 others name names = filter (λ other. not (bytes_eq other name)) names
 

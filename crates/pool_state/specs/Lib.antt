@@ -3,10 +3,12 @@ pub mod Books
 pub mod Changes
 pub mod ClaimAnswers
 pub mod Claiming
+pub mod Classing
 pub mod Explaining
 pub mod Gangs
 pub mod Heard
 pub mod Indexed
+pub mod Keyed
 pub mod Negotiation
 pub mod Notices
 pub mod Pool
@@ -15,6 +17,7 @@ pub mod Posting
 pub mod Queue
 pub mod Rows
 pub mod State
+pub mod Status
 pub mod Step
 pub mod Stocks
 pub mod Stored

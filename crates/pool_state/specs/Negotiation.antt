@@ -79,6 +79,7 @@ with_offers (offer ∷ offers) jobs = with_offers offers (matched_at offer.job o
 
 -- ---- the cycle
 
+-- the job is idle
 abbrev pub is_idle : JobStanding → Bool
 is_idle idle = true
 is_idle other = false
@@ -96,13 +97,15 @@ market_in s = record {
   priority = λ user. priority_of user s.priorities;
 }
 
--- the row of an offer, with the name of its job; of a turn; of a spin
+-- the row of an offer, with the name of its job
 abbrev pub offer_row : List QueuedJob → Offer (List ℕ) → OfferRow
 offer_row jobs offer = record { job = option_map_or (λ job. job.name) (slice_get jobs offer.job) []; names = offer.resources }
 
+-- the row of a turn
 abbrev pub turn_row : List QueuedJob → PlainTurn (List ℕ) → TurnRow
 turn_row jobs turn = record { user = turn.user; slice = turn.slice; offers = map (offer_row jobs) turn.offers }
 
+-- the row of a spin
 abbrev pub spin_row : List QueuedJob → PlainSpin (List ℕ) → SpinRow
 spin_row jobs spin = record { free = spin.free; turns = map (turn_row jobs) spin.turns }
 

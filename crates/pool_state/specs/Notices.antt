@@ -33,7 +33,7 @@ each_once names = fold with_name [] names
 abbrev pub about : List ℕ → List ℕ → List ℕ → List (List ℕ) → Notice
 about word user job names = record { names = each_once (user ∷ names); line = word ++ job ++ with_blanks names }
 
--- of a job with what it has
+-- a word and a job, with what it has
 abbrev pub about_job : List ℕ → QueuedJob → Notice
 about_job word job = about word job.user job.name (names_of job.standing)
 
@@ -42,15 +42,17 @@ abbrev pub loss_of : QueuedJob → List (List ℕ) → List Notice
 loss_of job [] = []
 loss_of job (name ∷ names) = about (codes "freed ") job.user job.name (name ∷ names) ∷ []
 
+-- a job loses all that it has
 abbrev pub loss : QueuedJob → List Notice
 loss job = loss_of job (names_of job.standing)
 
 -- ---- who has a resource
 
--- the place of the job that has claimed the resource of a name, and of the one that it is offered to
+-- the place of the job that has claimed the resource of a name
 abbrev pub claimed_at : List ℕ → List QueuedJob → Option ℕ
 claimed_at name jobs = position (λ job. is_listed name (claim_names job.standing)) jobs
 
+-- the place of the job that the resource of a name is offered to
 abbrev pub offered_at : List ℕ → List QueuedJob → Option ℕ
 offered_at name jobs = position (λ job. is_listed name (offer_names job.standing)) jobs
 
@@ -62,10 +64,11 @@ holders jobs names = fold (λ places name. once places (claimed_at name jobs)) [
 abbrev pub had_by : List QueuedJob → List (List ℕ) → List ℕ
 had_by jobs names = fold (λ places name. once (once places (claimed_at name jobs)) (offered_at name jobs)) [] names
 
--- the job at each place loses what it has
+-- the job at a place loses what it has
 abbrev pub loss_at : List QueuedJob → ℕ → List Notice
 loss_at jobs place = option_map_or loss (slice_get jobs place) []
 
+-- the jobs at these places lose what they have, in order
 abbrev pub losses : List QueuedJob → List ℕ → List Notice
 losses jobs places = flat_map (loss_at jobs) places
 
@@ -79,9 +82,11 @@ expired_names now ads = map (λ advert. advert.name) (filter (λ advert. not (is
 abbrev pub granted_to : List QueuedJob → QueuedJob → List Notice
 granted_to jobs job = losses jobs (holders jobs (names_of job.standing)) ++ about_job (codes "claimed ") job ∷ []
 
+-- the job of a name loses what it has, if there is such a job
 abbrev pub loss_named : List ℕ → List QueuedJob → List Notice
 loss_named name jobs = option_map_or loss (job_named name jobs) []
 
+-- what a command tells where it isn't refused; a cycle is told by its reply
 abbrev pub granted : List Advert → List QueuedJob → Command → List Notice
 granted ads jobs (command.Clock n) = losses jobs (had_by jobs (expired_names n ads))
 granted ads jobs (command.Withdraw name) = if has name ads then losses jobs (had_by jobs (name ∷ [])) else []
@@ -99,13 +104,15 @@ stale jobs other = []
 
 -- ---- a cycle
 
+-- the jobs of a turn are matched with what they are offered, in order
 abbrev pub turn_matches : TurnRow → List Notice
 turn_matches turn = map (λ (offer : OfferRow). about (codes "matched ") turn.user offer.job offer.names) turn.offers
 
+-- the jobs of a spin are matched, in order
 abbrev pub spin_matches : SpinRow → List Notice
 spin_matches spin = flat_map turn_matches spin.turns
 
--- the offers in the order of the reply
+-- the jobs of a cycle are matched, in the order of the reply
 abbrev pub matches : List SpinRow → List Notice
 matches spins = flat_map spin_matches spins
 

@@ -24,6 +24,7 @@ named_standing stock Stage.Idle = idle
 named_standing stock (Stage.Matched slots) = matched (map (name_in stock) slots)
 named_standing stock (Stage.Claimed slots) = claimed (map (name_in stock) slots)
 
+-- a job as the state has it: with the frames of its ad, and names in place of slots
 abbrev pub queued : Stock → Job → QueuedJob
 queued stock job = record { name = job.name; user = job.user; size = job.text_len; ad = ad_frames job.request.ad; standing = named_standing stock job.standing }
 

@@ -13,6 +13,7 @@ pub record Post : Type 0 where
   pub name : List ℕ
   pub line : List ℕ
 
+-- a line as it is posted to a name
 abbrev pub post_to : List ℕ → List ℕ → Post
 post_to line name = record { name = name; line = line }
 
@@ -20,6 +21,7 @@ post_to line name = record { name = name; line = line }
 abbrev pub posts_of : Notice → List Post
 posts_of notice = map (post_to notice.line) notice.names
 
+-- the posts of notices, in order
 abbrev pub posts_of_all : List Notice → List Post
 posts_of_all notices = flat_map posts_of notices
 

@@ -25,13 +25,15 @@ names_of idle = []
 names_of (matched names) = names
 names_of (claimed names) = names
 
+-- the name is among these
 abbrev pub is_listed : List ℕ → List (List ℕ) → Bool
 is_listed name names = list_any (bytes_eq name) names
 
--- the job that the resource of a name is offered to, and the one that has claimed it
+-- the job that the resource of a name is offered to
 abbrev pub offered_to : List ℕ → List QueuedJob → Option QueuedJob
 offered_to name jobs = find (λ job. is_listed name (offer_names job.standing)) jobs
 
+-- the job that has claimed the resource of a name
 abbrev pub claimed_by : List ℕ → List QueuedJob → Option QueuedJob
 claimed_by name jobs = find (λ job. is_listed name (claim_names job.standing)) jobs
 
@@ -43,9 +45,11 @@ without_resources leaves jobs = map (λ (job : QueuedJob). if list_any leaves (n
 
 -- ---- jobs by name
 
+-- the job has this name
 abbrev pub is_job : List ℕ → QueuedJob → Bool
 is_job name job = bytes_eq name job.name
 
+-- some job has this name
 abbrev pub has_job : List ℕ → List QueuedJob → Bool
 has_job name jobs = list_any (is_job name) jobs
 
@@ -55,6 +59,7 @@ without_job name jobs = filter (λ job. not (is_job name job)) jobs
 
 -- ---- limits
 
+-- the length of the texts of all jobs together, in bytes
 abbrev pub job_text : List QueuedJob → ℕ
 job_text jobs = sum_by (λ job. job.size) jobs
 

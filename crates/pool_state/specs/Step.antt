@@ -29,12 +29,14 @@ use Rattle.pool_replies.specs.declared.reply.Reply.TheVariants as reply
 use Rattle.pool_replies.specs.declared.rows.AdRow.{AdRow}
 use Rattle.pool_replies.specs.declared.rows.HitRow.{HitRow}
 use Rattle.pool_state.specs.Explaining.{explain, explained_evaluations}
+use Rattle.pool_state.specs.Classing.{classify}
 use Rattle.pool_state.specs.Claiming.{claim, offered_for_claim, release, undecided_for_claim}
 use Rattle.pool_state.specs.Gangs.{gang, narrowest_for_gang, undecided_for_gang}
 use Rattle.pool_state.specs.Negotiation.{narrowest_for_jobs, negotiate, undecided_for_jobs}
 use Rattle.pool_state.specs.Ports.{has_bad_ports}
 use Rattle.pool_state.specs.Queue.{claimed_by, has_job, job_refusal, offered_to, without_job, without_resources}
 use Rattle.pool_state.specs.State.{QueuedJob, State, idle}
+use Rattle.pool_state.specs.Status.{jobs, show_job, users}
 use Rattle.claim_table.specs.Priorities.{lacks_place, with_setting}
 
 -- a refused command changes nothing
@@ -192,7 +194,11 @@ step s (command.Gang block) = (s, gang s.moment s.ads s.priorities s.jobs (ad_ou
 step s command.Negotiate = negotiate s
 step s (command.Claim job) = claim s job
 step s (command.Release job) = release s job
+step s command.Jobs = (s, jobs s.jobs)
+step s (command.Job job) = (s, show_job job s.jobs)
+step s command.Users = (s, users s.priorities s.jobs)
 step s (command.Why job) = (s, explain s.moment s.ads s.jobs job)
+step s command.Classes = (s, classify s.ads s.jobs)
 step s (command.Unlisten name) = refused s why.UnknownName
 step s (command.Bad number) = refused s (why.Line number)
 
@@ -220,6 +226,7 @@ looks s (command.Withdraw name) = 1
 looks s (command.Show name) = 1
 looks s (command.EvalIn name expr) = 1
 looks s (command.Why job) = length s.ads
+looks s command.Classes = length s.ads
 looks s (command.Query block) = narrowest s.ads (ad_outcome block)
 looks s (command.Gang block) = narrowest_for_gang s.ads (ad_outcome block)
 looks s command.Negotiate = 9 * narrowest_for_jobs s

@@ -5,6 +5,7 @@
 mod ads;
 mod books;
 mod claiming;
+mod classing;
 mod eval;
 mod explaining;
 mod gangs;
@@ -16,5 +17,6 @@ mod notices;
 mod pool;
 mod posting;
 mod query;
+mod queue;
 
 pub use pool::Pool;

@@ -22,6 +22,7 @@ ghost use Rattle.pool_state.specs.Step as steps;
 use crate::ads::{advertise, list, show, withdraw};
 use crate::books::Books;
 use crate::claiming::{claim, release};
+use crate::classing::classify;
 use crate::eval::{eval, eval_in};
 use crate::explaining::explain;
 use crate::gangs::gang;
@@ -30,6 +31,7 @@ use crate::losses::{granted, stale};
 use crate::negotiation::negotiate;
 use crate::notices::tell;
 use crate::query::query;
+use crate::queue::{jobs, show_job, users};
 use ad_parser::ParseFault;
 use negotiator::Priorities;
 use notice_desk::Notices;
@@ -159,6 +161,7 @@ impl Pool {
         tell(self.alloc, reply, granted, stale, desk)
     }
 
+    /// Law: no resource is offered to two jobs, none is claimed by two, and each resource of a job names an ad that is held.
     #[tactic(auto, unfolding(crate::specs::Pool::state_of))]
     pub fn resources_are_apart(&self)
         ensures { AreGivenApart (state_of self.now) }
@@ -327,6 +330,9 @@ impl Pool {
                 entry,
                 touch,
             ),
+            Command::Jobs => jobs(alloc, &self.books),
+            Command::Job(name) => show_job(alloc, &self.books, name.bytes()),
+            Command::Users => users(alloc, &self.books, &self.priorities),
             Command::Why(job) => explain(
                 alloc,
                 &self.books,
@@ -336,6 +342,7 @@ impl Pool {
                 entry,
                 touch,
             ),
+            Command::Classes => classify(alloc, &self.books, touch),
             Command::Bad(number) => Ok(Reply::Refused(Refusal::Line(*number))),
             // A pool alone knows no mailbox.
             _ => Ok(Reply::Refused(Refusal::UnknownName)),

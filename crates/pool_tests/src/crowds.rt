@@ -97,12 +97,128 @@ fn ads_have_32_mebibytes_of_text_together(rt: HostRuntime) -> Result<(), Fail> {
     Ok(())
 }
 
-/// A script with each command that reads or changes the pool, and its replies.
-const ALL: &[u8] =
-    b"advertise a 9\n[ X = 1; Requirements = true ]\n.\nshow a\nlist\neval 1 + 1\nevalin a X\nquery\n[ Requirements = TARGET.X == 1 ]\n.\nsubmit j ann\n[ Requirements = true ]\n.\npriority ann 7\nnegotiate\nlist\nclaim j\nrelease j\nremove j\nwithdraw a\nclock 5\nfly\n";
+// Jobs of forty kinds, which an ad tells apart, each with a number, which no ad asks for. One command is refused.
+fn jobs_of_forty_kinds(alloc: Global, count: u64) -> Result<Text, OutOfMemory> {
+    let mut script = Text::from_bytes(alloc, KINDS)?;
+    for i in 1..=count {
+        append_job(&mut script, i)?;
+    }
+    Ok(script)
+}
 
-const ALL_REPLIES: &[u8] =
-    b"advertised a\n[ X = 1; Requirements = true ]\nads 1\na 0 9 free\n2\n1\nhits 1\na 0\nsubmitted j\npriority ann 7\nspin 1 free 1\nslice ann 1\noffer j ann a\nspin 2 free 0\noffers 1\nads 1\na 0 9 offered j\nclaimed j a\nreleased j\nremoved j\nwithdrawn a\nclock 5 expired 0\nrefused 2 unknown command\n";
+const KINDS: &[u8] =
+    b"classes all\nadvertise m 600\n[ Requirements = TARGET.Kind >= 0 || false ]\n.\n";
+
+fn append_job(script: &mut Text, i: u64) -> Result<(), OutOfMemory> {
+    script.append(b"submit j")?;
+    append_count(script, i)?;
+    script.append(b" ann\n[ Kind = ")?;
+    append_count(script, i % 40)?;
+    script.append(b"; Number = ")?;
+    append_count(script, i)?;
+    script.append(b"; Requirements = true ]\n.\n")
+}
+
+// The lines of the classes of these jobs.
+fn forty_classes(alloc: Global, count: u64) -> Result<Text, OutOfMemory> {
+    let mut lines = Text::from_bytes(alloc, b"classes 40\n")?;
+    for first in 1..=40 {
+        append_class(&mut lines, first, count)?;
+    }
+    Ok(lines)
+}
+
+fn append_class(lines: &mut Text, first: u64, count: u64) -> Result<(), OutOfMemory> {
+    lines.append(b"class ")?;
+    append_count(lines, first)?;
+    for i in first..=count {
+        if i % 40 == first % 40 {
+            lines.append(b" j")?;
+            append_count(lines, i)?;
+        }
+    }
+    lines.append(b"\n")
+}
+
+#[test]
+fn two_thousand_jobs_in_forty_classes(rt: HostRuntime) -> Result<(), Fail> {
+    let mut script = jobs_of_forty_kinds(rt.alloc(), 2000)?;
+    script.append(b"classes\n")?;
+    let classes = forty_classes(rt.alloc(), 2000)?;
+    assert_last(&rt, rt.alloc(), script.bytes(), 4096, classes.bytes())?;
+    Ok(())
+}
+
+/// A script with each command that reads or changes the pool, and its replies.
+const ALL: &[u8] = b"\
+advertise a 9
+[ X = 1; Requirements = true ]
+.
+show a
+list
+eval 1 + 1
+evalin a X
+query
+[ Requirements = TARGET.X == 1 ]
+.
+gang
+[ Ports = { [ Label = p; Requirements = TARGET.X == 1 ] } ]
+.
+submit j ann
+[ Requirements = true ]
+.
+priority ann 7
+classes
+negotiate
+list
+jobs
+job j
+users
+why j
+claim j
+release j
+remove j
+withdraw a
+clock 5
+fly
+";
+
+const ALL_REPLIES: &[u8] = b"\
+advertised a
+[ X = 1; Requirements = true ]
+ads 1
+a 0 9 free
+2
+1
+hits 1
+a 0
+gang a
+submitted j
+priority ann 7
+classes 1
+class 1 j
+spin 1 free 1
+slice ann 1
+offer j ann a
+spin 2 free 0
+offers 1
+ads 1
+a 0 9 offered j
+jobs 1
+j ann matched a
+[ Requirements = true ]
+users 1
+ann 7 idle 0 matched 1 claimed 0
+why j ads 1
+conjunct 1 holds 1 true
+a accepted
+claimed j a
+released j
+removed j
+withdrawn a
+clock 5 expired 0
+refused 2 unknown command
+";
 
 #[test]
 fn all_commands_are_answered(rt: HostRuntime) -> Result<(), Fail> {

@@ -59,19 +59,6 @@ with_feeds-ended (x ∷ b) =
       | inr is ↦ rw (ended_onto x b is, rest_onto x b is) (join_step x (ended b) (rest_of b) ∙ ap (λ (l : List ℕ). x ∷ l) more)
     ]
 
-none_step : (x : ℕ) (e : List (List ℕ)) (r : List ℕ) → eqb x 10 ≡ false → ended r ≡ [] → ended (rest_behind e x r) ≡ []
-none_step x [] r is none = ended_onto x r is ∙ ap (λ (ls : List (List ℕ)). onto x ls) none
-none_step x (l ∷ ls) r is none = none
-
--- no line ends in the rest
-pub ended-rest_of : (b : List ℕ) → ended (rest_of b) ≡ []
-ended-rest_of [] = refl
-ended-rest_of (x ∷ b) =
-    elim (cases_Bool (eqb x 10)) [
-      | inl is ↦ ap ended (rest_at x b is) ∙ ended-rest_of b
-      | inr is ↦ ap ended (rest_onto x b is) ∙ none_step x (ended b) (rest_of b) is (ended-rest_of b)
-    ]
-
 -- bytes of which none is a line feed
 abbrev HoldsNoFeed : List ℕ → Type 0
 HoldsNoFeed bytes = All (λ byte. byte ≢ 10) bytes

@@ -47,11 +47,6 @@ number_of-is bytes some alone =
     let begins : cond (eqb (slice_index bytes 0) 48) (eqb (length bytes) 1) (ltb 0 (length bytes)) ≡ true = grind (arith, nat_tests) in
     without_test (all_ascii_digits bytes) _ (ltb (digits_value_after 10 0 bytes) (2 ^ 64)) (Some (digits_value_after 10 0 bytes)) begins ∙ sym (read_from-is 0 bytes (omega arith))
 
--- no number stands in no bytes
-pub number_of-none : (bytes : List ℕ) → length bytes ≡ 0 → number_of bytes ≡ None
-number_of-none [] none = refl
-number_of-none (b ∷ bytes) none = absurd (omega arith)
-
 own_digits : IsNumeralModel (λ ds. all_ascii_digits ds ≡ true) (digits_value 10)
 own_digits = numerals_by_value (λ ds. all_ascii_digits ds ≡ true) tells_all_ascii_digits
 

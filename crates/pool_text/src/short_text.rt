@@ -24,6 +24,7 @@ impl Model for ShortText {
 }
 
 impl ShortText {
+    /// No bytes.
     pub fn new() -> ShortText
         ensures { result ≡ [] }
     {
@@ -49,6 +50,7 @@ impl ShortText {
         }
     }
 
+    /// The bytes of the text.
     pub fn bytes(&self) -> &[u8]
         ensures { result.now ≡ self.now }
     {

@@ -13,6 +13,7 @@ machine_ad i =
 abbrev pub machine : ℕ → List ℕ
 machine i = codes "advertise m" ++ decimal i ++ codes " 600\n" ++ machine_ad i ++ codes "\n.\n"
 
+-- the commands that set the priorities of the two users
 abbrev pub priorities : List ℕ
 priorities = codes "priority alice 1\npriority bob 3\n"
 
@@ -30,6 +31,7 @@ job_ad j =
 abbrev pub job : ℕ → List ℕ
 job j = codes "submit j" ++ decimal j ++ codes " " ++ owner j ++ codes "\n" ++ job_ad j ++ codes "\n.\n"
 
+-- the command that asks for the machines of one architecture
 abbrev pub query : List ℕ
 query = codes "query\n[ Owner = \"q\"; Requirements = TARGET.Arch == \"A1\"; Rank = TARGET.Load ]\n.\n"
 

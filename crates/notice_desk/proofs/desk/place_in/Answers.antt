@@ -1,4 +1,4 @@
-use Rattle.std.proofs.Common.{◌≡◌, ◌≢◌, true, bytes_eq, Some, ap, sym, ◌∙◌, true≢false, arith}
+use Rattle.std.proofs.Common.{Some, ap, sym, ◌∙◌, true≢false, arith}
 use Rattle.std.proofs.lemmas.Slice.Eq.{bytes_eq-Decides}
 use Rattle.notice_desk.specs.Sight.{entry_names}
 use Rattle.notice_desk.proofs.EntryLemmas.{length-names, name-there}

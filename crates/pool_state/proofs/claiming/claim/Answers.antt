@@ -1,4 +1,4 @@
-use Rattle.std.proofs.Common.{◌≤◌, ◌+◌, ◌*◌, ℕ, List, [], Contains, Result, sym, ◌∙◌, ap, subst}
+use Rattle.std.proofs.Common.{◌≤◌, ◌+◌, ◌*◌, ℕ, List, Contains, Result, sym, ◌∙◌, ap, subst}
 use Rattle.ad_store.specs.Store.{stock_of}
 use Rattle.claim_table.specs.declared.answers.ClaimFault.{ClaimFault}
 use Rattle.claim_table.specs.declared.answers.Freed.{Freed}

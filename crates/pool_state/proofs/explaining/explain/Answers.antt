@@ -1,6 +1,5 @@
-use Rattle.std.proofs.Common.{◌≤◌, ◌+◌, List, ℕ, Some, ap, arith, subst, sym, ◌∙◌}
+use Rattle.std.proofs.Common.{Some, ap, arith, sym, ◌∙◌}
 use Rattle.ad_store.specs.Store.{stock_of}
-use Rattle.ad_tree.specs.Ad.{ad_frames}
 use Rattle.claim_table.specs.Table.{jobs_of}
 use Rattle.pool_replies.specs.declared.reply.Reply.TheVariants as reply
 use Rattle.pool_state.specs.Books.{queue_of}

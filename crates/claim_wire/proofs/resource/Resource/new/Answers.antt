@@ -1,5 +1,5 @@
-use Rattle.std.proofs.Common.{◌≡◌, List, true, length, sym, subst, ap, ◌∙◌, refl, arith}
-use Rattle.claim_wire.specs.Resources.{ResourceState, are_waiting}
+use Rattle.std.proofs.Common.{◌≡◌, true, length, sym, subst, ap, ◌∙◌, refl, arith}
+use Rattle.claim_wire.specs.Resources.{are_waiting}
 use Rattle.claim_wire.proofs.WaitingLemmas.{zeros-length, zeros-replicate}
 use Rattle.claim_wire.proofs.resource.Resource.new.Goals as goal
 

@@ -1,0 +1,140 @@
+-- Entries and classes, one by one.
+use Rattle.std.proofs.Common.{◌≡◌, ◌≤◌, ◌<◌, ℕ, zero, suc, ◌+◌, Bool, true, false, ◌&&◌, cond, List, [], ◌∷◌, ◌++◌, length, get_or, map, take, drop, bytes_eq, Option, None, Some, option_map, slice_get, refl, sym, ◌∙◌, ap, arith, append_assoc}
+use Rattle.std.specs.List.{cons_option, filter_map}
+use Rattle.std.specs.Ordering.{is_lt, nat_cmp}
+use Rattle.std.specs.Cmp.Lexicographic.{slice_cmp}
+use Rattle.ad_tree.specs.Frames.{Frame, attributes_at}
+use Rattle.ad_tree.specs.Names.{has_name}
+use Rattle.ad_tree.specs.Tree.{Tree}
+use Rattle.job_classes.specs.Classes.{has_key, joined, number_of, same_key}
+use Rattle.job_classes.specs.Keys.{Entry, arranged, entered, entry_of, key_from}
+use Rattle.job_classes.specs.Marking.{first_attributes, reached_marks}
+use Rattle.job_classes.specs.Reach.{reached_from}
+use Rattle.job_classes.specs.Shown.{marked_entries, place_among}
+
+-- ---- where an entry goes
+
+pub entered-place : (e : Entry) (es : List Entry) → take (place_among e.0 es) es ++ (e ∷ drop (place_among e.0 es) es) ≡ entered e es
+entered-place e [] = refl
+entered-place e (o ∷ es) = by (is_lt (slice_cmp nat_cmp e.0 o.0)) (entered-place e es)
+  where
+    by : (b : Bool) → take (place_among e.0 es) es ++ (e ∷ drop (place_among e.0 es) es) ≡ entered e es
+        → take (cond b 0 (suc (place_among e.0 es))) (o ∷ es) ++ (e ∷ drop (cond b 0 (suc (place_among e.0 es))) (o ∷ es)) ≡ cond b (e ∷ (o ∷ es)) (o ∷ entered e es)
+    by true rest = refl
+    by false rest = ap (λ l. o ∷ l) rest
+
+-- ---- the marks of what is reached leave the entries of what is reached
+
+pub marked-entries : (request : List Frame) (test : List ℕ × Tree → Bool) (attributes : List (List ℕ × Tree))
+    → marked_entries request (map test attributes) attributes ≡ filter_map (λ a. cond (test a) (Some (entry_of request a)) None) attributes
+marked-entries request test [] = refl
+marked-entries request test (a ∷ rest) = by (test a) (marked-entries request test rest)
+  where
+    by : (b : Bool) → marked_entries request (map test rest) rest ≡ filter_map (λ c. cond (test c) (Some (entry_of request c)) None) rest
+        → marked_entries request (b ∷ map test rest) (a ∷ rest) ≡ cons_option (cond b (Some (entry_of request a)) None) (filter_map (λ c. cond (test c) (Some (entry_of request c)) None) rest)
+    by true later = ap (λ l. entry_of request a ∷ l) later
+    by false later = later
+
+pub key-marked : (first : List (List ℕ)) (request : List Frame) (marks : List Bool) → marks ≡ reached_marks first request
+    → arranged [] (marked_entries request marks (attributes_at request 0)) ≡ key_from first request
+key-marked first request marks is =
+    ap (λ l. arranged [] (marked_entries request l (attributes_at request 0))) is
+    ∙ ap (arranged []) (marked-entries request (λ a. has_name a.0 (reached_from first request)) (attributes_at request 0))
+
+-- the entries of what is left, behind one attribute
+drop-here : {A : Type 0} (xs : List A) (i : ℕ) (x : A) → slice_get xs i ≡ Some x → drop i xs ≡ x ∷ drop (i + 1) xs
+drop-here [] i x e = absurd (cc)
+drop-here (y ∷ xs) zero x e = let same : y ≡ x = cc in ap (λ z. z ∷ xs) same
+drop-here (y ∷ xs) (suc i) x e =
+    let n : suc i + 1 ≡ suc (i + 1) = omega arith in
+    drop-here xs i x e ∙ ap (λ m. x ∷ drop m (y ∷ xs)) (sym n)
+
+mark-there : (marks : List Bool) (k : ℕ) (b d : Bool) → k < length marks → get_or marks k d ≡ b → slice_get marks k ≡ Some b
+mark-there [] k b d low e = absurd (omega (arith, low))
+mark-there (m ∷ marks) zero b d low e = ap Option.Some e
+mark-there (m ∷ marks) (suc k) b d low e = mark-there marks k b d (omega (arith, low)) e
+
+pub entry-added : (request : List Frame) (marks : List Bool) (attributes : List (List ℕ × Tree)) (k : ℕ) (d : Bool) (e : Entry) (done done2 whole : List Entry)
+    → k < length marks → get_or marks k d ≡ true → option_map (entry_of request) (slice_get attributes k) ≡ Some e → done2 ≡ entered e done
+    → arranged done (marked_entries request (drop k marks) (drop k attributes)) ≡ whole → arranged done2 (marked_entries request (drop (k + 1) marks) (drop (k + 1) attributes)) ≡ whole
+entry-added request marks attributes k d e done done2 whole low mark is grown so_far = by (slice_get attributes k) refl is
+  where
+    by : (o : Option (List ℕ × Tree)) → slice_get attributes k ≡ o → option_map (entry_of request) o ≡ Some e → arranged done2 (marked_entries request (drop (k + 1) marks) (drop (k + 1) attributes)) ≡ whole
+    by None at h = absurd (cc (h))
+    by (Some a) at h =
+        let same : entry_of request a ≡ e = cc (h) in
+        ap (λ l. arranged l (marked_entries request (drop (k + 1) marks) (drop (k + 1) attributes))) (grown ∙ ap (λ x. entered x done) (sym same))
+        ∙ sym (ap (λ l. arranged done (marked_entries request l (drop k attributes))) (drop-here marks k true (mark-there marks k true d low mark))
+        ∙ ap (λ l. arranged done (marked_entries request (true ∷ drop (k + 1) marks) l)) (drop-here attributes k a at))
+        ∙ so_far
+
+pub entry-passed : (request : List Frame) (marks : List Bool) (attributes : List (List ℕ × Tree)) (k : ℕ) (d : Bool) (done done2 whole : List Entry)
+    → k < length marks → length marks ≡ length attributes → get_or marks k d ≡ false → done2 ≡ done
+    → arranged done (marked_entries request (drop k marks) (drop k attributes)) ≡ whole → arranged done2 (marked_entries request (drop (k + 1) marks) (drop (k + 1) attributes)) ≡ whole
+entry-passed request marks attributes k d done done2 whole low many mark same so_far = by (slice_get attributes k) refl
+  where
+    none : {A : Type 0} (xs : List A) (j : ℕ) → slice_get xs j ≡ None → length xs ≤ j
+    none [] j g = omega arith
+    none (x ∷ xs) zero g = absurd (cc)
+    none (x ∷ xs) (suc j) g = omega (arith, none xs j g)
+
+    by : (o : Option (List ℕ × Tree)) → slice_get attributes k ≡ o → arranged done2 (marked_entries request (drop (k + 1) marks) (drop (k + 1) attributes)) ≡ whole
+    by None at = absurd (omega (arith, low, many, none attributes k at))
+    by (Some a) at =
+        ap (λ l. arranged l (marked_entries request (drop (k + 1) marks) (drop (k + 1) attributes))) same
+        ∙ sym (ap (λ l. arranged done (marked_entries request l (drop k attributes))) (drop-here marks k false (mark-there marks k false d low mark))
+        ∙ ap (λ l. arranged done (marked_entries request (false ∷ drop (k + 1) marks) l)) (drop-here attributes k a at))
+        ∙ so_far
+
+-- the names of the root that are among the first, likewise
+pub first-added : (first : List (List ℕ)) (attributes : List (List ℕ × Tree)) (k : ℕ) (n : List ℕ) (b : Bool) (names names2 whole : List (List ℕ))
+    → option_map (λ a. a.0) (slice_get attributes k) ≡ Some n → has_name n first ≡ b → names2 ≡ cond b (names ++ n ∷ []) names
+    → names ++ first_attributes first (drop k attributes) ≡ whole → names2 ++ first_attributes first (drop (k + 1) attributes) ≡ whole
+first-added first attributes k n b names names2 whole is test grown so_far = by (slice_get attributes k) refl is
+  where
+    turn : (a : List ℕ × Tree) → a.0 ≡ n → (c : Bool) → has_name a.0 first ≡ c → names2 ≡ cond c (names ++ n ∷ []) names
+        → names2 ++ first_attributes first (drop (k + 1) attributes) ≡ names ++ cond c (a.0 ∷ first_attributes first (drop (k + 1) attributes)) (first_attributes first (drop (k + 1) attributes))
+    turn a same true t g =
+        ap (λ l. l ++ first_attributes first (drop (k + 1) attributes)) g
+        ∙ append_assoc names (n ∷ []) (first_attributes first (drop (k + 1) attributes))
+        ∙ ap (λ m. names ++ (m ∷ first_attributes first (drop (k + 1) attributes))) (sym same)
+    turn a same false t g = ap (λ l. l ++ first_attributes first (drop (k + 1) attributes)) g
+
+    by : (o : Option (List ℕ × Tree)) → slice_get attributes k ≡ o → option_map (λ a. a.0) o ≡ Some n → names2 ++ first_attributes first (drop (k + 1) attributes) ≡ whole
+    by None at h = absurd (cc (h))
+    by (Some a) at h =
+        let same : a.0 ≡ n = cc (h) in
+        turn a same (has_name a.0 first) refl (grown ∙ ap (λ c. cond c (names ++ n ∷ []) names) (sym test ∙ ap (λ m. has_name m first) (sym same)))
+        ∙ ap (λ l. names ++ first_attributes first l) (sym (drop-here attributes k a at))
+        ∙ so_far
+
+-- keys of different lengths differ
+pub same_key-length : (a b : List Entry) → (length a ≡ length b → ⊥) → false ≡ same_key a b
+same_key-length [] [] other = absurd (other refl)
+same_key-length [] (b ∷ bs) other = refl
+same_key-length (a ∷ rest) [] other = refl
+same_key-length (a ∷ rest) (b ∷ bs) other = by (bytes_eq a.0 b.0 && bytes_eq a.1 b.1) (same_key-length rest bs (λ e. other (ap suc e)))
+  where
+    by : (x : Bool) → false ≡ same_key rest bs → false ≡ (x && same_key rest bs)
+    by true h = h
+    by false h = refl
+
+-- ---- classes
+
+pub joined-new : (key : List Entry) (classes : List (Option (List Entry))) → number_of key classes ≡ length classes → joined key classes ≡ classes ++ Some key ∷ []
+joined-new key [] same = refl
+joined-new key (c ∷ classes) same = by (has_key key c) (joined-new key classes) same
+  where
+    by : (b : Bool) → (number_of key classes ≡ length classes → joined key classes ≡ classes ++ Some key ∷ []) → cond b 0 (suc (number_of key classes)) ≡ suc (length classes)
+        → cond b (c ∷ classes) (c ∷ joined key classes) ≡ c ∷ (classes ++ Some key ∷ [])
+    by true later h = absurd (omega (arith, h))
+    by false later h = ap (λ l. c ∷ l) (later (omega (arith, h)))
+
+pub joined-old : (key : List Entry) (classes : List (Option (List Entry))) → (number_of key classes ≡ length classes → ⊥) → joined key classes ≡ classes
+joined-old key [] other = absurd (other refl)
+joined-old key (c ∷ classes) other = by (has_key key c) (joined-old key classes) other
+  where
+    by : (b : Bool) → ((number_of key classes ≡ length classes → ⊥) → joined key classes ≡ classes) → (cond b 0 (suc (number_of key classes)) ≡ suc (length classes) → ⊥)
+        → cond b (c ∷ classes) (c ∷ joined key classes) ≡ c ∷ classes
+    by true later h = refl
+    by false later h = ap (λ l. c ∷ l) (later (λ e. h (ap suc e)))

@@ -1,0 +1,9 @@
+mod AddLemmas
+pub mod ContainLemmas
+mod EntryLemmas
+mod KeyLemmas
+mod MarkLemmas
+mod ReachLemmas
+mod SetLemmas
+mod SitsLemmas
+mod TwinLemmas

@@ -1,0 +1,7 @@
+pub mod Classes
+pub mod Keys
+pub mod Marking
+pub mod Matched
+pub mod Names
+pub mod Reach
+pub mod Shown

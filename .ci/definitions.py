@@ -361,7 +361,8 @@ def crates():
 
 def exported(crate):
     root = source_at(f"crates/{crate}/src/lib.rt")
-    return set(re.findall(r"\w+", " ".join(re.findall(r"pub use ([^;]*);", "\n".join(root.lines), re.S)))) if root else set()
+    text = "\n".join(root.lines) if root else ""
+    return set(re.findall(r"\w+", " ".join(re.findall(r"pub use ([^;]*);", text, re.S)))) | set(re.findall(r"^pub fn (\w+)", text, re.M))
 
 
 def laws():

@@ -2,9 +2,10 @@
 """Fails where the manual or the page on the language leaves out what the program has, or shows what it doesn't print.
 
 The manual, with the page on the wire, has to name every command, refusal and status; the page on the language every operator and
-function. The lists are read off the sources. An example in a page is a block that begins with `$ ./pool <<'END'`; its lines up to END are run,
-and what follows in the block must be what is printed. A block of code in a crate's README has to stand to the letter, but for its
-indent, in a source of another crate: mostly in a test, else in a crate above that makes the call.
+function. The lists are read off the sources. An example in a page is a block that begins with `$ ./pool <<'END'`, or with `$ env` where it is
+a program that uses the client; its lines up to END are run, and what follows in the block must be what is printed. But for the READMEs of crates each block
+without a language is an example. A block of code in a crate's README has to stand to the letter, but for its indent, in a source of another
+crate: mostly in a test, else in a crate above that makes the call.
 
 pages.py          all of it; where the program isn't built from these sources, it fails and builds nothing
 pages.py --words  all but the examples, which alone need the program
@@ -16,7 +17,9 @@ import subprocess
 import sys
 
 TOP = os.path.dirname(os.path.dirname(os.path.abspath(__file__)))
-EXAMPLE = re.compile(r"```\n\$ (\./pool[^\n]*) <<'END'\n(.*?)\nEND\n(.*?)```", re.S)
+EXAMPLE = re.compile(r"```\n\$ ((?:\./pool|env)[^\n]*) <<'END'\n(.*?)\nEND\n(.*?)```", re.S)
+BLOCK = re.compile(r"^```(\w*)\n.*?^```$", re.S | re.M)
+PAGES = ["README.md", "docs/MANUAL.md", "docs/WIRE.md", "docs/LANGUAGE.md", "examples/README.md", "clients/python/README.md"]
 CODE = re.compile(r"```rust\n(.*?)\n```", re.S)
 # How many words a crate's README has.
 LEAST, MOST = 200, 900
@@ -139,6 +142,14 @@ def size():
         yield f"README.md and docs/ have {count} words, and not {ALL} at most"
 
 
+def not_run():
+    """The blocks of pages that nothing runs."""
+    for page in PAGES:
+        for block in BLOCK.finditer(read(page)):
+            if not block[1] and not EXAMPLE.fullmatch(block[0]):
+                yield f"{page}: this block is no example, so nothing runs it:\n{block[0]}"
+
+
 def is_built():
     return subprocess.run([os.path.join(TOP, ".ci/is_built")], check=False).returncode == 0
 
@@ -147,7 +158,7 @@ def examples():
     if not is_built():
         yield "the program isn't built from these sources, so no example was run: ./pool builds it"
         return
-    for page in ["README.md", "docs/MANUAL.md", "docs/WIRE.md", "docs/LANGUAGE.md"] + readmes():
+    for page in PAGES + readmes():
         for words, script, wanted in EXAMPLE.findall(read(page)):
             given = subprocess.run(words.split(), input=script + "\n", stdout=subprocess.PIPE, text=True, cwd=TOP, check=False)
             if given.stdout != wanted:
@@ -155,7 +166,7 @@ def examples():
 
 
 def main():
-    wrong = list(missing()) + list(codes()) + list(order()) + list(size())
+    wrong = list(missing()) + list(codes()) + list(order()) + list(size()) + list(not_run())
     if "--words" not in sys.argv:
         wrong += examples()
     for line in wrong:

@@ -1,5 +1,6 @@
 -- An input that is read piece by piece.
 use Rattle.std.proofs.Common.{◌≡◌, ◌≢◌, ℕ, zero, suc, ◌+◌, ◌-◌, ◌≤◌, ◌<◌, ◌^◌, true, false, List, [], ◌∷◌, ◌++◌, length, take, Result, Ok, Err, IsOk, IfOk, IfErr, refl, sym, ◌∙◌, ap, subst, inl, inr, arith, append_assoc, length-append, length-take}
+use Rattle.std.proofs.Math.Seq.{take-nil}
 use Rattle.std.proofs.lemmas.List.{append-nil, take_at, take_all}
 use Rattle.pool_io.specs.Flow.{Supply, Reads}
 use Rattle.pool_io.proofs.KnownLemmas.{Consumes-append, Consumes-Keeps, Consumes-nil}
@@ -14,6 +15,7 @@ use Rattle.script_run.specs.declared.run_end.RunEnd.{RunEnd}
 use Rattle.script_run.specs.declared.run_end.RunEnd.TheVariants.{Done, BadWords, ReadFault, WriteFault, TooLong, OutOfMemory}
 use Rattle.script_run.proofs.RulesLemmas.{refusals-le}
 use Rattle.script_run.proofs.TookLemmas.{Took-append, Took-nil, broke_behind, did_behind, did_to, tried_behind, wrote_behind}
+use Rattle.script_run.proofs.WroteLemmas.{Wrote-nil}
 
 -- ---- what reads gave
 
@@ -94,6 +96,22 @@ module _ {State Item : Type 0} (rules : Rules State Item) (lawful : IsLawful rul
     over = over;
     waiting = waiting;
     took = subst (λ (l : List Item). Took rules start start k k l 0 0) (sym none_given) (Took-nil rules lawful start k 0);
+  }
+
+  -- memory was wanting before anything was read
+  pub Ends-none : (s : Supply) (k : Effects) → Ends rules start s s k k OutOfMemory
+  Ends-none s k = record {
+    bytes = [];
+    within = omega arith;
+    gave = record { consumed = Consumes-nil s.left; same = refl; given = omega arith; reads = omega arith; still = λ sure. sure };
+    front = [];
+    behind = [];
+    due = inl (sym none_given);
+    in_time = omega (arith, ap (λ (b : List ℕ). length (rules.given false b)) (take-nil {A = ℕ} (0 - s.latest)), lawful.few false []);
+    wrote = Wrote-nil k.sink;
+    between = k.others;
+    did = lawful.none start k.others;
+    tried = refl;
   }
 
   -- the items of a further piece, and those of the end

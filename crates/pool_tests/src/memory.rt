@@ -6,16 +6,16 @@ use std::alloc::Global;
 use std::fs;
 use std::test::Fail;
 
-const RUNS: usize = 1_000;
+const RUNS: usize = 100_000;
 
-// A script of a hundred ads, and its replies.
+// A script of a hundred ads, the smallest there are, and its replies.
 fn hundred_ads(alloc: Global) -> Result<(Text, Text), OutOfMemory> {
     let mut script = Text::new(alloc);
     let mut written = Text::new(alloc);
     for i in 0..100 {
         script.append(b"advertise m")?;
         append_count(&mut script, i)?;
-        script.append(b" 600\n[ Memory = 1024; Requirements = true ]\n.\n")?;
+        script.append(b" 9\n[]\n.\n")?;
         written.append(b"advertised m")?;
         append_count(&mut written, i)?;
         written.append(b"\n")?;
@@ -53,7 +53,9 @@ fn many_runs_take_the_memory_of_one(rt: HostRuntime) -> Result<(), Fail> {
             before = pages(rt)?;
         }
     }
-    // A megabyte more at most, where the runs together had some hundred.
-    assert!(rt; 0 < before && pages(rt)? <= before.saturating_add(256));
+    let after = pages(rt)?;
+    println!(rt; "{before} {after}")?;
+    // A quarter of a megabyte more at most: of one allocation a run that isn't given back there would be three megabytes.
+    assert!(rt; 0 < before && 0 < after && after <= before.saturating_add(64));
     Ok(())
 }

@@ -189,6 +189,38 @@ fn each_write_may_fail(rt: HostRuntime) -> Result<(), Fail> {
 }
 
 #[test]
+fn nothing_is_read_behind_the_end(rt: HostRuntime) -> Result<(), Fail> {
+    let end = RunEnd::Done { refused: 0 };
+    assert_run(&rt, rt.alloc(), THREE, (7, 4096), (5, 0), end, REPLIES)?;
+    Ok(())
+}
+
+// A command of 4,096 bytes, with its line feed, and a short one.
+fn long_and_short(alloc: Global) -> Result<Text, OutOfMemory> {
+    let mut script = Text::from_bytes(alloc, b"eval 1")?;
+    for _ in 6..4095 {
+        script.append(b" ")?;
+    }
+    script.append(b"\neval 2\n")?;
+    Ok(script)
+}
+
+#[test]
+fn a_read_offers_room_for_4096_bytes(rt: HostRuntime) -> Result<(), Fail> {
+    let script = long_and_short(rt.alloc())?;
+    assert_run(
+        &rt,
+        rt.alloc(),
+        script.bytes(),
+        (9999, 4096),
+        (2, 0),
+        RunEnd::ReadFault,
+        b"1\n",
+    )?;
+    Ok(())
+}
+
+#[test]
 fn a_reply_is_offered_before_the_next_read(rt: HostRuntime) -> Result<(), Fail> {
     let (end, _) = run(rt.alloc(), THREE, (7, 4096), 2, 1)?;
     assert!(rt; end == RunEnd::WriteFault);

@@ -1,5 +1,5 @@
 -- The laws of a wire's rules.
-use Rattle.std.proofs.Common.{◌≡◌, ◌≤◌, List, [], ◌∷◌, length, Option, None, Some, Result, Ok, Err, refl, ◌∙◌, ap, arith}
+use Rattle.std.proofs.Common.{◌≤◌, length, Option, None, Some, Result, Ok, Err, refl, ◌∙◌, arith}
 use Rattle.claim_wire.specs.Lines.{event_of}
 use Rattle.claim_wire.specs.Wires.{WireState, fault_of}
 use Rattle.claim_wire.specs.declared.event.Event.{Event}
@@ -8,18 +8,8 @@ use Rattle.claim_wire.specs.declared.fault.WireFault.{WireFault}
 use Rattle.pool_script.specs.declared.lines.Line.{Line}
 use Rattle.pool_script.specs.declared.lines.Line.TheVariants as line
 use Rattle.pool_script.proofs.CountLemmas.{given_lines-length, lines_before_more, lines_before_whole}
-use Rattle.script_run.specs.Effects.{Beside, Effects}
-use Rattle.script_run.specs.Ends.{Ends}
-use Rattle.script_run.specs.Rules.{IsLawful, Tried, after}
-use Rattle.script_run.specs.declared.run_end.RunEnd.{RunEnd}
-use Rattle.script_run.specs.declared.run_end.RunEnd.TheVariants.{Done, BadWords, ReadFault, WriteFault, TooLong, OutOfMemory}
-use Rattle.pool_io.specs.Flow.{Supply}
+use Rattle.script_run.specs.Rules.{IsLawful}
 use Rattle.run_rules.specs.WireRules.{answer, answer_event, answer_read, wire_rules}
-
--- a try does nothing
-none_tried : (w : WireState) (front lines : List Line) (k l m : Beside) → l ≡ k → Tried wire_rules (after wire_rules w front) lines l m → m ≡ k
-none_tried w front [] k l m did tried = tried ∙ did
-none_tried w front (x ∷ lines) k l m did tried = tried ∙ did
 
 one_event : (fault : Option WireFault) (event : Event) (w : WireState) → (answer_event fault event w).refusals ≤ 1
 one_event None event w = omega arith
@@ -46,12 +36,3 @@ wire_lawful = record {
   append = λ w a b k m n first second. second ∙ first;
   idle = λ w l k. refl;
 }
-
--- nothing was counted or posted, however the run ended
-pub wire_quiet : (w : WireState) (s t : Supply) (k m : Effects) (end : RunEnd) → Ends wire_rules w s t k m end → m.others ≡ k.others
-wire_quiet w s t k m (Done refused) ends = ends.did
-wire_quiet w s t k m BadWords ends = ap (λ (e : Effects). e.others) ends.1
-wire_quiet w s t k m ReadFault ends = ends.did
-wire_quiet w s t k m WriteFault ends = ends.did
-wire_quiet w s t k m TooLong ends = ends.did
-wire_quiet w s t k m OutOfMemory ends = none_tried w ends.front ends.behind k.others ends.between m.others ends.did ends.tried

@@ -7,7 +7,6 @@ use notice_desk::{Desk, FileMailbox};
 use pool_engine::RunEnd;
 use pool_text::{OutOfMemory, Text, append_count};
 use std::alloc::Global;
-use std::fs::Files;
 use std::process::Abort;
 use std::test::Fail;
 
@@ -186,23 +185,18 @@ fn both_boxes_fail(rt: HostRuntime) -> Result<(), Fail> {
 }
 
 // A run with a box for `m` over a file whose folder isn't there.
-fn run_filed<R: Files + Drop + 'static>(
-    runtime: R,
-    alloc: Global,
-    script: &[u8],
-    desk: &mut Desk,
-) -> Result<Seen, OutOfMemory> {
-    let file = Text::from_bytes(alloc, b"no such folder/m")?;
-    let mailbox = Box::new(alloc, FileMailbox::new(runtime, file))?;
+fn run_filed(rt: &HostRuntime, script: &[u8], desk: &mut Desk) -> Result<Seen, OutOfMemory> {
+    let file = Text::from_bytes(rt.alloc(), b"no such folder/m")?;
+    let mailbox = Box::new(rt.alloc(), FileMailbox::new(*rt, file))?;
     drop(desk.add(b"m", mailbox));
-    let replies = write_replies(alloc, script, desk)?;
-    what_is_seen(alloc, desk, replies)
+    let replies = write_replies(rt.alloc(), script, desk)?;
+    what_is_seen(rt.alloc(), desk, replies)
 }
 
 #[test]
 fn a_box_has_no_folder(rt: HostRuntime) -> Result<(), Fail> {
     let mut desk = Desk::new(rt.alloc());
-    let seen = run_filed(rt, rt.alloc(), MATCHED, &mut desk)?;
+    let seen = run_filed(&rt, MATCHED, &mut desk)?;
     assert_replies(&rt, &seen, MATCHES);
     assert!(rt; seen.failures == Some(1));
     drop(desk);

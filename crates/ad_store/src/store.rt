@@ -239,6 +239,15 @@ impl Store {
         self.entry(slot).content.lifetime
     }
 
+    /// Whether the ad in this slot is live at a moment, in seconds: the moment is before its birth plus its lifetime.
+    pub fn is_live(&self, slot: usize, now: u64) -> bool
+        requires { Contains (stock_of self.now).slots slot }
+        ensures { (i : ℕ) → slice_get (stock_of self.now).slots i ≡ Some slot
+            → option_map (is_live now) (slice_get (stock_of self.now).ads i) ≡ Some result }
+    {
+        is_within(now, self.born(slot), self.lifetime(slot))
+    }
+
     /// The ad in this slot. Counts one in `touch`.
     pub fn look<T: Ledger>(&self, slot: usize, touch: &mut Steps<T>) -> &Ad
         requires { Contains (stock_of self.now).slots slot }

@@ -13,6 +13,7 @@ use Rattle.ad_tree.specs.Enclosing.{upward}
 use Rattle.ad_tree.specs.Frames.{Frame, attributes_at, names_of, parent_of}
 use Rattle.ad_tree.specs.Names.{same_name}
 use Rattle.ad_tree.specs.Tree.{Label, Tree, Trees, all, any, binary, call, choice, frame, list, literal, more, name, node, none, select, subscript, unary}
+use Rattle.ad_tree.specs.Alike.{AreAlike}
 use Rattle.ad_store.specs.Stock.{Advert, Stock, is_live}
 use Rattle.eval_scope.specs.Look.{Candidate, attribute_in, candidates, enclosing, enclosing_any, find, first_found, found_at, found_attribute, in_frame, label_of, labels, or_else, targets}
 use Rattle.eval_scope.specs.World.{PlainWorld, expr_of, frame_of_attribute, frames_of_ad, request_side, resource_side, size_at, target}
@@ -21,11 +22,11 @@ use Rattle.ad_eval.specs.Node.{attribute_value, called, conditional, function_va
 use Rattle.ad_eval.specs.Value.{evaluation_at, references, results_by, value_at, value_by}
 use Rattle.ad_value.specs.Logic.{is_true}
 use Rattle.builtin_funcs.specs.Calls.{call_value, is_known}
+use Rattle.dock_match.specs.Docks.{docks, pair_world, rank_of_dock}
+use Rattle.dock_match.specs.Preemption.{is_yielded, preemption_of}
+use Rattle.dock_match.specs.Pool.{Pool, slot_at}
 use Rattle.bilateral_match.specs.declared.member.Member.{Member}
-use Rattle.bilateral_match.specs.Docks.{docks, pair_world, rank_of_dock}
-use Rattle.bilateral_match.specs.Members.{best_slot, first_of, is_yielded, member_with, members_from, preemption_of, regard}
-use Rattle.bilateral_match.specs.Pool.{Pool, slot_at}
-use Rattle.bilateral_match.specs.Alike.{AreAlike}
+use Rattle.bilateral_match.specs.Members.{best_slot, first_of, member_with, members_from, regard}
 
 upward-same : (fs gs : List Frame) → ((f : ℕ) → parent_of fs f ≡ parent_of gs f) → (n : ℕ) (o : Option ℕ) → upward n fs o ≡ upward n gs o
 upward-same fs gs same zero o = refl

@@ -5,9 +5,9 @@ ghost use Rattle.std.specs.Prelude.{◌≡◌, ℕ, List, Ok};
 ghost use Rattle.ad_tree.specs.Ad.{ad_frames};
 ghost use Rattle.ad_store.specs.Stock.{Advert};
 ghost use Rattle.ad_parser.specs.Answers.{AnswersAd};
+ghost use Rattle.dock_match.specs.Pool.{Pool};
 ghost use Rattle.bilateral_match.specs.Answers.{answers};
 ghost use Rattle.bilateral_match.specs.Members.{best};
-ghost use Rattle.bilateral_match.specs.Pool.{Pool};
 ghost use Rattle.job_classes.specs.Keys.{key_of};
 ghost use Rattle.job_classes.specs.Shown.{ads_in};
 

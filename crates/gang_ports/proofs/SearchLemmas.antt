@@ -14,7 +14,7 @@ use Rattle.ad_tree.specs.Frames.{Frame}
 use Rattle.ad_tree.specs.declared.request.Port.{Port}
 use Rattle.ad_eval.specs.Dock.{is_docked, rank_by}
 use Rattle.eval_scope.specs.World.{PlainWorld, attribute_count, port_frame, request_side, with_docked}
-use Rattle.bilateral_match.specs.Pool.{Pool}
+use Rattle.dock_match.specs.Pool.{Pool}
 use Rattle.gang_ports.specs.declared.weighing.Candidate.{Candidate}
 use Rattle.gang_ports.specs.declared.weighing.Resource.{Resource}
 use Rattle.gang_ports.specs.declared.weighing.Side.{Side}

@@ -10,8 +10,8 @@ use Rattle.ad_tree.specs.declared.request.Port.{Port}
 use Rattle.eval_scope.specs.World.{PlainWorld, attribute_count, port_frame, request_side, with_docked}
 use Rattle.ad_eval.specs.Dock.{is_docked, rank_by}
 use Rattle.conjunct_plan.specs.Tests.{labels_of}
-use Rattle.bilateral_match.specs.Pool.{Pool}
-use Rattle.bilateral_match.specs.Sides.{open_sides}
+use Rattle.dock_match.specs.Pool.{Pool}
+use Rattle.dock_match.specs.Sides.{open_sides}
 use Rattle.gang_ports.specs.declared.weighing.Candidate.{Candidate}
 use Rattle.gang_ports.specs.declared.weighing.Kept.{Kept}
 use Rattle.gang_ports.specs.declared.weighing.Resource.{Resource}

@@ -5,17 +5,18 @@ ghost use Rattle.ad_tree.specs.Ad.{ad_frames};
 ghost use Rattle.ad_store.specs.Store.{stock_of};
 ghost use Rattle.conjunct_plan.specs.Tests.{labels_of, tests_of};
 ghost use Rattle.literal_index.specs.Shown.{IsIndex};
-ghost use Rattle.bilateral_match.specs.Counts.{least_left};
-ghost use Rattle.bilateral_match.specs.Pool.{pool_of};
-ghost use Rattle.bilateral_match.specs.Rows.{rows_of};
+ghost use Rattle.ad_candidates.specs.Counts.{least_left};
+ghost use Rattle.ad_candidates.specs.Rows.{rows_of};
+ghost use Rattle.dock_match.specs.Pool.{pool_of};
 ghost use Rattle.gang_ports.specs.Gangs.{ad_at, is_free, is_open, looks_most, open_places};
 ghost use Rattle.gang_ports.specs.Search.{AreResources, AreSides, HasSides, HaveSides, is_unknown};
 
 use crate::free_ports::is_free_port;
 use crate::weighing::{Kept, Resource, Side};
+use ad_candidates::candidates_at;
 use ad_store::{Holdings, Store};
 use ad_tree::{Ad, Request};
-use bilateral_match::{candidates_at, is_live, open_sides};
+use dock_match::open_sides;
 use literal_index::Index;
 use pool_steps::Steps;
 use pool_text::OutOfMemory;
@@ -123,7 +124,7 @@ fn is_free<H: Holdings>(store: &Store, held: &H, slot: usize, moment: u64) -> bo
     ensures { (i : ℕ) → slice_get (stock_of store.now).slots i ≡ Some slot
         → result ≡ is_free (pool_of moment (stock_of store.now) (H.is_offered held.now) (H.holding held.now)) i }
 {
-    is_live(store, slot, moment) && !held.offered(slot) && held.holder(slot).is_none()
+    store.is_live(slot, moment) && !held.offered(slot) && held.holder(slot).is_none()
 }
 
 // Adds a resource, if there is one.

@@ -2,7 +2,7 @@
 ghost use Rattle.std.specs.Prelude.{◌≤◌, ◌+◌, ◌*◌, length, IfOk, OnOk};
 ghost use Rattle.eval_scope.specs.Shown.{world_of};
 ghost use Rattle.ad_eval.specs.Small.{AreSmall};
-ghost use Rattle.bilateral_match.specs.Pool.{Pool};
+ghost use Rattle.dock_match.specs.Pool.{Pool};
 ghost use Rattle.gang_ports.specs.Search.{AreSides, HaveSides, IsBehind, Outcome, attributes_from, choice_in, evaluations_from, evaluations_once, sides_ahead};
 ghost use Rattle.gang_ports.specs.Small.{AreSmallSides};
 

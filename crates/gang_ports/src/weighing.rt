@@ -7,14 +7,14 @@ ghost use Rattle.ad_tree.specs.Small.{IsSmall};
 ghost use Rattle.eval_scope.specs.Shown.{world_of};
 ghost use Rattle.eval_scope.specs.World.{attribute_count};
 ghost use Rattle.ad_eval.specs.Small.{AreSmall};
-ghost use Rattle.bilateral_match.specs.Docks.{last_open};
+ghost use Rattle.dock_match.specs.Docks.{last_open};
 ghost use Rattle.gang_ports.specs.Choice.{is_among};
 ghost use Rattle.gang_ports.specs.Search.{HasSidesIn, attributes_of, candidate_in, candidate_order, evaluations_in, forgotten, remembered, weighed_in, worth};
 ghost use Rattle.gang_ports.specs.Small.{AreSmallResources};
 
 use ad_eval::rank;
 use ad_tree::Ad;
-use bilateral_match::OpenSides;
+use dock_match::OpenSides;
 use eval_scope::World;
 use pool_steps::Steps;
 use pool_text::OutOfMemory;

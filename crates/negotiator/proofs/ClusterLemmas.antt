@@ -9,11 +9,11 @@ use Rattle.std.proofs.lemmas.List.Elements.{All-head, All-nil, All-push, All-set
 use Rattle.ad_tree.specs.Ad.{ad_frames}
 use Rattle.ad_tree.specs.Frames.{Frame}
 use Rattle.ad_tree.specs.declared.request.Request.{Request}
+use Rattle.ad_tree.specs.Alike.{AreAlike}
 use Rattle.ad_store.specs.Stock.{Stock}
-use Rattle.bilateral_match.specs.Alike.{AreAlike}
+use Rattle.dock_match.specs.Pool.{pool_of}
 use Rattle.bilateral_match.specs.Known.{AreKnown}
 use Rattle.bilateral_match.specs.Members.{best_slot}
-use Rattle.bilateral_match.specs.Pool.{pool_of}
 use Rattle.bilateral_match.specs.Shortlists.{IsShortlist, first_left}
 use Rattle.bilateral_match.proofs.AlikeLemmas.{best-same}
 use Rattle.claim_table.specs.declared.job.Job.{Job}

@@ -10,9 +10,10 @@ use Rattle.ad_tree.specs.Frames.{Frame}
 use Rattle.ad_tree.specs.declared.request.Port.{Port}
 use Rattle.ad_tree.specs.declared.request.Request.{Request}
 use Rattle.ad_store.specs.Stock.{Stock}
-use Rattle.bilateral_match.specs.Counts.{entered_for, least_left, open_count}
+use Rattle.ad_candidates.specs.Counts.{least_left}
+use Rattle.dock_match.specs.Pool.{Pool, slot_at}
+use Rattle.bilateral_match.specs.Counts.{entered_for, open_count}
 use Rattle.bilateral_match.specs.Members.{best_slot}
-use Rattle.bilateral_match.specs.Pool.{Pool, slot_at}
 use Rattle.claim_table.specs.declared.answers.JobState.{JobState}
 use Rattle.claim_table.specs.declared.job.Job.{Job}
 use Rattle.claim_table.specs.declared.job.Stage.{Stage}

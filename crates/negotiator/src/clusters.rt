@@ -2,15 +2,16 @@
 // so that each resource is weighed once for all of them.
 ghost use Rattle.std.specs.Prelude.{◌≡◌, ◌<◌, ◌≤◌, ◌+◌, ◌*◌, ℕ, List, [], false, true, All, IfOk, IfSome, IsTrue, Some, length, option_map, slice_get, take};
 ghost use Rattle.ad_tree.specs.Ad.{ad_frames};
+ghost use Rattle.ad_tree.specs.Alike.{AreAlike};
 ghost use Rattle.ad_store.specs.Stock.{Advert};
-ghost use Rattle.bilateral_match.specs.Alike.{AreAlike};
-ghost use Rattle.bilateral_match.specs.Counts.{entered_for, least_left, open_count};
+ghost use Rattle.ad_candidates.specs.Counts.{least_left};
+ghost use Rattle.ad_candidates.specs.Rows.{rows_of};
+ghost use Rattle.dock_match.specs.Pool.{AreStored};
+ghost use Rattle.dock_match.specs.Small.{AreSmallAds};
+ghost use Rattle.bilateral_match.specs.Counts.{entered_for, open_count};
 ghost use Rattle.bilateral_match.specs.Known.{AreKnown};
 ghost use Rattle.bilateral_match.specs.Members.{best_slot};
-ghost use Rattle.bilateral_match.specs.Pool.{AreStored};
-ghost use Rattle.bilateral_match.specs.Rows.{rows_of};
 ghost use Rattle.bilateral_match.specs.Shortlists as shortlists;
-ghost use Rattle.bilateral_match.specs.Small.{AreSmallAds};
 ghost use Rattle.claim_table.specs.Holders.{holder_of};
 ghost use Rattle.claim_table.specs.Small.{AreSmallJobs};
 ghost use Rattle.claim_table.specs.Table.{jobs_of};
@@ -21,8 +22,8 @@ ghost use Rattle.negotiator.specs.Markets.{pool_for};
 ghost use Rattle.negotiator.specs.Scenes.{settings_in, stock_in};
 
 use crate::Scene;
-use ad_tree::Request;
-use bilateral_match::{Known, are_alike, best_knowing, shortlist};
+use ad_tree::{Request, are_alike};
+use bilateral_match::{Known, best_knowing, shortlist};
 use claim_table::{ClaimTable, Standing};
 use pool_steps::Steps;
 use pool_text::{OutOfMemory, Slots};

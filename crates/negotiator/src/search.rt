@@ -3,9 +3,9 @@ ghost use Rattle.std.specs.Prelude.{◌≡◌, ◌≢◌, ◌<◌, ◌≤◌, �
 ghost use Rattle.std.specs.Option.{option_map_or};
 ghost use Rattle.ad_tree.specs.Ad.{ad_frames};
 ghost use Rattle.ad_tree.specs.Small.{IsSmall};
-ghost use Rattle.bilateral_match.specs.Pool.{AreStored};
-ghost use Rattle.bilateral_match.specs.Rows.{rows_of};
-ghost use Rattle.bilateral_match.specs.Small.{AreSmallAds};
+ghost use Rattle.ad_candidates.specs.Rows.{rows_of};
+ghost use Rattle.dock_match.specs.Pool.{AreStored};
+ghost use Rattle.dock_match.specs.Small.{AreSmallAds};
 ghost use Rattle.claim_table.specs.declared.job.Stage.{Stage};
 ghost use Rattle.claim_table.specs.Holders.{holder_of};
 ghost use Rattle.claim_table.specs.Jobs.{AreFree, wanted, with_standing};

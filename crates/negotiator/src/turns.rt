@@ -1,6 +1,6 @@
 // A user's turn, and the turns of a spin.
 ghost use Rattle.std.specs.Prelude.{◌≡◌, ◌<◌, ◌≤◌, ◌+◌, ◌*◌, ◌∷◌, ◌++◌, [], All, IfOk, OnErr, OnOk, false, filter, if◌then◌else◌, length, map};
-ghost use Rattle.bilateral_match.specs.Small.{AreSmallAds};
+ghost use Rattle.dock_match.specs.Small.{AreSmallAds};
 ghost use Rattle.claim_table.specs.Small.{AreSmallJobs};
 ghost use Rattle.claim_table.specs.Table.{jobs_of};
 ghost use Rattle.negotiator.specs.Budget.{ArePaid, AreWithin, counts};

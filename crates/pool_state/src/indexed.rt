@@ -6,8 +6,8 @@ ghost use Rattle.ad_store.specs.Store.{stock_of};
 ghost use Rattle.ad_tree.specs.Ad.{ad_frames};
 ghost use Rattle.ad_tree.specs.Small.{IsSmall};
 ghost use Rattle.literal_index.specs.Shown.{IsIndex, IsKept};
-ghost use Rattle.bilateral_match.specs.Rows.{rows_of};
-ghost use Rattle.bilateral_match.specs.Small.{AreSmallAds};
+ghost use Rattle.ad_candidates.specs.Rows.{rows_of};
+ghost use Rattle.dock_match.specs.Small.{AreSmallAds};
 ghost use Rattle.pool_state.specs.Stocks.{stock_without};
 
 use ad_store::{NoName, Put, PutFault, Store};

@@ -1,7 +1,7 @@
 use Rattle.std.proofs.Common.{◌<◌, ◌∙◌, All, List, ℕ, ap, get_or, length, refl, sym, subst, arith}
 use Rattle.ad_tree.specs.Ad.{ad_frames}
 use Rattle.ad_store.specs.Store.{stock_of}
-use Rattle.bilateral_match.specs.Pool.{pool_of}
+use Rattle.dock_match.specs.Pool.{pool_of}
 use Rattle.bilateral_match.specs.Members.{earlier}
 use Rattle.bilateral_match.specs.Scan.{attributes_for, evaluations_for, member_above, member_at}
 use Rattle.bilateral_match.proofs.BarLemmas.{earlier-above}

@@ -4,7 +4,7 @@ use Rattle.ad_tree.specs.Ad.{ad_frames}
 use Rattle.ad_store.specs.Store.{stock_of}
 use Rattle.eval_scope.specs.Shown.{world_of}
 use Rattle.eval_scope.specs.World.{PlainWorld}
-use Rattle.bilateral_match.specs.Pool.{Pool, pool_of, slot_at}
+use Rattle.dock_match.specs.Pool.{Pool, pool_of, slot_at}
 use Rattle.gang_ports.specs.Search.{HaveSides, IsBehind, Outcome, choice_in}
 use Rattle.gang_ports.proofs.OnceLemmas.{once-whole}
 use Rattle.gang_ports.proofs.PoolLemmas.{attributes-whole, evaluations-whole, found-whole, none-whole, starts, within-whole}

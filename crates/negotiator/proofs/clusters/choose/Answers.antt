@@ -1,7 +1,7 @@
 use Rattle.std.proofs.Common.{◌≡◌, ◌<◌, All, List, Some, ap, arith, length, refl, slice_get, subst, sym}
 use Rattle.std.proofs.lemmas.Option.{slice_get_read}
 use Rattle.ad_tree.specs.Ad.{ad_frames}
-use Rattle.bilateral_match.specs.Alike.{AreAlike}
+use Rattle.ad_tree.specs.Alike.{AreAlike}
 use Rattle.claim_table.specs.Table.{jobs_of}
 use Rattle.claim_table.proofs.SmallLemmas.{holders-small}
 use Rattle.negotiator.specs.declared.clusters.Cluster.{Cluster}

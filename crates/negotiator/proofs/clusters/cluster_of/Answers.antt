@@ -1,7 +1,7 @@
 use Rattle.std.proofs.Common.{◌≡◌, ◌∙◌, Some, get_or, slice_get, subst, sym}
 use Rattle.std.proofs.lemmas.Option.{same_Some, slice_get-get_or}
 use Rattle.ad_tree.specs.Ad.{ad_frames}
-use Rattle.bilateral_match.specs.Alike.{AreAlike}
+use Rattle.ad_tree.specs.Alike.{AreAlike}
 use Rattle.claim_table.specs.Table.{jobs_of}
 use Rattle.negotiator.specs.declared.clusters.Cluster.{Cluster}
 use Rattle.negotiator.specs.Clusters.{IsCluster, ad_at}

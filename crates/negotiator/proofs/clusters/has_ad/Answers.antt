@@ -1,7 +1,7 @@
 use Rattle.std.proofs.Common.{List, subst, sym}
 use Rattle.ad_tree.specs.Ad.{ad_frames}
 use Rattle.ad_tree.specs.Frames.{Frame}
-use Rattle.bilateral_match.specs.Alike.{AreAlike}
+use Rattle.ad_tree.specs.Alike.{AreAlike}
 use Rattle.claim_table.specs.Table.{jobs_of}
 use Rattle.negotiator.proofs.ClusterLemmas.{ad-is}
 use Rattle.negotiator.proofs.clusters.has_ad.Goals as goal

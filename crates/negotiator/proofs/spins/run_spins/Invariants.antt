@@ -1,5 +1,5 @@
 use Rattle.std.proofs.Common.{◌≤◌, ◌+◌, ◌*◌, []}
-use Rattle.bilateral_match.specs.Small.{AreSmallAds}
+use Rattle.dock_match.specs.Small.{AreSmallAds}
 use Rattle.claim_table.specs.Small.{AreSmallJobs}
 use Rattle.claim_table.specs.Table.{jobs_of}
 use Rattle.negotiator.specs.Budget.{counts}

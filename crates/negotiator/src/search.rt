@@ -34,11 +34,7 @@ pub(crate) fn is_idle(claims: &ClaimTable, i: usize) -> bool
     requires { i < length (jobs_of claims.now) }
     ensures { result ≡ is_idle_at (jobs_of claims.now) i }
 {
-    claims.names_are_apart();
-    let Some(state) = claims.state(claims.job(i).bytes()) else {
-        return false;
-    };
-    match state {
+    match claims.standing(i).state() {
         JobState::Idle => true,
         JobState::Matched => false,
         JobState::Claimed => false,

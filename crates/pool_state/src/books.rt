@@ -151,6 +151,7 @@ impl Books {
         while let Some(slot) = self.ads.store.next_expired(now) {
             self.take_out(now, slot, touch)?;
         }
+        self.ads.note_soonest(now);
         Ok((before - self.ads.store.len()) as u64)
     }
 

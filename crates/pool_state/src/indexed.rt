@@ -69,6 +69,13 @@ impl IndexedStore {
         put
     }
 
+    /// Takes note of when the next ad expires, for a moment at which none is left to expire.
+    pub(crate) fn note_soonest(&mut self, now: u64)
+        ensures { stock_of self.new.store ≡ stock_of self.old.store }
+    {
+        self.store.note_soonest(now);
+    }
+
     /// Takes out the ad of a name, as the store does, and counts at most one in `touch`.
     pub(crate) fn withdraw<T: Ledger>(
         &mut self,

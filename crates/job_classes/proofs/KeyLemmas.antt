@@ -31,7 +31,8 @@ use Rattle.job_classes.specs.Names.{weighed_names, asked_by, needed_in}
 use Rattle.job_classes.specs.Reach.{IsReached, is_first, is_needed, first_names, reached_from}
 use Rattle.job_classes.proofs.ContainLemmas.{contains_at, contains_cases, contains_filter_map, contains_first, contains_later, contains_none, filter_map_contains, has_name-listed, listed-has_name, same_name-folded}
 use Rattle.job_classes.proofs.ReachLemmas.{list_is_least}
-use Rattle.job_classes.proofs.SitsLemmas.{IsDefAt, Origin, both_along, def_at-stands, matched-alike}
+use Rattle.job_classes.proofs.DockedLemmas.{both_along}
+use Rattle.job_classes.proofs.SitsLemmas.{IsDefAt, Origin, def_at-stands, told-alike}
 
 -- ---- entries in order
 
@@ -288,7 +289,7 @@ module _ (first : List (List ℕ)) (ds es : Defs) (one : IsParsed ds) (other : I
     pub told_apart_by_none : (res : List Frame) → ((y : List ℕ) → Contains weighed_names y → Contains first y) → ((y : List ℕ) → Contains (asked_by res) y → Contains first y) → (moment : ℕ)
         → AreMatchedAlike (docked_to moment (frames 0 0 (inner ds)) res) (docked_to moment (frames 0 0 (inner es)) res)
     told_apart_by_none res weighed asked moment =
-        matched-alike (record {
+        told-alike (record {
           fs = frames 0 0 (inner ds);
           gs = frames 0 0 (inner es);
           ds = ds;
@@ -328,7 +329,7 @@ parsed-ad text ad answer =
     }
 
 -- the names of an ad are among those from which it goes on
-flat_map-names : (ads : List (List Frame)) (ad : List Frame) (y : List ℕ) → Contains ads ad → Contains (asked_by ad) y → Contains (flat_map asked_by ads) y
+pub flat_map-names : (ads : List (List Frame)) (ad : List Frame) (y : List ℕ) → Contains ads ad → Contains (asked_by ad) y → Contains (flat_map asked_by ads) y
 flat_map-names [] ad y c h = absurd (contains_none ad c)
 flat_map-names (a ∷ ads) ad y c h = by (flat_map-names ads ad y) (contains_cases a ads ad c)
   where

@@ -1,5 +1,6 @@
 mod AddLemmas
 pub mod ContainLemmas
+mod DockedLemmas
 mod EntryLemmas
 mod KeyLemmas
 mod MarkLemmas
@@ -7,3 +8,4 @@ mod ReachLemmas
 mod SetLemmas
 mod SitsLemmas
 mod TwinLemmas
+mod WorldLemmas

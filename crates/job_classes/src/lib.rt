@@ -14,6 +14,6 @@ pub use classes::Classes;
 pub use key::Key;
 pub use laws::{
     equal_keys_are_told_apart_by_no_ad, equal_names_give_equal_keys,
-    keys_have_the_reached_attributes, listed_names_are_the_least_set,
+    keys_have_the_reached_attributes, listed_names_are_the_least_set, twins_are_told_apart_by_no_ad,
 };
 pub use reach::Reach;

@@ -22,6 +22,7 @@ PROGRAM = "classad_pool"
 # What the largest proof takes of memory, and what a build and its copy take of the disk, in bytes.
 MEMORY, DISK = 4_000_000_000, 5_000_000_000
 KEPT = "what is proved so far stays"
+PROVED = "is proved"
 
 
 class Stopped(Exception):
@@ -91,7 +92,7 @@ class Build:
     def __init__(self, room):
         self.room, self.below = room, crates()
         self.seconds = seconds_of(self.below)
-        self.since, self.done, self.refused = {}, set(), None
+        self.since, self.took, self.done, self.refused = {}, {}, set(), None
         self.lock, self.began, self.text = threading.Lock(), time.monotonic(), []
 
     def chain(self, name):
@@ -99,11 +100,16 @@ class Build:
         above = [it for it in self.below if name in self.below[it] and it not in self.done]
         return self.seconds[name] + max(map(self.chain, above), default=0)
 
+    def pace(self):
+        """How many seconds pass here for one of the table, by what this run has proved so far."""
+        planned = sum(self.seconds[it] for it in self.took)
+        return sum(self.took.values()) / planned if planned else 1
+
     def left(self):
-        """Minutes that are left by the table of results, where a chain's crates get about two processors each."""
+        """Minutes that are left: the longest chain of crates, or all of them on all processors, whichever is longer."""
         rest = [it for it in self.below if it not in self.done]
         whole = sum(self.seconds[it] for it in rest) / len(os.sched_getaffinity(0))
-        return max(round(max([whole, *[self.chain(it) / 2 for it in rest]]) / 60), 1)
+        return max(round(self.pace() * max([whole, *map(self.chain, rest)]) / 60), 1)
 
     def tell_beginnings(self):
         """Tells of each crate whose folder for results is new."""
@@ -118,6 +124,8 @@ class Build:
         with self.lock:
             self.done.add(name)
             took = time.monotonic() - self.since.setdefault(name, time.monotonic())
+            if how == PROVED:
+                self.took[name] = took
             left = f"; about {self.left()} minutes are left" if len(self.done) < len(self.below) else ""
             say(f"{len(self.done)} of {len(self.below)}: {name} {how}, after {took:.0f} s{left}")
 
@@ -129,7 +137,7 @@ class Build:
             if found[2] == "NOT PROVED":
                 self.refused = self.refused or found[1]
             else:
-                self.tell_end(found[1], "is proved" if found[2] == "proved" else "was proved before")
+                self.tell_end(found[1], PROVED if found[2] == "proved" else "was proved before")
 
     def watch(self, work):
         while work.poll() is None:

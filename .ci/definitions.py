@@ -7,7 +7,7 @@ standard library and of the kit's crates end the way. A law is a public function
 
 definitions.py           fails where the page isn't what would be written, and warns of definitions without a comment
 definitions.py --write   writes the page
-definitions.py --strict  fails too where a definition has no comment, or stands in a folder of proofs though it needs no proof
+definitions.py --strict  fails too where a definition has no comment, or stands in a folder of proofs
 definitions.py --list    prints the definitions without a comment, and those in a folder of proofs, one a line
 """
 import glob
@@ -19,8 +19,6 @@ TOP = os.path.dirname(os.path.dirname(os.path.abspath(__file__)))
 PAGE = os.path.join(TOP, "docs/DEFINITIONS.md")
 # A definition, a type or a law of so many lines is shown whole.
 SHORT = 4
-# What can stand in a folder of proofs alone: the outcome of a parse is taken from the proof that each text has one.
-PROVED = {"crates/ad_parser/proofs/Outcomes.antt": {"found_in", "expr_outcome", "ad_outcome"}}
 NAME = r"[A-Za-z_◌][\w◌'-]*"
 TOKEN = re.compile(rf"(?<![\w'.◌-])({NAME}(?:\.{NAME})*)")
 HEAD = re.compile(rf"^( *)(?:(?:abbrev|unfoldable|opaque) )?(?:pub )?(?:(data|record) )?({NAME})(?= [:({{]|$)")
@@ -464,18 +462,17 @@ def main():
             file.write(text)
     silent = [it for it in needed + besides + law_list if not it.comment]
     in_proofs = [it for it in needed + besides if "/proofs/" in it.path]
-    misplaced = [it for it in in_proofs if not set(it.names) <= PROVED.get(it.path, set())]
     if "--list" in sys.argv:
         for it in silent:
             print(f"{it.path}:{it.line}: {names_of(it)} has no comment")
         for it in in_proofs:
             print(f"{it.path}:{it.line}: {names_of(it)} stands in a folder of proofs")
-    elif silent or misplaced:
-        print(f"definitions.py: {len(silent)} definitions have no comment, and {len(misplaced)} stand in a folder of proofs (--list tells which)")
+    elif silent or in_proofs:
+        print(f"definitions.py: {len(silent)} definitions have no comment, and {len(in_proofs)} stand in a folder of proofs (--list tells which)")
     wrong = not os.path.exists(PAGE) or open(PAGE, encoding="utf-8").read() != text
     if wrong:
         print("docs/DEFINITIONS.md isn't what .ci/definitions.py --write would write")
-    return 1 if wrong or ("--strict" in sys.argv and (silent or misplaced)) else 0
+    return 1 if wrong or ("--strict" in sys.argv and (silent or in_proofs)) else 0
 
 
 if __name__ == "__main__":

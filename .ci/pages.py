@@ -39,7 +39,7 @@ def commands():
 def refusals():
     """The lines of refusals, without the numbers and names that some of them end with."""
     texts = []
-    for path in ("pool_replies/specs/Refusals.antt", "pool_engine/specs/WireReplies.antt"):
+    for path in ("pool_replies/specs/Refusals.antt", "run_rules/specs/WireRules.antt"):
         texts += re.findall(r'codes "(refused \d+ [a-z ]+?)(?: ?\\n| )?"', read("crates/" + path))
     return texts
 
@@ -50,7 +50,7 @@ def events():
 
 
 def statuses():
-    return re.findall(r"=> (\d+),", read("crates/pool_engine/src/run.rt"))
+    return re.findall(r"=> (\d+),", read("crates/script_run/src/run_end.rt"))
 
 
 def functions():

@@ -1,4 +1,5 @@
--- What the code reads at the front of a text, byte by byte. The definitions to believe stand in `Tokens`.
+-- What stands at the front of a text, as a function of its bytes. `Tokens` says without reading what tokens and faults a text has, and
+-- that both agree is proved.
 use Rattle.std.specs.Prelude.{◌≡◌, ℕ, zero, suc, ◌+◌, ◌-◌, ◌<◌, ◌≤◌, Bool, not, ◌&&◌, ◌||◌, ◌==◌, nat_lt, List, [], ◌∷◌, take, drop, slice_index, Option, Some, None, ◌⊎◌, if◌then◌else◌}
 use Rattle.std.specs.Char.{is_ascii_digit, is_ascii_hexdigit}
 use Rattle.std.specs.List.{prefix_len}
@@ -48,6 +49,7 @@ begin_of byte =
 
 -- ---- words
 
+-- the longest run of letters, digits and `_`: a reserved word, or else a plain name
 abbrev pub word : List ℕ → Step
 word text =
     let len = prefix_len is_word_byte text in
@@ -67,6 +69,7 @@ is_decimal_mark byte = byte == 46 || byte == 101 || byte == 69
 unfoldable pub is_whole : List ℕ → ℕ → Bool
 is_whole text len = not (is_word_byte (slice_index text len)) && is_number (has_fraction text) (take len text)
 
+-- an integer or a decimal; or the fault of a dot or exponent behind it, or of a number that is no whole one
 unfoldable pub number : List ℕ → Step
 number text =
     if is_decimal_mark (slice_index text (number_len text)) && not (is_hexadecimal text) then steps.Fault kinds.Decimal 0
@@ -82,9 +85,11 @@ symbol_len first second third =
     else (if is_symbol (first ∷ second ∷ []) then 2
     else (if is_symbol (first ∷ []) then 1 else 0))
 
+-- a symbol of this length; where that is 0, no token begins here
 abbrev pub symbol_of : ℕ → Step
 symbol_of len = if len == 0 then steps.Fault kinds.Character 0 else steps.Token Symbol len
 
+-- the longest symbol; or the fault of a dot before a digit
 unfoldable pub symbol : List ℕ → Step
 symbol text =
     if slice_index text 0 == 46 && is_ascii_digit (slice_index text 1) then steps.Fault kinds.Decimal 0
@@ -114,10 +119,12 @@ comment_len n (byte ∷ bytes) =
     if byte == 42 && slice_index bytes 0 == 47 then Some (n + 2)
     else comment_len (n + 1) bytes
 
+-- a comment of this length behind its `/*`; or the fault of one that never ends
 abbrev pub comment_of : Option ℕ → Step
 comment_of None = steps.Fault kinds.CommentEnd 0
 comment_of (Some len) = steps.Blank (2 + len)
 
+-- a comment of either kind; or the symbol `/`
 unfoldable pub slash : List ℕ → Step
 slash text =
     if slice_index text 1 == 47 then steps.Blank (2 + prefix_len is_line_byte (drop 2 text))
@@ -133,6 +140,7 @@ octal first second third =
     then fronts.Letter (octal_len second third) (octal_value first second third)
     else fronts.Backslash
 
+-- an escape of one letter; where it is none, what else stands there
 abbrev pub escape_or : Option ℕ → Front → Front
 escape_or None other = other
 escape_or (Some meant) other = fronts.Letter 2 meant
@@ -167,14 +175,17 @@ quoted kind quote at (suc skip) (byte ∷ bytes) = quoted kind quote (at + 1) sk
 quoted kind quote at zero (byte ∷ bytes) =
     quoted_by kind at (front quote (byte ∷ bytes)) (λ len. quoted kind quote (at + 1) (len - 1) bytes)
 
+-- a quoted name, which isn't empty
 unfoldable pub name : List ℕ → Step
 name text = if slice_index text 1 == 39 then steps.Fault kinds.Character 0 else quoted Quoted 39 1 0 (drop 1 text)
 
+-- a string
 unfoldable pub string : List ℕ → Step
 string text = quoted Str 34 1 0 (drop 1 text)
 
 -- ---- all
 
+-- what stands at the front of a text, by what its first byte begins
 abbrev pub at_begin : Begin → List ℕ → Step
 at_begin begins.Space text = steps.Blank 1
 at_begin begins.Word text = word text

@@ -1,6 +1,6 @@
 -- Each text has one tree within the limits or one fault, and not both.
-use Rattle.std.proofs.Common.{◌≡◌, ◌⊎◌, ℕ, zero, suc, ◌+◌, ◌-◌, ◌<◌, ◌≤◌, true, false, List, refl, sym, subst, ap, ◌∙◌, inl, inr, arith}
-use Rattle.std.proofs.lemmas.Bool.{cases_Bool, cases_lt}
+use Rattle.std.proofs.Common.{◌≡◌, ◌⊎◌, ℕ, zero, suc, ◌+◌, ◌-◌, ◌<◌, ◌≤◌, true, false, List, Result, Ok, Err, refl, sym, subst, ap, ◌∙◌, inl, inr, arith}
+use Rattle.std.proofs.lemmas.Bool.{cases_Bool, cases_lt, lt-ltb, le-ltb}
 use Rattle.ad_lexer.proofs.Texts as texts
 use Rattle.ad_tree.specs.Inline.{Inline, height, definitions}
 use Rattle.ad_parser.specs.declared.fault.ParseFault.{ParseFault}
@@ -9,6 +9,7 @@ use Rattle.ad_parser.specs.Answers.{HasWords, Spells, IsWithin}
 use Rattle.ad_grammar.specs.Nesting.{nests_too_deep}
 use Rattle.ad_parser.specs.Limits.{height_limit, frame_limit, definition_limit}
 use Rattle.ad_parser.specs.OneAnswer.{HasFault, HasOneAnswer}
+use Rattle.ad_parser.specs.Outcomes.{HasOutcome, limited}
 use Rattle.ad_grammar.specs.Words.{Word, words}
 
 above_not : (n limit : ℕ) → n ≤ limit → limit < n → ⊥
@@ -16,6 +17,24 @@ above_not n limit low high = omega arith
 
 words_same : (text : List ℕ) (ws vs : List Word) → HasWords text ws → HasWords text vs → ws ≡ vs
 words_same text ws vs a b = a.are ∙ ap words (texts.tokens_same text a.tokens b.tokens a.has b.has) ∙ sym b.are
+
+-- a tree that is spelled is within the limits, or it is known which it goes beyond first
+pub limited-has : (rule : List Word → Inline → Type 0) (frames : Inline → ℕ) (text : List ℕ) (x : Inline) → Spells rule text x → HasOutcome rule frames text (limited frames x)
+limited-has rule frames text x s =
+    elim (cases_lt height_limit (height x)) [
+      | inl high ↦ rw (lt-ltb height_limit (height x) high) ((x, s, high), λ e. absurd cc)
+      | inr low ↦
+          elim (cases_lt frame_limit (frames x)) [
+            | inl many ↦ rw (le-ltb height_limit (height x) low, lt-ltb frame_limit (frames x) many) ((x, s, low, many), λ e. absurd cc)
+            | inr few ↦
+                elim (cases_lt definition_limit (definitions x)) [
+                  | inl more ↦ rw (le-ltb height_limit (height x) low, le-ltb frame_limit (frames x) few, lt-ltb definition_limit (definitions x) more) ((x, s, low, few, more), λ e. absurd cc)
+                  | inr fewer ↦
+                      rw (le-ltb height_limit (height x) low, le-ltb frame_limit (frames x) few, le-ltb definition_limit (definitions x) fewer)
+                      (s, record { low = low; few_frames = few; few_definitions = fewer })
+                ]
+          ]
+    ]
 
 module _ (rule : List Word → Inline → Type 0) (frames : Inline → ℕ) (one : (ws : List Word) (x y : Inline) → rule ws x → rule ws y → x ≡ y)
     (decided : (ws : List Word) → ((x : Inline) × rule ws x) ⊎ ((x : Inline) → rule ws x → ⊥)) where
@@ -126,19 +145,11 @@ module _ (rule : List Word → Inline → Type 0) (frames : Inline → ℕ) (one
   HasSome text = ((x : Inline) × Spells rule text x × IsWithin frames x) ⊎ ((fault : ParseFault) × HasFault rule frames text fault)
 
   counted : (text : List ℕ) (x : Inline) → Spells rule text x → HasSome text
-  counted text x s =
-      elim (cases_lt height_limit (height x)) [
-        | inl high ↦ inr (faults.Depth, ((x, s, high), λ e. absurd cc))
-        | inr low ↦
-            elim (cases_lt frame_limit (frames x)) [
-              | inl many ↦ inr (faults.Frames, ((x, s, low, many), λ e. absurd cc))
-              | inr few ↦
-                  elim (cases_lt definition_limit (definitions x)) [
-                    | inl more ↦ inr (faults.Attributes, ((x, s, low, few, more), λ e. absurd cc))
-                    | inr fewer ↦ inl (x, s, record { low = low; few_frames = few; few_definitions = fewer })
-                  ]
-            ]
-      ]
+  counted text x s = by (limited frames x) (limited-has rule frames text x s)
+    where
+      by : (outcome : Result Inline ParseFault) → HasOutcome rule frames text outcome → HasSome text
+      by (Ok y) has = inl (y, has.0, has.1)
+      by (Err fault) has = inr (fault, has)
 
   spelled : (text : List ℕ) (ws : List Word) → HasWords text ws → HasSome text
   spelled text ws has =

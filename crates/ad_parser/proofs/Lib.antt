@@ -4,3 +4,4 @@ pub mod Outcomes
 mod ParseLemmas
 pub mod SettledLemmas
 mod SmallLemmas
+mod WordsLemmas

@@ -1,31 +1,26 @@
--- Each text has one outcome as an expression and one as an ad, so the outcome is a function of the text. A contract of
--- this crate may not cite the function, since it is drawn from a proof; crates above may.
-use Rattle.std.proofs.Common.{◌≡◌, ◌⊎◌, ℕ, List, Result, Ok, Err, refl, subst, ap, inl, inr}
+-- Each text has one outcome as an expression and one as an ad, which is that of the functions.
+use Rattle.std.proofs.Common.{◌≡◌, ◌⊎◌, ℕ, Bool, true, false, List, Option, None, Some, Result, Ok, Err, if◌then◌else◌, refl, subst, ap, inl, inr}
 use Rattle.ad_tree.specs.declared.ad.Ad.{Ad}
 use Rattle.ad_tree.specs.declared.phrase.Phrase.{Phrase}
 use Rattle.ad_tree.specs.Inline.{Inline}
 use Rattle.ad_parser.specs.declared.fault.ParseFault.{ParseFault}
 use Rattle.ad_parser.specs.declared.fault.ParseFault.TheVariants as faults
-use Rattle.ad_parser.specs.Answers.{Spells, IsWithin, AnswersAd, AnswersExpr, IsFault, frames_of_ad, frames_of_expr}
+use Rattle.ad_parser.specs.Answers.{HasWords, AnswersAd, AnswersExpr, IsFault, frames_of_ad, frames_of_expr}
 use Rattle.ad_grammar.specs.Grammar.{IsExpr, IsRoot}
+use Rattle.ad_grammar.specs.Nesting.{nests_too_deep}
+use Rattle.ad_grammar.specs.Rules.{parsed_expr, parsed_ad}
 use Rattle.ad_parser.specs.OneAnswer.{HasFault, HasOneAnswer}
-use Rattle.ad_parser.specs.Outcomes.{HasOutcome, HasExprOutcome, HasAdOutcome, IsExprAnswer, IsAdAnswer}
-use Rattle.ad_grammar.specs.Words.{Word}
-use Rattle.ad_parser.proofs.AnswerLemmas.{one_answer}
+use Rattle.ad_parser.specs.Outcomes.{HasOutcome, HasExprOutcome, HasAdOutcome, IsExprAnswer, IsAdAnswer, words_of, read_within, outcome_by, expr_outcome, ad_outcome}
+use Rattle.ad_grammar.specs.Words.{Word, words}
+use Rattle.ad_parser.proofs.AnswerLemmas.{limited-has, one_answer}
+use Rattle.ad_parser.proofs.WordsLemmas.{words_of-tokens, words_of-fault}
+use Rattle.ad_lexer.proofs.Texts.{has_answer}
+use Rattle.ad_grammar.proofs.GrammarLaws.{parsed_expr-sound, parsed_expr-none, parsed_ad-sound, parsed_ad-none}
 use Rattle.ad_grammar.proofs.UniqueLemmas.{expr-one, expr-decided, root-one, root-decided}
 
 -- ---- one outcome
 
 module _ (rule : List Word → Inline → Type 0) (frames : Inline → ℕ) (text : List ℕ) where
-  -- the tree or the fault that was found
-  abbrev pub found_in : ((x : Inline) × Spells rule text x × IsWithin frames x) ⊎ ((fault : ParseFault) × HasFault rule frames text fault) → Result Inline ParseFault
-  found_in (inl spelled) = Ok spelled.0
-  found_in (inr wrong) = Err wrong.0
-
-  found-has : (some : ((x : Inline) × Spells rule text x × IsWithin frames x) ⊎ ((fault : ParseFault) × HasFault rule frames text fault)) → HasOutcome rule frames text (found_in some)
-  found-has (inl spelled) = (spelled.1, spelled.2)
-  found-has (inr wrong) = wrong.1
-
   one-outcome : HasOneAnswer rule frames text → (outcome other : Result Inline ParseFault) → HasOutcome rule frames text outcome → HasOutcome rule frames text other → outcome ≡ other
   one-outcome one (Ok x) (Ok y) a b = ap Ok (one.one_tree x y a.0 b.0)
   one-outcome one (Ok x) (Err fault) a b = absurd (one.not_both x fault a.0 a.1 b)
@@ -48,23 +43,35 @@ expr_answers text = one_answer IsExpr frames_of_expr expr-one expr-decided text
 pub ad_answers : (text : List ℕ) → HasOneAnswer IsRoot frames_of_ad text
 ad_answers text = one_answer IsRoot frames_of_ad root-one root-decided text
 
--- ---- the function
+-- ---- the functions give it
 
--- the tree that a text spells as an expression within the limits, or its fault
-unfoldable pub expr_outcome : List ℕ → Result Inline ParseFault
-expr_outcome text = found_in IsExpr frames_of_expr text (expr_answers text).some
+module _ (rule : List Word → Inline → Type 0) (parse : List Word → Option Inline) (frames : Inline → ℕ) (sound : (ws : List Word) (x : Inline) → parse ws ≡ Some x → rule ws x)
+    (complete : (ws : List Word) → parse ws ≡ None → (x : Inline) → rule ws x → ⊥) (text : List ℕ) where
+  read-has : (ws : List Word) → HasWords text ws → nests_too_deep ws ≡ false → (read : Option Inline) → parse ws ≡ read → HasOutcome rule frames text (read_within frames read)
+  read-has ws has shallow None is = ((ws, has, shallow, complete ws is), λ e. absurd cc)
+  read-has ws has shallow (Some x) is = limited-has rule frames text x (record { ws = ws; has = has; shallow = shallow; reads = sound ws x is })
 
--- the same as an ad
-unfoldable pub ad_outcome : List ℕ → Result Inline ParseFault
-ad_outcome text = found_in IsRoot frames_of_ad text (ad_answers text).some
+  words-has : (ws : List Word) → HasWords text ws → HasOutcome rule frames text (outcome_by parse frames (Ok ws))
+  words-has ws has = by (nests_too_deep ws) refl
+    where
+      by : (b : Bool) → nests_too_deep ws ≡ b → HasOutcome rule frames text (if b then Err faults.Nesting else read_within frames (parse ws))
+      by true deep = ((ws, has, deep), λ e. absurd cc)
+      by false shallow = read-has ws has shallow (parse ws) refl
+
+  outcome-has : HasOutcome rule frames text (outcome_by parse frames (words_of text))
+  outcome-has =
+      elim (has_answer text) [
+        | inl found ↦ rw (words_of-tokens text found.0 found.1) (words-has (words found.0) (record { tokens = found.0; has = found.1; are = refl }))
+        | inr found ↦ rw (words_of-fault text found.0 found.1 found.2) (found.2, λ e. absurd cc)
+      ]
 
 pub expr_outcome-has : (text : List ℕ) → HasExprOutcome text (expr_outcome text)
 unfolding expr_outcome
-expr_outcome-has text = found-has IsExpr frames_of_expr text (expr_answers text).some
+expr_outcome-has text = outcome-has IsExpr parsed_expr frames_of_expr parsed_expr-sound parsed_expr-none text
 
 pub ad_outcome-has : (text : List ℕ) → HasAdOutcome text (ad_outcome text)
 unfolding ad_outcome
-ad_outcome-has text = found-has IsRoot frames_of_ad text (ad_answers text).some
+ad_outcome-has text = outcome-has IsRoot parsed_ad frames_of_ad parsed_ad-sound parsed_ad-none text
 
 pub expr_outcome-one : (text : List ℕ) (outcome other : Result Inline ParseFault) → HasExprOutcome text outcome → HasExprOutcome text other → outcome ≡ other
 expr_outcome-one text = one-outcome IsExpr frames_of_expr text (expr_answers text)

@@ -7,7 +7,7 @@ ghost use Rattle.ad_grammar.specs.Grammar.{IsExpr, IsRoot};
 ghost use Rattle.ad_grammar.specs.Made.{IsMade};
 ghost use Rattle.ad_parser.specs.Answers.{Spells, IsWithin, frames_of_expr, frames_of_ad, AnswersAd, AnswersExpr};
 ghost use Rattle.ad_parser.specs.OneAnswer.{HasOneAnswer};
-ghost use Rattle.ad_parser.specs.Outcomes.{HasAdOutcome, HasExprOutcome};
+ghost use Rattle.ad_parser.specs.Outcomes.{HasAdOutcome, HasExprOutcome, ad_outcome, expr_outcome};
 ghost use Rattle.ad_parser.specs.declared.fault.ParseFault.{ParseFault};
 
 use ad_tree::{Ad, Phrase};
@@ -18,11 +18,12 @@ pub fn texts_have_one_answer(text: &[u8])
     ensures ad { HasOneAnswer IsRoot frames_of_ad text.now }
 {}
 
-/// So each text has exactly one outcome of a parse: its tree where that is within the limits, and else its fault.
+/// So each text has exactly one outcome of a parse: its tree where that is within the limits, and else its fault. It is
+/// what the functions `expr_outcome` and `ad_outcome` give.
 pub fn texts_have_one_outcome(text: &[u8])
-    ensures expression { (outcome : Result Inline ParseFault) × HasExprOutcome text.now outcome }
+    ensures expression { HasExprOutcome text.now (expr_outcome text.now) }
     ensures one_expression { (outcome other : Result Inline ParseFault) → HasExprOutcome text.now outcome → HasExprOutcome text.now other → outcome ≡ other }
-    ensures ad { (outcome : Result Inline ParseFault) × HasAdOutcome text.now outcome }
+    ensures ad { HasAdOutcome text.now (ad_outcome text.now) }
     ensures one_ad { (outcome other : Result Inline ParseFault) → HasAdOutcome text.now outcome → HasAdOutcome text.now other → outcome ≡ other }
 {}
 

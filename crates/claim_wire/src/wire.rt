@@ -63,14 +63,16 @@ impl Wire {
     /// Lets the next event happen, and tells it: the messages that it sends, one a line, or `quiet`; for `Show` the
     /// holder of each resource and the phase of each customer. `TooMany` comes first, exactly where more than 999,998
     /// messages were sent before an ask, a message sent again, a leave or a delivery. After any fault the wire is
-    /// unchanged. Whatever happened, a customer that holds a resource with a number is the holder of that resource with
-    /// that number, and no two customers hold one resource.
+    /// unchanged. Whatever happened, the wire keeps `Facts`: what holds of its messages, numbers and holders from the first
+    /// event on. So a customer that holds a resource with a number is the holder of that resource with that number, and no
+    /// two customers hold one resource.
     pub fn step(&mut self, event: &Event) -> Result<Text, WireFault>
         requires { IsNamed (length self.old.resources) (length self.old.customers) event.now }
         ensures fault { MatchResult result (λ _. spec.fault_of event.now self.old ≡ None) (λ fault. IsFaultOf (spec.fault_of event.now self.old) fault) }
         ensures new { OnOk result (self.new ≡ spec.step event.now self.old) }
         ensures reply { IfOk result (λ text. text ≡ texts.reply_of event.now self.old) }
         ensures unchanged { OnErr result (self.new ≡ self.old) }
+        ensures facts { Facts self.new }
         ensures safe { IsSafe self.new }
         ensures one_holder { HasOneHolder self.new }
         ensures resources { length self.new.resources ≡ length self.old.resources }

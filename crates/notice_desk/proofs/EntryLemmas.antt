@@ -1,19 +1,21 @@
 -- The rows of entries: their names, and one entry that changes, comes or goes.
-use Rattle.std.proofs.Common.{◌≡◌, ◌≢◌, ℕ, ◌+◌, ◌<◌, ◌↔◌, true, false, List, [], ◌∷◌, ◌++◌, length, map, get_or, remove, slice_get, slice_set, Option, Some, None, IsNone, IsSome, IfNone, IfSome, IsTrue, is_some, refl, sym, ◌∙◌, ap, subst, arith}
+use Rattle.std.proofs.Common.{◌≡◌, ◌≢◌, ℕ, ◌+◌, ◌<◌, ◌≤◌, ◌↔◌, Bool, true, false, cond, List, [], ◌∷◌, ◌++◌, filter, length, map, get_or, remove, slice_get, slice_set, sum_by, take, Option, Some, None, IsNone, IsSome, IfNone, IfSome, IsTrue, is_some, refl, sym, ◌∙◌, ap, subst, arith}
 use Rattle.std.specs.List.{AllZip}
 use Rattle.std.proofs.Math.Seq.{map-set_same}
-use Rattle.std.proofs.lemmas.List.{length-map, map-append, map-set}
+use Rattle.std.proofs.lemmas.List.{append-nil, length-map, map-append, map-set}
 use Rattle.std.proofs.lemmas.List.Quantifiers.{all_pairs_push, all_pairs_remove}
+use Rattle.std.proofs.lemmas.List.Sums.{count_by-le-length, sum_by-remove, sum_by-set, sum_by_push}
 use Rattle.std.proofs.lemmas.Option.{slice_get_within}
-use Rattle.notice_desk.specs.Desk.{Held, Row, Posts, RowPosts, box_under, failures_under, is_marked, names_of, retired, without}
+use Rattle.notice_desk.specs.Desk.{Held, Row, Posts, RowPosts, box_under, boxed_row, failures_under, is_marked, leaves_with, marked_row, names_of, retired, without}
 use Rattle.notice_desk.specs.Names.{AreDistinct, IsAbsent}
-use Rattle.notice_desk.specs.Sight.{Sight, row_of, rows_of, entry_names}
+use Rattle.notice_desk.specs.Sight.{Sight, boxes, entry_names, left_rows, row_of, rows_of}
 use Rattle.notice_desk.specs.declared.entry.Entry.{Entry}
+use Rattle.notice_desk.specs.declared.entry.LeftBox.{LeftBox}
 use Rattle.notice_desk.specs.declared.notices.PostEnd.{PostEnd}
 use Rattle.notice_desk.specs.declared.notices.PostEnd.TheVariants.{NoBox}
 use Rattle.notice_desk.proofs.ListLemmas.{image-there, map-remove}
-use Rattle.notice_desk.proofs.RetireLemmas.{Retiring, names-retired, retiring-marked, retiring-unmarked}
-use Rattle.notice_desk.proofs.RowLemmas.{box-absent, box-there, failures-absent, failures-known, failures-there, no_box_iff, posts-there, without-there}
+use Rattle.notice_desk.proofs.RetireLemmas.{Retiring, leaving-more, names-retired, retiring-marked, retiring-unmarked, still-there}
+use Rattle.notice_desk.proofs.RowLemmas.{box-absent, box-there, failures-absent, failures-known, failures-there, leaves-absent, leaves-there, no_box_iff, posts-there, without-there}
 
 -- ---- names
 
@@ -124,6 +126,49 @@ known-absent see name entries (Some i) absent isnt = absurd (cc)
 pub unknown : {X : Type 0} {F : X → Type 0} (see : Sight X F) (name : List ℕ) (entries : List (Entry X F)) (found : Option ℕ) → IfNone found (IsAbsent name (entry_names entries)) → is_some found ≡ false → ⊥ ↔ IsSome (failures_under name (rows_of see entries))
 unknown see name entries found absent isnt = let known = known-absent see name entries found absent isnt in (λ h. absurd h, λ h. let e = known.1 h in absurd (cc))
 
+-- ---- a box that leaves
+
+-- with the name leaves the box of its entry
+pub leaves-entry : {X : Type 0} {F : X → Type 0} (see : Sight X F) (name : List ℕ) (entries : List (Entry X F)) (i : ℕ) (entry d : Entry X F) → slice_get (entry_names entries) i ≡ Some name → entry ≡ get_or entries i d → AreDistinct (entry_names entries) → filter (leaves_with name) (rows_of see entries) ≡ cond (is_some (row_of see entry).held) (row_of see entry ∷ []) []
+leaves-entry see name entries i entry d at is apart =
+    leaves-there name (row_of see entry) (named entries i name entry d at is) (rows_of see entries) i (row-there see entries i entry d (within_names entries i name at) is) (distinct-rows see entries apart)
+
+pub leaves-none : {X : Type 0} {F : X → Type 0} (see : Sight X F) (name : List ℕ) (entries : List (Entry X F)) (left : List Row) → IsAbsent name (entry_names entries) → left ≡ left ++ filter (leaves_with name) (rows_of see entries)
+leaves-none see name entries left absent = sym (ap (λ rs. left ++ rs) (leaves-absent name (rows_of see entries) (absent-rows see name entries absent)) ∙ append-nil left)
+
+-- so closing a name puts behind them what leaves with it
+pub closes-entry : {X : Type 0} {F : X → Type 0} (see : Sight X F) (name : List ℕ) (entries : List (Entry X F)) (i : ℕ) (entry d : Entry X F) (left gone : List Row) → slice_get (entry_names entries) i ≡ Some name → entry ≡ get_or entries i d → AreDistinct (entry_names entries) → gone ≡ left ++ boxed_row (row_of see entry) → gone ≡ left ++ filter (leaves_with name) (rows_of see entries)
+closes-entry see name entries i entry d left gone at is apart gone_is =
+    gone_is ∙ ap (λ rs. left ++ rs) (sym (leaves-entry see name entries i entry d at is apart))
+
+-- ---- room for the boxes that can still leave
+
+pub boxes-set : {X : Type 0} {F : X → Type 0} (entries : List (Entry X F)) (i : ℕ) (old new d : Entry X F) → i < length entries → old ≡ get_or entries i d → sum_by boxes (slice_set entries i new) + boxes old ≡ sum_by boxes entries + boxes new
+boxes-set {X = X} {F = F} entries i old new d within is =
+    ap (λ (e : Entry X F). sum_by boxes (slice_set entries i new) + boxes e) is ∙ sum_by-set boxes entries i new d within
+
+pub boxes-remove : {X : Type 0} {F : X → Type 0} (entries left : List (Entry X F)) (i : ℕ) (old d : Entry X F) → i < length entries → old ≡ get_or entries i d → left ≡ remove entries i → sum_by boxes left + boxes old ≡ sum_by boxes entries
+boxes-remove {X = X} {F = F} entries left i old d within is removed =
+    ap (λ (es : List (Entry X F)). sum_by boxes es + boxes old) removed ∙ ap (λ (e : Entry X F). sum_by boxes (remove entries i) + boxes e) is ∙ sum_by-remove boxes entries i d within
+
+-- entries hold no more boxes than they are
+pub boxes-few : {X : Type 0} {F : X → Type 0} (entries : List (Entry X F)) → sum_by boxes entries ≤ length entries
+boxes-few {X = X} {F = F} entries = count_by-le-length (λ (e : Entry X F). is_some e.held) entries
+
+one_box : (b : Bool) → cond b 1 0 ≤ 1
+one_box true = omega arith
+one_box false = omega arith
+
+-- an entry more
+pub boxes-pushed : {X : Type 0} {F : X → Type 0} (entries pushed : List (Entry X F)) (entry : Entry X F) (len capacity : ℕ) → pushed ≡ entries ++ entry ∷ [] → len + sum_by boxes entries < capacity → len + sum_by boxes pushed ≤ capacity
+boxes-pushed {X = X} {F = F} entries pushed entry len capacity is room =
+    let sum : sum_by boxes pushed ≡ sum_by boxes entries + boxes entry = ap (λ (es : List (Entry X F)). sum_by boxes es) is ∙ sum_by_push boxes entries entry in
+    omega (arith, sum, room, one_box (is_some entry.held))
+
+pub boxes-kept : {X : Type 0} {F : X → Type 0} (changed kept : List (Entry X F)) (len capacity : ℕ) → kept ≡ changed → len + sum_by boxes changed ≤ capacity → len + sum_by boxes kept ≤ capacity
+boxes-kept {X = X} {F = F} changed kept len capacity is room =
+    let P : List (Entry X F) → Type 0 = λ es. len + sum_by boxes es ≤ capacity in subst P (sym is) room
+
 -- ---- retiring
 
 pub retiring-entry-marked : {X : Type 0} {F : X → Type 0} (see : Sight X F) (start now : List (Entry X F)) (i count after : ℕ) (old new d : Entry X F) → Retiring (rows_of see start) (rows_of see now) i count → i < length now → old ≡ get_or now i d → row_of see new ≡ retired (row_of see old) → is_marked (row_of see old) ≡ true → after ≡ count + 1 → Retiring (rows_of see start) (rows_of see (slice_set now i new)) (i + 1) after
@@ -139,3 +184,30 @@ retiring-entry-unmarked see start now i count after old new d so_far within is c
     let Q : ℕ → Type 0 = λ n. Retiring (rows_of see start) (slice_set (rows_of see now) i (row_of see new)) (i + 1) n in
     subst P (sym (map-set (row_of see) now i new))
     (subst Q (sym counted) (retiring-unmarked (rows_of see start) (rows_of see now) i count (row_of see old) (row_of see new) so_far (row-there see now i old d within is) changed isnt))
+
+-- the first entries were retired, their boxes are behind those that left, and for those that still can leave there is room
+pub record RetiresFirst {X : Type 0} {F : X → Type 0} (see : Sight X F) (start now : List (Entry X F)) (before left : List (LeftBox X F)) (len capacity i count : ℕ) : Type 0 where
+  pub rows : Retiring (rows_of see start) (rows_of see now) i count
+  pub gone : left_rows see left ≡ left_rows see before ++ filter is_marked (take i (rows_of see start))
+  pub room : len + sum_by boxes now ≤ capacity
+
+pub retires-start : {X : Type 0} {F : X → Type 0} (see : Sight X F) (start : List (Entry X F)) (before : List (LeftBox X F)) (len capacity : ℕ) → len + sum_by boxes start ≤ capacity → RetiresFirst see start start before before len capacity 0 0
+retires-start see start before len capacity room = record {
+  rows = record { rows = refl; counted = refl };
+  gone = sym (append-nil (left_rows see before));
+  room = room;
+}
+
+pub retires-marked : {X : Type 0} {F : X → Type 0} (see : Sight X F) (start now : List (Entry X F)) (before left pushed : List (LeftBox X F)) (len capacity len_more capacity_more i count after : ℕ) (old new d : Entry X F) → RetiresFirst see start now before left len capacity i count → i < length now → old ≡ get_or now i d → row_of see new ≡ retired (row_of see old) → left_rows see pushed ≡ left_rows see left ++ marked_row (row_of see old) → len_more + boxes new ≡ len + boxes old → capacity_more ≡ capacity → is_marked (row_of see old) ≡ true → after ≡ count + 1 → RetiresFirst see start (slice_set now i new) before pushed len_more capacity_more (i + 1) after
+retires-marked see start now before left pushed len capacity len_more capacity_more i count after old new d so_far within is changed left_is len_is capacity_is marked counted = record {
+  rows = retiring-entry-marked see start now i count after old new d so_far.rows within is changed marked counted;
+  gone = leaving-more (rows_of see start) (left_rows see before) (left_rows see left) (left_rows see pushed) i (row_of see old) (still-there (rows_of see start) (rows_of see now) i count (row_of see old) so_far.rows (row-there see now i old d within is)) so_far.gone left_is;
+  room = omega (arith, so_far.room, boxes-set now i old new d within is, len_is, capacity_is);
+}
+
+pub retires-unmarked : {X : Type 0} {F : X → Type 0} (see : Sight X F) (start now : List (Entry X F)) (before left pushed : List (LeftBox X F)) (len capacity len_more capacity_more i count after : ℕ) (old new d : Entry X F) → RetiresFirst see start now before left len capacity i count → i < length now → old ≡ get_or now i d → row_of see new ≡ retired (row_of see old) → left_rows see pushed ≡ left_rows see left ++ marked_row (row_of see old) → len_more + boxes new ≡ len + boxes old → capacity_more ≡ capacity → is_marked (row_of see old) ≡ false → after ≡ count → RetiresFirst see start (slice_set now i new) before pushed len_more capacity_more (i + 1) after
+retires-unmarked see start now before left pushed len capacity len_more capacity_more i count after old new d so_far within is changed left_is len_is capacity_is isnt counted = record {
+  rows = retiring-entry-unmarked see start now i count after old new d so_far.rows within is changed isnt counted;
+  gone = leaving-more (rows_of see start) (left_rows see before) (left_rows see left) (left_rows see pushed) i (row_of see old) (still-there (rows_of see start) (rows_of see now) i count (row_of see old) so_far.rows (row-there see now i old d within is)) so_far.gone left_is;
+  room = omega (arith, so_far.room, boxes-set now i old new d within is, len_is, capacity_is);
+}

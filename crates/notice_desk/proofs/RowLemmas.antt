@@ -1,8 +1,8 @@
 -- The rows of a desk at a name that is there, and at one that is absent.
-use Rattle.std.proofs.Common.{◌≡◌, ◌≢◌, ℕ, zero, suc, ◌↔◌, Bool, true, false, cond, not, List, [], ◌∷◌, slice_get, slice_set, remove, Option, None, Some, IsNone, IsSome, bytes_eq, is_some, true≢false, refl, sym, ◌∙◌, ap, subst}
+use Rattle.std.proofs.Common.{◌≡◌, ◌≢◌, ℕ, zero, suc, ◌↔◌, Bool, true, false, cond, not, ◌&&◌, List, [], ◌∷◌, filter, slice_get, slice_set, remove, Option, None, Some, IsNone, IsSome, bytes_eq, is_some, true≢false, refl, sym, ◌∙◌, ap, subst}
 use Rattle.std.specs.List.{AllZip}
 use Rattle.std.proofs.lemmas.List.Elements.{All-head, All-tail}
-use Rattle.notice_desk.specs.Desk.{Held, Row, HeldPosts, RowPosts, Posts, box_under, failures_under, names_of, without}
+use Rattle.notice_desk.specs.Desk.{Held, Row, HeldPosts, RowPosts, Posts, box_under, failures_under, leaves_with, names_of, without}
 use Rattle.notice_desk.specs.Names.{AreDistinct, IsAbsent}
 use Rattle.notice_desk.specs.declared.notices.PostEnd.{PostEnd}
 use Rattle.notice_desk.specs.declared.notices.PostEnd.TheVariants.{NoBox, Delivered, Failed}
@@ -29,6 +29,12 @@ module _ (name : List ℕ) where
   pub without-absent : (rows : List Row) → IsAbsent name (names_of rows) → without name rows ≡ rows
   without-absent [] absent = refl
   without-absent (row ∷ rows) absent = ap (λ b. cond (not b) (row ∷ without name rows) (without name rows)) (first row rows absent) ∙ ap (λ rs. row ∷ rs) (without-absent rows (later row rows absent))
+
+  pub leaves-absent : (rows : List Row) → IsAbsent name (names_of rows) → filter (leaves_with name) rows ≡ []
+  leaves-absent [] absent = refl
+  leaves-absent (row ∷ rows) absent =
+      ap (λ b. cond (b && is_some row.held) (row ∷ filter (leaves_with name) rows) (filter (leaves_with name) rows)) (first row rows absent)
+      ∙ leaves-absent rows (later row rows absent)
 
   pub posts-absent : (notice : List ℕ) (end : PostEnd) (rows : List Row) → IsAbsent name (names_of rows) → AllZip (Posts name notice end) rows rows
   posts-absent notice end [] absent = tt
@@ -81,6 +87,19 @@ module _ (name : List ℕ) (row : Row) (named : row.name ≡ name) where
   without-there (r ∷ rows) (suc i) is apart =
       ap (λ rs. r ∷ rs) (without-there rows i is (distinct_tail r.name (names_of rows) apart))
       ∙ sym (ap (λ b. cond (not b) (r ∷ without name rows) (without name rows)) (other_name r.name name (behind r rows i is apart)))
+
+  -- the row with the name leaves where it has a box
+  pub leaves-there : (rows : List Row) (i : ℕ) → slice_get rows i ≡ Some row → AreDistinct (names_of rows) → filter (leaves_with name) rows ≡ cond (is_some row.held) (row ∷ []) []
+  leaves-there [] i is apart = absurd (cc)
+  leaves-there (r ∷ rows) zero is apart =
+      let same : r ≡ row = cc in
+      let e = here r rows is in
+      ap (λ b. cond (b && is_some r.held) (r ∷ filter (leaves_with name) rows) (filter (leaves_with name) rows)) (same_name r.name name e)
+      ∙ ap (λ rs. cond (is_some r.held) (r ∷ rs) rs) (leaves-absent name rows (none_behind r rows e apart))
+      ∙ ap (λ (x : Row). cond (is_some x.held) (x ∷ []) []) same
+  leaves-there (r ∷ rows) (suc i) is apart =
+      ap (λ b. cond (b && is_some r.held) (r ∷ filter (leaves_with name) rows) (filter (leaves_with name) rows)) (other_name r.name name (behind r rows i is apart))
+      ∙ leaves-there rows i is (distinct_tail r.name (names_of rows) apart)
 
   pub posts-there : (notice : List ℕ) (end : PostEnd) (new : Row) (rows : List Row) (i : ℕ) → slice_get rows i ≡ Some row → AreDistinct (names_of rows) → RowPosts notice end row new → AllZip (Posts name notice end) rows (slice_set rows i new)
   posts-there notice end new [] i is apart posts = absurd (cc)

@@ -1,5 +1,5 @@
 -- What contracts see of a desk: a row for each name, and what each call does to the rows.
-use Rattle.std.specs.Prelude.{◌≡◌, ◌≢◌, ℕ, Bool, true, false, not, List, [], ◌∷◌, map, filter, Option, None, Some, bytes_eq, if◌then◌else◌}
+use Rattle.std.specs.Prelude.{◌≡◌, ◌≢◌, ℕ, Bool, true, false, not, ◌&&◌, List, [], ◌∷◌, map, filter, Option, None, Some, is_some, bytes_eq, if◌then◌else◌}
 use Rattle.pool_io.specs.Memory.{next_count}
 use Rattle.notice_desk.specs.Mail.{Taking, Takes, Refuses}
 use Rattle.notice_desk.specs.declared.notices.PostEnd.{PostEnd}
@@ -43,6 +43,14 @@ told_by (Some held) = held.taking.taken
 abbrev pub without : List ℕ → List Row → List Row
 without name rows = filter (λ row. not (bytes_eq row.name name)) rows
 
+-- whether a box leaves the desk with the name
+abbrev pub leaves_with : List ℕ → Row → Bool
+leaves_with name row = bytes_eq row.name name && is_some row.held
+
+-- the row where it has a box
+abbrev pub boxed_row : Row → List Row
+boxed_row row = if is_some row.held then row ∷ [] else []
+
 -- a box before and after a post to it: it took the notice and its mark stays, or it refused and is marked
 abbrev pub HeldPosts : List ℕ → PostEnd → Option Held → Option Held → Type 0
 HeldPosts notice NoBox None None = Unit {0}
@@ -74,6 +82,10 @@ marked (Some held) = held.failed
 -- whether a row's box stands there and is marked
 abbrev pub is_marked : Row → Bool
 is_marked row = marked row.held
+
+-- the row where it is marked
+abbrev pub marked_row : Row → List Row
+marked_row row = if is_marked row then row ∷ [] else []
 
 -- the box, or none where it is marked
 abbrev pub unmarked : Option Held → Option Held

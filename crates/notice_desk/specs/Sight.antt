@@ -1,9 +1,10 @@
 -- The rows of a desk's entries, by a sight of its boxes.
-use Rattle.std.specs.Prelude.{ℕ, List, map, option_map}
+use Rattle.std.specs.Prelude.{ℕ, List, cond, is_some, map, option_map, Some}
 use Rattle.std.specs.Global.{Global}
 use Rattle.std.specs.declared.dyn_box.DynBox.{DynBox}
 use Rattle.notice_desk.specs.declared.entry.Entry.{Entry}
 use Rattle.notice_desk.specs.declared.entry.HeldBox.{HeldBox}
+use Rattle.notice_desk.specs.declared.entry.LeftBox.{LeftBox}
 use Rattle.notice_desk.specs.Mail.{Taking}
 use Rattle.notice_desk.specs.Desk.{Held, Row}
 
@@ -22,3 +23,14 @@ rows_of see entries = map (row_of see) entries
 
 abbrev pub entry_names : {X : Type 0} {F : X → Type 0} → List (Entry X F) → List (List ℕ)
 entry_names entries = map (λ entry. entry.name) entries
+
+-- the row of a box that left, as it was
+abbrev pub left_row : {X : Type 0} {F : X → Type 0} → Sight X F → LeftBox X F → Row
+left_row see left = record { name = left.held.name; held = Some (held_of see left.held); failures = left.failures }
+
+abbrev pub left_rows : {X : Type 0} {F : X → Type 0} → Sight X F → List (LeftBox X F) → List Row
+left_rows see left = map (left_row see) left
+
+-- how many boxes an entry holds
+abbrev pub boxes : {X : Type 0} {F : X → Type 0} → Entry X F → ℕ
+boxes entry = cond (is_some entry.held) 1 0

@@ -1,8 +1,7 @@
 // A name on the desk, with its box or with none where the box was retired.
-ghost use Rattle.std.specs.Prelude.{◌≡◌, bytes_eq, option_map, OnErr, OnOk, Some};
+ghost use Rattle.std.specs.Prelude.{◌≡◌, ◌+◌, bytes_eq, is_some, length, option_map, option_to_list, IfSome, OnErr, OnOk, Some};
 ghost use Rattle.notice_desk.specs.Mail.{Takes, Refuses};
 ghost use Rattle.notice_desk.specs.Desk.{HeldPosts, RowPosts, is_marked, retired, told_by};
-ghost use Rattle.notice_desk.specs.Sight.{held_of, row_of};
 
 use crate::{Mailbox, PostEnd};
 use pool_io::Failed;
@@ -10,6 +9,8 @@ use pool_text::Text;
 
 #[derive(Drop)]
 pub(crate) struct HeldBox {
+    // The name that the box stands under, which goes with it when it leaves.
+    pub(crate) name: Text,
     pub(crate) mailbox: Box<dyn Mailbox>,
     pub(crate) failed: bool,
 }
@@ -18,6 +19,14 @@ pub(crate) struct HeldBox {
 pub(crate) struct Entry {
     pub(crate) name: Text,
     pub(crate) held: Option<HeldBox>,
+    pub(crate) failures: u64,
+    ghost own: { option_map (λ held. held.name) held ≡ option_map (λ held. name) held },
+}
+
+// A box that left the desk, with the failures of its name.
+#[derive(Drop)]
+pub(crate) struct LeftBox {
+    pub(crate) held: HeldBox,
     pub(crate) failures: u64,
 }
 
@@ -29,9 +38,12 @@ fn deliver_to(mailbox: &mut Box<dyn Mailbox>, notice: &[u8]) -> Result<(), Faile
 }
 
 impl HeldBox {
+    ghost use Rattle.notice_desk.specs.Sight.{held_of};
+
     // Hands the box a notice, and marks it where it fails.
     fn post(&mut self, notice: &[u8]) -> PostEnd
-        ensures { HeldPosts notice.now result (Some (held_of taking self.old)) (Some (held_of taking self.new)) }
+        ensures posts { HeldPosts notice.now result (Some (held_of taking self.old)) (Some (held_of taking self.new)) }
+        ensures name { self.new.name ≡ self.old.name }
     {
         match deliver_to(&mut self.mailbox, notice) {
             Ok(()) => PostEnd::Delivered,
@@ -44,6 +56,8 @@ impl HeldBox {
 }
 
 impl Entry {
+    ghost use Rattle.notice_desk.specs.Sight.{boxes, left_row, row_of};
+
     pub(crate) fn is_named(&self, name: &[u8]) -> bool
         ensures { result ≡ bytes_eq self.now.name name.now }
     {
@@ -52,7 +66,8 @@ impl Entry {
 
     // Hands the box under the name a notice, where there is one, and counts a failure.
     pub(crate) fn post(&mut self, notice: &[u8]) -> PostEnd
-        ensures { RowPosts notice.now result (row_of taking self.old) (row_of taking self.new) }
+        ensures row { RowPosts notice.now result (row_of taking self.old) (row_of taking self.new) }
+        ensures boxes { boxes self.new ≡ boxes self.old }
     {
         let Some(held) = &mut self.held else {
             return PostEnd::NoBox;
@@ -74,18 +89,39 @@ impl Entry {
         }
     }
 
-    // Drops the box where it is marked, and answers whether it was.
-    pub(crate) fn retire(&mut self) -> bool
-        ensures marked { result ≡ is_marked (row_of taking self.old) }
+    // Takes the box out where it is marked.
+    pub(crate) fn retire(&mut self) -> Option<LeftBox>
+        ensures marked { is_some result ≡ is_marked (row_of taking self.old) }
         ensures row { row_of taking self.new ≡ retired (row_of taking self.old) }
+        ensures left { IfSome result (λ left. left_row taking left ≡ row_of taking self.old) }
+        ensures boxes { boxes self.new + length (option_to_list result) ≡ boxes self.old }
     {
-        let failed = match &self.held {
-            Some(held) => held.failed,
-            None => false,
+        let Some(held) = self.held.take() else {
+            return None;
         };
-        if failed {
-            self.held = None;
+        if !held.failed {
+            self.held = Some(held);
+            return None;
         }
-        failed
+        Some(LeftBox {
+            held,
+            failures: self.failures,
+        })
+    }
+
+    // The box, where there is one.
+    pub(crate) fn into_left(self) -> Option<LeftBox>
+        ensures left { IfSome result (λ left. left_row taking left ≡ row_of taking self) }
+        ensures boxes { length (option_to_list result) ≡ boxes self }
+    {
+        let Entry {
+            name: _,
+            held,
+            failures,
+        } = self;
+        let Some(held) = held else {
+            return None;
+        };
+        Some(LeftBox { held, failures })
     }
 }

@@ -1,16 +1,3 @@
-mod Cases
-mod EndLemmas
-mod EventLemmas
 mod PairLemmas
-mod ReadingLemmas
-mod RunningLemmas
 mod SummingLemmas
 mod TimeLemmas
-mod TookLemmas
-mod WireAnswerLemmas
-mod WireEndLemmas
-mod WireReadingLemmas
-mod WireRunningLemmas
-mod WireTimeLemmas
-mod WireTookLemmas
-mod WroteLemmas

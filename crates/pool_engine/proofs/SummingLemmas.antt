@@ -1,6 +1,5 @@
 -- The commands of a workload one by one, and the sum of their replies.
-use Rattle.std.proofs.Common.{◌≡◌, ℕ, ◌+◌, List, [], ◌∷◌, ◌++◌, Bool, true, Result, Ok, Err, OnErr, OnOk, length, sym, ◌∙◌, ap, subst, arith, append_assoc, length-append}
-use Rattle.std.proofs.lemmas.List.{append-nil}
+use Rattle.std.proofs.Common.{◌≡◌, ◌≢◌, ℕ, ◌+◌, List, [], ◌∷◌, ◌++◌, Bool, true, Result, Ok, Err, OnErr, OnOk, length, sym, ◌∙◌, ap, subst, arith, append_assoc, length-append}
 use Rattle.std.proofs.lemmas.List.Sums.{sum_by-append}
 use Rattle.std.proofs.lemmas.Grind.{flat_map-append}
 use Rattle.workload.specs.declared.summary.Summary.{Summary}
@@ -8,15 +7,17 @@ use Rattle.pool_script.specs.Commands.{commands_of, whole_commands}
 use Rattle.pool_script.specs.Standing.{Kept, Stands}
 use Rattle.pool_script.specs.declared.command.Command.{Command}
 use Rattle.pool_replies.specs.Replies.{hit_count, offer_count, reply_text}
-use Rattle.pool_engine.specs.declared.run.RunEnd.TheVariants.{OutOfMemory}
-use Rattle.pool_engine.specs.Ends.{Effects, effects}
-use Rattle.pool_engine.specs.Events.{Event, event_of, events_of, replies_text, state_after}
+use Rattle.script_run.specs.Answering.{Stopped, Took}
+use Rattle.script_run.specs.Effects.{Effects}
+use Rattle.script_run.specs.Rules.{after}
+use Rattle.script_run.specs.declared.run_end.RunEnd.TheVariants.{Done, BadWords, ReadFault, WriteFault, OutOfMemory}
+use Rattle.script_run.proofs.TookLemmas.{Stopped-behind, Stopped-failed, Stopped-none, Took-append, Took-from, Took-nil, Took-stopped}
+use Rattle.run_rules.specs.Events.{Event, event_of, events_of, replies_text}
+use Rattle.run_rules.specs.PoolRules.{WasTried, pool_rules}
 use Rattle.pool_state.specs.Heard.{Heard, opened}
-use Rattle.pool_engine.specs.Session.{Stopped, Took}
 use Rattle.pool_engine.specs.Workloads.{IsSummaryOf, IsUnsummed, silent, workload_commands}
-use Rattle.pool_engine.proofs.EventLemmas.{events_of-append, refusals_of-append}
-use Rattle.pool_engine.proofs.RunningLemmas.{split_next}
-use Rattle.pool_engine.proofs.TookLemmas.{Stopped-none, Stopped-within, Took-append, Took-from, Took-nil}
+use Rattle.run_rules.proofs.EventLemmas.{events_of-append, refusals_of-append}
+use Rattle.run_rules.proofs.PoolLemmas.{pool_lawful}
 
 pub always_err : {T E : Type 0} (r : Result T E) (P : Type 0) → P → OnErr r P
 always_err (Ok x) P p = tt
@@ -46,35 +47,41 @@ Summed-append a b c xs ys first second commands refused hits offers bytes =
 pub record Summing (s t : Heard) (k m : Effects) (all waiting : List Command) (summary : Summary) : Type 0 where
   pub ran : List Command
   pub split : all ≡ ran ++ waiting
-  pub took : Took s t k m ran 0 summary.refused
+  pub took : Took pool_rules s t k m ran 0 summary.refused
   pub summed : IsSummaryOf summary (events_of s ran)
 
 pub Summing-start : (s t : Heard) (k : Effects) (all waiting : List Command) (summary : Summary) → t ≡ s → waiting ≡ all → summary.commands ≡ 0 → summary.refused ≡ 0 → summary.hits ≡ 0 → summary.offers ≡ 0 → summary.bytes ≡ 0 → Summing s t k k all waiting summary
 Summing-start s t k all waiting summary same is commands refused hits offers bytes = record {
   ran = [];
   split = sym is;
-  took = subst (λ (u : Heard). Took s u k k [] 0 summary.refused) (sym same) (subst (λ (n : ℕ). Took s s k k [] 0 n) (sym refused) (Took-nil s k 0));
+  took = subst (λ (u : Heard). Took pool_rules s u k k [] 0 summary.refused) (sym same) (subst (λ (n : ℕ). Took pool_rules s s k k [] 0 n) (sym refused) (Took-nil pool_rules pool_lawful s k 0));
   summed = record { commands = commands; refused = refused; hits = hits; offers = offers; bytes = bytes };
 }
 
-pub Summing-command : (s t u : Heard) (k m n : Effects) (all waiting rest : List Command) (command : Command) (summary one more : Summary) → Summing s t k m all waiting summary → waiting ≡ command ∷ rest → Took t u m n (command ∷ []) 0 one.refused → IsSummaryOf one (event_of t command ∷ []) → more.commands ≡ summary.commands + one.commands → more.refused ≡ summary.refused + one.refused → more.hits ≡ summary.hits + one.hits → more.offers ≡ summary.offers + one.offers → more.bytes ≡ summary.bytes + one.bytes → Summing s u k n all rest more
+pub Summing-command : (s t u : Heard) (k m n : Effects) (all waiting rest : List Command) (command : Command) (summary one more : Summary) → Summing s t k m all waiting summary → waiting ≡ command ∷ rest → Took pool_rules t u m n (command ∷ []) 0 one.refused → IsSummaryOf one (event_of t command ∷ []) → more.commands ≡ summary.commands + one.commands → more.refused ≡ summary.refused + one.refused → more.hits ≡ summary.hits + one.hits → more.offers ≡ summary.offers + one.offers → more.bytes ≡ summary.bytes + one.bytes → Summing s u k n all rest more
 Summing-command s t u k m n all waiting rest command summary one more summing is took summed commands refused hits offers bytes =
-    let both : Took s u k n (summing.ran ++ command ∷ []) 0 (summary.refused + one.refused) = Took-append s t u k m n summing.ran (command ∷ []) 0 summary.refused (summary.refused + one.refused) summing.took (Took-from t u m n (command ∷ []) summary.refused one.refused took) in
-    let here : IsSummaryOf one (event_of (state_after s summing.ran) command ∷ []) = subst (λ (h : Heard). IsSummaryOf one (event_of h command ∷ [])) summing.took.state summed in
+    let both : Took pool_rules s u k n (summing.ran ++ command ∷ []) 0 (summary.refused + one.refused) = Took-append pool_rules pool_lawful s t u k m n summing.ran (command ∷ []) 0 summary.refused (summary.refused + one.refused) summing.took (Took-from pool_rules pool_lawful t u m n (command ∷ []) summary.refused one.refused took) in
+    let here : IsSummaryOf one (event_of (after pool_rules s summing.ran) command ∷ []) = subst (λ (h : Heard). IsSummaryOf one (event_of h command ∷ [])) summing.took.state summed in
     record {
       ran = summing.ran ++ command ∷ [];
-      split = split_next all summing.ran waiting rest command summing.split is ∙ sym (append_assoc summing.ran (command ∷ []) rest);
-      took = subst (λ (count : ℕ). Took s u k n (summing.ran ++ command ∷ []) 0 count) (sym refused) both;
-      summed = subst (λ (events : List Event). IsSummaryOf more events) (sym (events_of-append s summing.ran (command ∷ []))) (Summed-append summary one more (events_of s summing.ran) (event_of (state_after s summing.ran) command ∷ []) summing.summed here commands refused hits offers bytes);
+      split = summing.split ∙ ap (λ (l : List Command). summing.ran ++ l) is ∙ sym (append_assoc summing.ran (command ∷ []) rest);
+      took = subst (λ (count : ℕ). Took pool_rules s u k n (summing.ran ++ command ∷ []) 0 count) (sym refused) both;
+      summed = subst (λ (events : List Event). IsSummaryOf more events) (sym (events_of-append s summing.ran (command ∷ []))) (Summed-append summary one more (events_of s summing.ran) (event_of (after pool_rules s summing.ran) command ∷ []) summing.summed here commands refused hits offers bytes);
     }
 
-pub Summing-stopped : (s t : Heard) (k m n : Effects) (all waiting rest : List Command) (command : Command) (summary : Summary) → Summing s t k m all waiting summary → waiting ≡ command ∷ rest → Stopped t m n (command ∷ []) OutOfMemory → Stopped s k n all OutOfMemory
-Summing-stopped s t k m n all waiting rest command summary summing is stopped =
-    subst (λ (l : List Command). Stopped s k n l OutOfMemory) (sym (split_next all summing.ran waiting rest command summing.split is)) (Stopped-within s t k m n summing.ran (command ∷ []) rest 0 summary.refused OutOfMemory summing.took stopped)
+Summing-stopped : (s t : Heard) (k m n : Effects) (all waiting : List Command) (summary : Summary) → Summing s t k m all waiting summary → Stopped pool_rules t m n waiting OutOfMemory → Stopped pool_rules s k n all OutOfMemory
+Summing-stopped s t k m n all waiting summary summing stopped =
+    subst (λ (l : List Command). Stopped pool_rules s k n l OutOfMemory) (sym summing.split) (Stopped-behind pool_rules pool_lawful s t k m n summing.ran waiting 0 summary.refused OutOfMemory summing.took stopped)
 
--- memory was wanting behind commands
-pub Took-stopped : (s t : Heard) (k m : Effects) (a : List Command) (p q : ℕ) → Took s t k m a p q → Stopped s k m a OutOfMemory
-Took-stopped s t k m a p q took = subst (λ (l : List Command). Stopped s k m l OutOfMemory) (append-nil a) (Stopped-within s t k m m a [] [] p q OutOfMemory took (Stopped-none t m []))
+-- memory was wanting for a command
+pub Summing-tried : (s t : Heard) (k m n : Effects) (all waiting rest : List Command) (command : Command) (summary : Summary) → Summing s t k m all waiting summary → waiting ≡ command ∷ rest → n.sink ≡ m.sink → WasTried t command m.others n.others → Stopped pool_rules s k n all OutOfMemory
+Summing-tried s t k m n all waiting rest command summary summing is same tried =
+    Summing-stopped s t k m n all waiting summary summing (Stopped-failed pool_rules pool_lawful waiting t m n same (record { item = command; others = rest; waiting = is; tried = tried }))
+
+-- memory was wanting behind a command
+pub Summing-behind : (s t u : Heard) (k m n : Effects) (all waiting rest : List Command) (command : Command) (summary : Summary) (count : ℕ) → Summing s t k m all waiting summary → waiting ≡ command ∷ rest → Took pool_rules t u m n (command ∷ []) 0 count → Stopped pool_rules s k n all OutOfMemory
+Summing-behind s t u k m n all waiting rest command summary count summing is took =
+    Summing-stopped s t k m n all waiting summary summing (subst (λ (l : List Command). Stopped pool_rules t m n l OutOfMemory) (sym is) (Stopped-behind pool_rules pool_lawful t u m n n (command ∷ []) rest 0 count OutOfMemory took (Stopped-none pool_rules pool_lawful u n rest)))
 
 -- the commands that wait behind the end of an input of which none was taken
 pub whole-waits : {T E : Type 0} (r : Result T E) (s t : Kept) (bytes : List ℕ) → Stands s bytes 0 → OnOk r ((all : List ℕ) (n : ℕ) → Stands s all n → Stands t all n) → OnOk r (t.over ≡ true) → OnOk r (t.waiting ≡ whole_commands bytes)
@@ -85,20 +92,47 @@ whole-waits (Err e) s t bytes stands keeps over = tt
 
 module _ (n : ℕ) (k m : Effects) where
   abbrev before : Effects
-  before = effects silent k.tops k.touch k.rows
+  before = record { sink = silent; others = k.others }
 
   abbrev behind : Effects
-  behind = effects silent m.tops m.touch m.rows
+  behind = record { sink = silent; others = m.others }
 
-  pub Workload-unsummed : m.sink ≡ k.sink → Stopped (opened k.rows) before behind (workload_commands n) OutOfMemory → IsUnsummed n k m
+  pub Workload-unsummed : m.sink ≡ k.sink → Stopped pool_rules (opened k.others.rows) before behind (workload_commands n) OutOfMemory → IsUnsummed n k m
   Workload-unsummed unwritten stopped = record {
     front = stopped.front;
-    others = stopped.others;
+    others = stopped.behind;
     split = stopped.split;
     unwritten = unwritten;
-    cost = record { tops = stopped.cost.tops; touch = stopped.cost.touch };
-    posted = stopped.posted;
+    between = stopped.between;
+    ran = stopped.did;
+    tried = stopped.tried;
   }
 
-  pub Workload-unprinted : (t : Heard) (count : ℕ) → m.sink ≡ k.sink → Took (opened k.rows) t before behind (workload_commands n) 0 count → IsUnsummed n k m
-  Workload-unprinted t count unwritten took = Workload-unsummed unwritten (Took-stopped (opened k.rows) t before behind (workload_commands n) 0 count took)
+  pub Workload-unprinted : (t : Heard) (count : ℕ) → m.sink ≡ k.sink → Took pool_rules (opened k.others.rows) t before behind (workload_commands n) 0 count → IsUnsummed n k m
+  Workload-unprinted t count unwritten took = Workload-unsummed unwritten (Took-stopped pool_rules pool_lawful (opened k.others.rows) t before behind (workload_commands n) 0 count took)
+
+-- ---- ends that differ
+
+pub memory-words : OutOfMemory ≢ BadWords
+memory-words is = absurd (cc)
+
+pub memory-read : OutOfMemory ≢ ReadFault
+memory-read is = absurd (cc)
+
+pub memory-write : OutOfMemory ≢ WriteFault
+memory-write is = absurd (cc)
+
+pub write-words : WriteFault ≢ BadWords
+write-words is = absurd (cc)
+
+pub write-read : WriteFault ≢ ReadFault
+write-read is = absurd (cc)
+
+pub done-words : (refused : ℕ) → Done refused ≢ BadWords
+done-words refused is = absurd (cc)
+
+pub done-read : (refused : ℕ) → Done refused ≢ ReadFault
+done-read refused is = absurd (cc)
+
+pub done-write : (refused : ℕ) → Done refused ≢ WriteFault
+done-write refused is = absurd (cc)

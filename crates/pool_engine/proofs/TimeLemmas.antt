@@ -1,6 +1,5 @@
 -- No reply is empty, so a sink that took nothing took no reply.
-use Rattle.std.proofs.Common.{◌≡◌, ◌≢◌, ℕ, ◌<◌, ◌==◌, Bool, true, false, List, [], ◌∷◌, ◌++◌, codes, length, take, nat_lt, if◌then◌else◌, nat_le, ◌+◌, Option, None, Some, Result, Ok, Err, refl, sym, ap, subst, arith, length-append, length-take}
-use Rattle.std.specs.Io.KnownBytes.{Appends}
+use Rattle.std.proofs.Common.{◌≡◌, ◌≢◌, ℕ, ◌<◌, ◌==◌, Bool, true, false, List, [], ◌∷◌, ◌++◌, codes, length, nat_lt, if◌then◌else◌, nat_le, ◌+◌, Option, None, Some, Result, Ok, Err, refl, sym, ◌∙◌, ap, subst, arith, length-append}
 use Rattle.ad_tree.specs.Inline.{Inline, ad_of, phrase_of, phrase_tree}
 use Rattle.ad_tree.specs.Tree.{Tree}
 use Rattle.ad_tree.specs.Frames.{Frame}
@@ -8,7 +7,8 @@ use Rattle.ad_tree.specs.declared.request.Port.{Port}
 use Rattle.ad_parser.specs.declared.fault.ParseFault.{ParseFault}
 use Rattle.ad_parser.specs.declared.fault.ParseFault.TheVariants as faults
 use Rattle.ad_parser.specs.Outcomes.{HasAdOutcome, HasExprOutcome}
-use Rattle.ad_parser.proofs.Outcomes.{ad_outcome, ad_outcome-has, expr_outcome, expr_outcome-has}
+use Rattle.ad_parser.specs.Outcomes.{ad_outcome, expr_outcome}
+use Rattle.ad_parser.proofs.Outcomes.{ad_outcome-has, expr_outcome-has}
 use Rattle.ad_store.specs.Stock.{Advert, has, lack}
 use Rattle.std.specs.Option.{option_map_or}
 use Rattle.ad_store.specs.declared.answers.PutFault.{PutFault}
@@ -31,8 +31,13 @@ use Rattle.pool_replies.specs.declared.reply.Reply.{Reply}
 use Rattle.pool_replies.specs.declared.reply.Reply.TheVariants as reply
 use Rattle.pool_replies.specs.Refusals.{fault_text, is_fault_of_text, line_refusal, refusal_text, room_text}
 use Rattle.pool_replies.specs.Replies.{reply_text}
-use Rattle.pool_engine.specs.Ends.{AnswersFirst, Effects, IsWriteFault, before_last}
-use Rattle.pool_engine.specs.Events.{events_of, replies_text, state_after}
+use Rattle.script_run.specs.Effects.{Effects}
+use Rattle.script_run.specs.Ends.{IsWriteFault}
+use Rattle.script_run.specs.Rules.{after, text_of}
+use Rattle.script_run.specs.Streams.{before_last}
+use Rattle.script_run.proofs.TimeLemmas.{answers_first}
+use Rattle.run_rules.specs.PoolRules.{RepliesFirst, pool_rules}
+use Rattle.run_rules.proofs.PoolLemmas.{pool_lawful}
 use Rattle.ad_printer.specs.Values.{printed_frame}
 use Rattle.claim_table.specs.Priorities.{Setting, lacks_place}
 use Rattle.pool_state.specs.Gangs.{gang, gang_names, line}
@@ -43,7 +48,7 @@ use Rattle.claim_table.specs.Jobs.{jobs_limit, text_limit}
 use Rattle.claim_table.specs.declared.answers.JobState.{JobState}
 use Rattle.pool_state.specs.Status.{show_job}
 use Rattle.pool_state.specs.State.{JobStanding, QueuedJob, State, claimed, idle, matched}
-use Rattle.pool_state.specs.Heard.{Heard, is_unlisten, listens, opened, step_heard}
+use Rattle.pool_state.specs.Heard.{Heard, is_unlisten, listens, step_heard}
 use Rattle.pool_state.proofs.HeardLemmas.{heard-other}
 use Rattle.pool_state.specs.Claiming.{checked, claim, claim_as, first_failing, job_named, losers, release, release_as, restood, without_holders}
 use Rattle.pool_state.specs.Step.{ad_named, advertise, clock, eval, eval_beside, eval_in, put_ad, query, refused, remove, room_of, set_priority, show, step, submit, take_job, withdraw}
@@ -406,37 +411,19 @@ heard_told h c = by c refl
 
 -- ---- a sink that took nothing
 
-empty : {A : Type 0} (l : List A) → length l ≡ 0 → l ≡ []
-empty [] none = refl
-empty (x ∷ l) none = absurd (omega arith)
-
-some_same : (xs known : List ℕ) → ◌≡◌ {A = Option (List ℕ)} (Some xs) (Some known) → xs ≡ known
-some_same xs known same = cc
-
-pub none_appended : (old new : Option (List ℕ)) (known text : List ℕ) → old ≡ Some known → new ≡ Some known → Appends old new text → length text ≡ 0
-none_appended None new known text from to appends = absurd (cc)
-none_appended (Some xs) None known text from to appends = absurd (cc)
-none_appended (Some xs) (Some ys) known text from to appends =
-    omega (arith, ap length appends, length-append xs text, ap length (some_same xs known from), ap length (some_same ys known to))
-
 -- replies whose text is empty are none
-no_commands : (s : Heard) (front : List Command) → length (replies_text (events_of s front)) ≡ 0 → front ≡ []
+no_commands : (s : Heard) (commands : List Command) → length (text_of pool_rules s commands) ≡ 0 → commands ≡ []
 no_commands s [] none = refl
-no_commands s (c ∷ front) none = absurd (omega (arith, none, heard_told s c, length-append (reply_text (step_heard s c).1) (replies_text (events_of (step_heard s c).0 front))))
+no_commands s (c ∷ commands) none = absurd (omega (arith, none, heard_told s c, length-append (reply_text (step_heard s c).1) (text_of pool_rules (step_heard s c).0 commands)))
 
 -- where a write failed and the sink took nothing, it was offered the first reply alone and whole, and no command had ended before
 -- the last read
-pub answers_first : (s t : Supply) (k m : Effects) (fault : IsWriteFault s t k m) (known : List ℕ) → k.sink.taken ≡ Some known → m.sink.taken ≡ Some known → AnswersFirst t k m fault.bytes fault.front fault.cut
-answers_first s t k m fault known from to =
-    let before : List ℕ = replies_text (events_of (opened k.rows) fault.front) in
-    let cut : List ℕ = reply_text (step_heard (state_after (opened k.rows) fault.front) fault.cut).1 in
-    let piece : List ℕ = take fault.broke.count cut in
-    let nothing = none_appended k.sink.taken m.sink.taken known (before ++ piece) from to fault.broke.taken in
-    let both = length-append before piece in
-    let first : fault.front ≡ [] = no_commands (opened k.rows) fault.front (omega (arith, nothing, both)) in
-    let same = ap (λ (l : List Command). length (reply_text (step_heard (state_after (opened k.rows) l) fault.cut).1)) first in
+pub replies_first : (start : Heard) (s t : Supply) (k m : Effects) (fault : IsWriteFault pool_rules start s t k m) (known : List ℕ) → k.sink.taken ≡ Some known → m.sink.taken ≡ Some known → RepliesFirst start t m fault.bytes fault.front fault.cut
+replies_first start s t k m fault known from to =
+    let answers = answers_first pool_rules pool_lawful start s t k m fault known from to in
+    let first = no_commands start fault.front (ap length answers.first) in
     record {
       first = first;
-      alone = omega (arith, fault.broke.others, fault.broke.proper, nothing, both, length-take fault.broke.count cut, same);
-      in_time = empty (ended_commands (before_last t fault.bytes)) (omega (arith, fault.in_time, ap length first));
+      alone = answers.alone ∙ ap (λ (l : List Command). length (reply_text (step_heard (after pool_rules start l) fault.cut).1)) first;
+      in_time = no_commands start (ended_commands (before_last t fault.bytes)) (ap length answers.in_time);
     }

@@ -8,16 +8,17 @@ use Rattle.pool_script.specs.GivenLines.{whole_lines}
 use Rattle.pool_script.specs.Names.{number_within}
 use Rattle.pool_engine.specs.declared.command_line.Asked.{Asked}
 use Rattle.pool_engine.specs.declared.command_line.Asked.TheVariants as asks
-use Rattle.pool_engine.specs.declared.run.RunEnd.{RunEnd}
-use Rattle.pool_engine.specs.declared.run.RunEnd.TheVariants as ends
-use Rattle.pool_engine.specs.Ends.{Effects, Ends}
-use Rattle.pool_engine.specs.Events.{events_of, replies_text}
+use Rattle.script_run.specs.Effects.{Effects}
+use Rattle.script_run.specs.Ends.{Ends}
+use Rattle.script_run.specs.Rules.{text_of}
+use Rattle.script_run.specs.declared.run_end.RunEnd.{RunEnd}
+use Rattle.script_run.specs.declared.run_end.RunEnd.TheVariants as ends
 use Rattle.pool_state.specs.Heard.{opened}
 use Rattle.pool_engine.specs.Mails.{mails_of}
 use Rattle.pool_engine.specs.Options.{are_options, count_of}
+use Rattle.run_rules.specs.PoolRules.{pool_rules}
 use Rattle.pool_engine.specs.declared.mail.Mail.{Mail}
-use Rattle.pool_engine.specs.WireEnds.{WireEnds}
-use Rattle.pool_engine.specs.WireReplies.{wire_text}
+use Rattle.run_rules.specs.WireRules.{wire_rules}
 use Rattle.pool_engine.specs.Workloads.{WorkloadEnds, summary_of, workload_events}
 
 -- ---- the words
@@ -56,9 +57,9 @@ IsWithin other = Unit {0}
 -- written or posted, a workload reads nothing, and a wire counts and posts nothing
 abbrev pub AskedEnds : Asked → Supply → Supply → Effects → Effects → RunEnd → Type 0
 AskedEnds asks.Bad s t k m end = (end ≡ ends.BadWords) × ((t ≡ s) × (m ≡ k))
-AskedEnds asks.Pool s t k m end = Ends s t k m end
+AskedEnds asks.Pool s t k m end = Ends pool_rules (opened k.others.rows) s t k m end
 AskedEnds (asks.Workload machines) s t k m end = WorkloadEnds machines k m end × (t ≡ s)
-AskedEnds (asks.Wire resources customers) s t k m end = WireEnds (new_wire resources customers) s t k.sink m.sink end × ((m.tops ≡ k.tops) × ((m.touch ≡ k.touch) × (m.rows ≡ k.rows)))
+AskedEnds (asks.Wire resources customers) s t k m end = Ends wire_rules (new_wire resources customers) s t k m end × (m.others ≡ k.others)
 
 -- the source is left alone
 abbrev pub IsUnread : Asked → Type 0
@@ -75,6 +76,6 @@ input_of asked left = left
 -- all that is to be written for an input, where these rows are on the desk
 abbrev pub asked_text : Asked → List Row → List ℕ → List ℕ
 asked_text asks.Bad rows bytes = []
-asked_text asks.Pool rows bytes = replies_text (events_of (opened rows) (whole_commands bytes))
+asked_text asks.Pool rows bytes = text_of pool_rules (opened rows) (whole_commands bytes)
 asked_text (asks.Workload machines) rows bytes = summary_of (workload_events machines rows)
-asked_text (asks.Wire resources customers) rows bytes = wire_text (new_wire resources customers) (whole_lines bytes)
+asked_text (asks.Wire resources customers) rows bytes = text_of wire_rules (new_wire resources customers) (whole_lines bytes)

@@ -1,11 +1,4 @@
 pub mod CommandLine
-pub mod Ends
-pub mod Events
-pub mod Limits
 pub mod Mails
 pub mod Options
-pub mod Session
-pub mod WireEnds
-pub mod WireReplies
-pub mod WireSession
 pub mod Workloads

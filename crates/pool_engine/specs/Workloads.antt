@@ -1,5 +1,5 @@
 -- What a run of a workload does: its commands run as those of a script do, and a summary is written in the place of replies.
-use Rattle.std.specs.Prelude.{◌≡◌, ◌⊎◌, ℕ, List, [], ◌++◌, length, sum_by, take, None}
+use Rattle.std.specs.Prelude.{◌≡◌, ℕ, List, [], ◌++◌, length, sum_by, None}
 use Rattle.workload.specs.Summary.{summary_text}
 use Rattle.workload.specs.Workload.{workload}
 use Rattle.workload.specs.declared.summary.Summary.{Summary}
@@ -8,10 +8,13 @@ use Rattle.notice_desk.specs.Desk.{Row}
 use Rattle.pool_script.specs.Commands.{whole_commands}
 use Rattle.pool_script.specs.declared.command.Command.{Command}
 use Rattle.pool_replies.specs.Replies.{hit_count, offer_count}
-use Rattle.pool_engine.specs.declared.run.RunEnd.{RunEnd}
-use Rattle.pool_engine.specs.declared.run.RunEnd.TheVariants.{Done, WriteFault, OutOfMemory}
-use Rattle.pool_engine.specs.Ends.{Broke, Costs, Effects, Wrote}
-use Rattle.pool_engine.specs.Events.{Event, Posted, events_of, refusals_of, replies_text}
+use Rattle.script_run.specs.Effects.{Beside, Effects}
+use Rattle.script_run.specs.Rules.{Tried, after}
+use Rattle.script_run.specs.Streams.{Broke, Wrote}
+use Rattle.script_run.specs.declared.run_end.RunEnd.{RunEnd}
+use Rattle.script_run.specs.declared.run_end.RunEnd.TheVariants.{Done, WriteFault, OutOfMemory}
+use Rattle.run_rules.specs.Events.{Event, events_of, refusals_of, replies_text}
+use Rattle.run_rules.specs.PoolRules.{Ran, pool_rules}
 use Rattle.pool_state.specs.Heard.{opened}
 
 -- ---- the summary
@@ -54,26 +57,24 @@ silent = record { taken = None; offered = 0; faults = 0; sure = 0 }
 
 -- all commands ran, all notices were posted, and the summary was taken
 pub record IsSummed (n : ℕ) (k m : Effects) (refused : ℕ) : Type 0 where
-  pub wrote : Wrote k.sink m.sink (summary_of (workload_events n k.rows))
-  pub counted : refused ≡ refusals_of (workload_events n k.rows)
-  pub cost : Costs k m (workload_events n k.rows)
-  pub posted : Posted (opened k.rows) (workload_commands n) k.rows m.rows
+  pub wrote : Wrote k.sink m.sink (summary_of (workload_events n k.others.rows))
+  pub counted : refused ≡ refusals_of (workload_events n k.others.rows)
+  pub ran : Ran (opened k.others.rows) (workload_commands n) k.others m.others
 
 -- all commands ran, all notices were posted, and the sink failed at the summary: a proper front of it was taken
 pub record IsSummaryFault (n : ℕ) (k m : Effects) : Type 0 where
-  pub broke : Broke k.sink m.sink [] (summary_of (workload_events n k.rows))
-  pub cost : Costs k m (workload_events n k.rows)
-  pub posted : Posted (opened k.rows) (workload_commands n) k.rows m.rows
+  pub broke : Broke k.sink m.sink [] (summary_of (workload_events n k.others.rows))
+  pub ran : Ran (opened k.others.rows) (workload_commands n) k.others m.others
 
--- memory was wanting: nothing was written, the notices of the first of the commands were posted, and at most the next one may
--- have made evaluations besides
+-- memory was wanting: nothing was written, the first of the commands ran, and at most the next one was tried
 pub record IsUnsummed (n : ℕ) (k m : Effects) : Type 0 where
   pub front : List Command
   pub others : List Command
   pub split : workload_commands n ≡ front ++ others
   pub unwritten : m.sink ≡ k.sink
-  pub cost : Costs k m (events_of (opened k.rows) (front ++ take 1 others))
-  pub posted : Posted (opened k.rows) front k.rows m.rows ⊎ Posted (opened k.rows) (front ++ take 1 others) k.rows m.rows
+  pub between : Beside
+  pub ran : Ran (opened k.others.rows) front k.others between
+  pub tried : Tried pool_rules (after pool_rules (opened k.others.rows) front) others between m.others
 
 -- a run of a workload ended so, from this state of the sink, the counts and the desk to that; no source is read
 abbrev pub WorkloadEnds : ℕ → Effects → Effects → RunEnd → Type 0

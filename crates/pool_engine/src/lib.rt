@@ -4,21 +4,20 @@
 
 mod command_line;
 mod laws;
+mod left;
 mod line_wire;
 mod mail;
 mod options;
+mod pool_machine;
 mod run;
-mod session;
-mod wire;
-mod wire_laws;
-mod wire_session;
+mod wire_machine;
 mod workload_run;
 
 pub use command_line::{Asked, mails, read_words, words_of};
 pub use laws::the_first_reply_is_offered_at_once;
+pub use left::Left;
 pub use mail::Mail;
 pub use pool_state::Pool;
-pub use run::{RunEnd, run_pool};
-pub use wire::run_wire;
-pub use wire_laws::the_first_reply_of_a_wire_is_offered_at_once;
+pub use run::{run_and_keep, run_pool};
+pub use script_run::RunEnd;
 pub use workload::generated;

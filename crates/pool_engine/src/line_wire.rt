@@ -2,12 +2,13 @@
 ghost use Rattle.std.specs.Prelude.{◌≡◌, length, IfOk};
 ghost use Rattle.claim_wire.specs.Lines.{event_of};
 ghost use Rattle.claim_wire.specs.Wires.{IsNamed, IsNumber, fault_of, new_wire};
-ghost use Rattle.pool_engine.specs.WireReplies as replies;
-ghost use Rattle.pool_engine.specs.WireReplies.{Answer};
+ghost use Rattle.run_rules.specs.WireRules as replies;
+ghost use Rattle.run_rules.specs.WireRules.{WireAnswer};
 
 use claim_wire::{Event, LineFault, Wire, WireFault, read_event};
 use pool_script::Line;
 use pool_text::{OutOfMemory, Text};
+use script_run::Answer;
 use std::alloc::Global;
 use std::marker::Model;
 
@@ -31,13 +32,6 @@ impl Model for LineWire {
     ghost invariant = { λ w. (length w.wire.resources ≡ w.resources) × (length w.wire.customers ≡ w.customers) };
 }
 
-/// The reply to a line: its text, which is empty for a line without an event, and how many refusals it is, 0 or 1.
-#[derive(Drop)]
-pub(crate) struct LineReply {
-    pub(crate) text: Text,
-    pub(crate) refusals: u64,
-}
-
 impl LineWire {
     pub(crate) fn new(
         alloc: Global,
@@ -57,10 +51,10 @@ impl LineWire {
     }
 
     /// Lets happen what a line says.
-    #[tactic(auto, unfolding(crate::specs::WireReplies::answer, pool_replies::specs::Refusals::line_refusal))]
-    pub(crate) fn answer(&mut self, line: &Line) -> Result<LineReply, OutOfMemory>
+    #[tactic(auto, unfolding(run_rules::specs::WireRules::answer, pool_replies::specs::Refusals::line_refusal))]
+    pub(crate) fn answer(&mut self, line: &Line) -> Result<Answer, OutOfMemory>
         ensures { IfOk result (λ reply.
-            ◌≡◌ {A = Answer} (replies.answer self.old line.now) (record { wire = self.new; text = reply.text; refusals = reply.refusals })) }
+            ◌≡◌ {A = WireAnswer} (replies.answer self.old line.now) (record { wire = self.new; text = reply.text; refusals = reply.refusals })) }
     {
         match line {
             Line::TooLong => refused(self.alloc, b"refused 1 line too long\n"),
@@ -69,13 +63,13 @@ impl LineWire {
     }
 
     /// Lets happen what the words of a line say.
-    fn answer_words(&mut self, words: &[u8]) -> Result<LineReply, OutOfMemory>
+    fn answer_words(&mut self, words: &[u8]) -> Result<Answer, OutOfMemory>
         ensures { IfOk result (λ reply.
-            ◌≡◌ {A = Answer} (replies.answer_read (event_of (length self.old.resources) (length self.old.customers) words.now) self.old)
+            ◌≡◌ {A = WireAnswer} (replies.answer_read (event_of (length self.old.resources) (length self.old.customers) words.now) self.old)
             (record { wire = self.new; text = reply.text; refusals = reply.refusals })) }
     {
         match read_event(words, self.resources, self.customers) {
-            Ok(None) => Ok(LineReply {
+            Ok(None) => Ok(Answer {
                 text: Text::new(self.alloc),
                 refusals: 0,
             }),
@@ -85,14 +79,14 @@ impl LineWire {
     }
 
     /// Lets an event happen.
-    fn answer_event(&mut self, event: &Event) -> Result<LineReply, OutOfMemory>
+    fn answer_event(&mut self, event: &Event) -> Result<Answer, OutOfMemory>
         requires { IsNamed (length self.old.resources) (length self.old.customers) event.now }
         ensures { IfOk result (λ reply.
-            ◌≡◌ {A = Answer} (replies.answer_event (fault_of event.now self.old) event.now self.old)
+            ◌≡◌ {A = WireAnswer} (replies.answer_event (fault_of event.now self.old) event.now self.old)
             (record { wire = self.new; text = reply.text; refusals = reply.refusals })) }
     {
         match self.wire.step(event) {
-            Ok(text) => Ok(LineReply { text, refusals: 0 }),
+            Ok(text) => Ok(Answer { text, refusals: 0 }),
             Err(WireFault::OutOfMemory) => Err(OutOfMemory),
             Err(fault) => refused(self.alloc, wire_refusal(fault)),
         }
@@ -100,11 +94,11 @@ impl LineWire {
 }
 
 /// The reply that refuses a line so.
-fn refused(alloc: Global, text: &[u8]) -> Result<LineReply, OutOfMemory>
+fn refused(alloc: Global, text: &[u8]) -> Result<Answer, OutOfMemory>
     ensures text { IfOk result (λ reply. reply.text ≡ text.now) }
     ensures count { IfOk result (λ reply. reply.refusals ≡ 1) }
 {
-    Ok(LineReply {
+    Ok(Answer {
         text: Text::from_bytes(alloc, text)?,
         refusals: 1,
     })

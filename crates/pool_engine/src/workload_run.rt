@@ -6,14 +6,17 @@ ghost use Rattle.pool_script.specs.Commands.{whole_commands};
 ghost use Rattle.pool_script.specs.Form.{is_within_form};
 ghost use Rattle.pool_script.specs.Standing.{Stands};
 ghost use Rattle.pool_replies.specs.Replies.{hit_count, is_printable, offer_count, refusal_count, reply_text};
-ghost use Rattle.pool_engine.specs.Ends.{IsDoneOrOutOfMemory, effects};
-ghost use Rattle.pool_engine.specs.Events.{event_of, events_of};
+ghost use Rattle.script_run.specs.Answering.{Stopped, Took};
+ghost use Rattle.script_run.specs.Effects.{beside, effects};
+ghost use Rattle.script_run.specs.Ends.{IsDoneOrOutOfMemory};
+ghost use Rattle.run_rules.specs.Events.{event_of, events_of};
+ghost use Rattle.run_rules.specs.PoolRules.{WasTried, pool_rules};
 ghost use Rattle.pool_state.specs.Heard.{Heard, heard, opened};
 ghost use Rattle.pool_state.specs.Pool.{state_of};
-ghost use Rattle.pool_engine.specs.Session.{Stopped, Took};
+ghost use Rattle.pool_state.specs.State.{opening};
 ghost use Rattle.pool_engine.specs.Workloads.{IsSummaryOf, WorkloadEnds, silent, summary_of, workload_commands, workload_events};
 
-use crate::RunEnd;
+use crate::pool_machine::run_command;
 use notice_desk::Notices;
 use pool_io::{Failed, Sink, write_all};
 use pool_replies::{Reply, hits, offers, print_reply, refusals};
@@ -21,8 +24,8 @@ use pool_script::{Command, Script};
 use pool_state::Pool;
 use pool_steps::Steps;
 use pool_text::OutOfMemory;
+use script_run::RunEnd;
 use std::alloc::Global;
-use std::mem;
 use std::sync::ledger::Ledger;
 use workload::{Summary, generated};
 
@@ -31,12 +34,14 @@ use workload::{Summary, generated};
 pub(crate) fn run_workload<K: Sink, D: Notices, F: Ledger, E: Ledger, T: Ledger>(
     alloc: Global,
     machines: u64,
+    pool: &mut Pool,
     sink: &mut K,
     desk: &mut D,
     tops: &mut Steps<F>,
     entry: &mut Steps<E>,
     touch: &mut Steps<T>,
 ) -> RunEnd
+    requires { state_of pool.old ≡ opening }
     ensures ends { WorkloadEnds machines (effects (K.shows sink.old) tops.old touch.old (D.shows desk.old))
         (effects (K.shows sink.new) tops.new touch.new (D.shows desk.new)) result }
     ensures ratio { entry.new + 9216 * tops.old ≤ entry.old + 9216 * tops.new }
@@ -46,7 +51,7 @@ pub(crate) fn run_workload<K: Sink, D: Notices, F: Ledger, E: Ledger, T: Ledger>
     ensures sure_sink { length (summary_of (workload_events machines (D.shows desk.old))) ≤ (K.shows sink.old).sure
         → result ≢ RunEnd.WriteFault }
 {
-    let Ok(summary) = summed(alloc, machines, desk, tops, entry, touch) else {
+    let Ok(summary) = summed(alloc, machines, pool, desk, tops, entry, touch) else {
         return RunEnd::OutOfMemory;
     };
     let Ok(offered) = offer_summary(alloc, &summary, sink) else {
@@ -80,29 +85,29 @@ fn offer_summary<K: Sink>(
 fn summed<D: Notices, F: Ledger, E: Ledger, T: Ledger>(
     alloc: Global,
     machines: u64,
+    pool: &mut Pool,
     desk: &mut D,
     tops: &mut Steps<F>,
     entry: &mut Steps<E>,
     touch: &mut Steps<T>,
 ) -> Result<Summary, OutOfMemory>
+    requires { state_of pool.old ≡ opening }
     ensures summed { IfOk result (λ summary. IsSummaryOf summary (workload_events machines (D.shows desk.old))) }
-    ensures took { IfOk result (λ summary. (t : Heard) × Took (opened (D.shows desk.old)) t
+    ensures took { IfOk result (λ summary. (t : Heard) × Took pool_rules (opened (D.shows desk.old)) t
         (effects silent tops.old touch.old (D.shows desk.old)) (effects silent tops.new touch.new (D.shows desk.new))
         (workload_commands machines) 0 summary.refused) }
-    ensures stopped { OnErr result (Stopped (opened (D.shows desk.old))
+    ensures stopped { OnErr result (Stopped pool_rules (opened (D.shows desk.old))
         (effects silent tops.old touch.old (D.shows desk.old)) (effects silent tops.new touch.new (D.shows desk.new))
         (workload_commands machines) RunEnd.OutOfMemory) }
     ensures ratio { entry.new + 9216 * tops.old ≤ entry.old + 9216 * tops.new }
 {
     let mut script = script_of(alloc, machines)?;
-    let mut pool = Pool::new(alloc);
-    let summary = sum_waiting(alloc, &mut script, &mut pool, desk, tops, entry, touch);
+    let summary = sum_waiting(alloc, &mut script, pool, desk, tops, entry, touch);
     drop(script);
-    mem::forget(pool);
     summary
 }
 
-// Runs the commands that wait in a pool, and sums up their replies. The pool is left to the process, as that of a script is.
+// Runs the commands that wait in a pool, and sums up their replies.
 fn sum_waiting<D: Notices, F: Ledger, E: Ledger, T: Ledger>(
     alloc: Global,
     script: &mut Script,
@@ -114,10 +119,10 @@ fn sum_waiting<D: Notices, F: Ledger, E: Ledger, T: Ledger>(
 ) -> Result<Summary, OutOfMemory>
     ensures summed { IfOk result (λ summary.
         IsSummaryOf summary (events_of (heard (state_of pool.old) (D.shows desk.old)) script.old.waiting)) }
-    ensures took { IfOk result (λ summary. (t : Heard) × Took (heard (state_of pool.old) (D.shows desk.old)) t
+    ensures took { IfOk result (λ summary. (t : Heard) × Took pool_rules (heard (state_of pool.old) (D.shows desk.old)) t
         (effects silent tops.old touch.old (D.shows desk.old)) (effects silent tops.new touch.new (D.shows desk.new))
         script.old.waiting 0 summary.refused) }
-    ensures stopped { OnErr result (Stopped (heard (state_of pool.old) (D.shows desk.old))
+    ensures stopped { OnErr result (Stopped pool_rules (heard (state_of pool.old) (D.shows desk.old))
         (effects silent tops.old touch.old (D.shows desk.old)) (effects silent tops.new touch.new (D.shows desk.new))
         script.old.waiting RunEnd.OutOfMemory) }
     ensures ratio { entry.new + 9216 * tops.old ≤ entry.old + 9216 * tops.new }
@@ -180,15 +185,14 @@ fn answered<D: Notices, F: Ledger, E: Ledger, T: Ledger>(
     requires { IsTrue (is_within_form command) }
     ensures summed { IfOk result (λ summary.
         IsSummaryOf summary (event_of (heard (state_of pool.old) (D.shows desk.old)) command ∷ [])) }
-    ensures took { IfOk result (λ summary. Took (heard (state_of pool.old) (D.shows desk.old)) (heard (state_of pool.new) (D.shows desk.new))
+    ensures took { IfOk result (λ summary. Took pool_rules (heard (state_of pool.old) (D.shows desk.old)) (heard (state_of pool.new) (D.shows desk.new))
         (effects silent tops.old touch.old (D.shows desk.old)) (effects silent tops.new touch.new (D.shows desk.new)) (command ∷ []) 0 summary.refused) }
-    ensures stopped { OnErr result (Stopped (heard (state_of pool.old) (D.shows desk.old))
-        (effects silent tops.old touch.old (D.shows desk.old)) (effects silent tops.new touch.new (D.shows desk.new)) (command ∷ []) RunEnd.OutOfMemory) }
+    ensures tried { OnErr result (WasTried (heard (state_of pool.old) (D.shows desk.old)) command
+        (beside tops.old touch.old (D.shows desk.old)) (beside tops.new touch.new (D.shows desk.new))) }
     ensures ratio { entry.new + 9216 * tops.old ≤ entry.old + 9216 * tops.new }
 {
-    let answered = pool.step(&command, desk, tops, entry, touch);
-    drop(command);
-    let reply = answered?;
+    let ran = run_command(pool, command, desk, tops, entry, touch);
+    let reply = ran?;
     let summary = summary_of_reply(alloc, &reply);
     drop(reply);
     summary

@@ -2,11 +2,17 @@
 use Rattle.std.specs.Prelude.{◌≡◌, ℕ, ◌+◌, ◌-◌, ◌^◌, ◌≤◌, ◌<◌, Bool, List, Option, Result, min, length, take, IsTrue, IsOk, IfOk, OnOk, OnErr}
 use Rattle.std.specs.Io.KnownBytes.{Appends, WriteAppends, ReadConsumes}
 
--- a source: the bytes still to come where it tells them, how many bytes its last read gave, how often it has failed,
--- and whether it never will again
+-- a count after so many more, up to the last value of 64 bits
+abbrev pub counted : ℕ → ℕ → ℕ
+counted before more = min (before + more) (2 ^ 64 - 1)
+
+-- a source: the bytes still to come where it tells them, how many bytes its last read gave, how many all reads gave, how often it
+-- was read, how often it has failed, and whether it never will again
 pub record Supply : Type 0 where
   pub left : Option (List ℕ)
   pub latest : ℕ
+  pub given : ℕ
+  pub reads : ℕ
   pub faults : ℕ
   pub sure : Bool
 
@@ -23,11 +29,14 @@ abbrev pub Rose : ℕ → ℕ → Type 0
 Rose before now = min (before + 1) (2 ^ 64 - 1) ≤ now
 
 -- a read put the next bytes at the front of the buffer, none only at the end of the input, and shows how many it gave;
--- or it failed and counted it; a sure source doesn't fail and stays sure
+-- or it failed and counted it, and gave nothing; each read is counted; a sure source doesn't fail and stays sure
 pub record Reads {E : Type 0} (old new : Supply) (result : Result ℕ E) (buf : List ℕ) : Type 0 where
   pub within : IfOk result (λ n. n ≤ length buf)
   pub bytes : ReadConsumes old.left new.left result buf
   pub latest : IfOk result (λ n. new.latest ≡ n)
+  pub given : IfOk result (λ n. new.given ≡ counted old.given n)
+  pub none_given : OnErr result (new.given ≡ old.given)
+  pub called : new.reads ≡ counted old.reads 1
   pub kept : OnOk result (new.faults ≡ old.faults)
   pub cause : OnErr result (Rose old.faults new.faults)
   pub never : IsTrue old.sure → IsOk result

@@ -3,11 +3,12 @@ use Rattle.std.specs.Prelude.{ℕ, ◌+◌, ◌-◌, ◌^◌, ◌==◌, Bool, tr
 use Rattle.std.specs.List.{list_any}
 use Rattle.pool_io.specs.Flow.{Supply, Intake}
 
--- a source in memory: the bytes left, what the last read gave, the most that a call gives, the numbers of the calls that
+-- a source in memory: the bytes left, what the last read gave, what all reads gave, the most that a call gives, the numbers of the calls that
 -- fail, and the counts
 pub record Reserve : Type 0 where
   pub left : List ℕ
   pub latest : ℕ
+  pub given : ℕ
   pub most : ℕ
   pub failing : List ℕ
   pub calls : ℕ
@@ -38,7 +39,7 @@ is_empty (n ∷ ns) = false
 
 -- a source in memory as a source: it tells its bytes, and is sure where no call is to fail
 abbrev pub supply_of : Reserve → Supply
-supply_of s = record { left = Some s.left; latest = s.latest; faults = s.faults; sure = is_empty s.failing }
+supply_of s = record { left = Some s.left; latest = s.latest; given = s.given; reads = s.calls; faults = s.faults; sure = is_empty s.failing }
 
 -- a sink in memory as a sink: it tells its bytes, and is sure of the room that is left where no call is to fail
 abbrev pub intake_of : Store → Intake

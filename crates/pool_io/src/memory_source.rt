@@ -13,6 +13,7 @@ pub struct MemorySource {
     text: Text,
     at: usize,
     latest: usize,
+    given: u64,
     most: usize,
     failing: Slots,
     calls: u64,
@@ -28,6 +29,7 @@ impl Model for MemorySource {
     ghost view = { λ s. record {
       left = drop s.at s.text;
       latest = s.latest;
+      given = s.given;
       most = s.most;
       failing = s.failing;
       calls = s.calls;
@@ -41,12 +43,13 @@ impl MemorySource {
     /// A source of these bytes, of which each call gives at most `most`.
     pub fn new(text: Text, most: usize, failing: Slots) -> MemorySource
         requires { 1 ≤ most }
-        ensures { result ≡ record { left = text; latest = 0; most = most; failing = failing; calls = 0; faults = 0 } }
+        ensures { result ≡ record { left = text; latest = 0; given = 0; most = most; failing = failing; calls = 0; faults = 0 } }
     {
         MemorySource {
             text,
             at: 0,
             latest: 0,
+            given: 0,
             most,
             failing,
             calls: 0,
@@ -90,6 +93,7 @@ impl Source for MemorySource {
         buf[..count].copy_from_slice(&rest[..count]);
         self.at += count;
         self.latest = count;
+        self.given = self.given.saturating_add(count as u64);
         Ok(count)
     }
 }

@@ -12,6 +12,8 @@ use std::marker::Model;
 pub struct StdSource<R: Read> {
     reader: R,
     latest: usize,
+    given: u64,
+    reads: u64,
     faults: u64,
 }
 
@@ -21,17 +23,19 @@ impl<R: Read> Model for StdSource<R> {
 
     ghost Value = { Supply };
 
-    ghost view = { λ s. record { left = R.remaining s.reader; latest = s.latest; faults = s.faults; sure = false } };
+    ghost view = { λ s. record { left = R.remaining s.reader; latest = s.latest; given = s.given; reads = s.reads; faults = s.faults; sure = false } };
 }
 
 impl<R: Read> StdSource<R> {
     /// A source that has not failed yet.
     pub fn new(reader: R) -> StdSource<R>
-        ensures { result ≡ record { left = R.remaining reader; latest = 0; faults = 0; sure = false } }
+        ensures { result ≡ record { left = R.remaining reader; latest = 0; given = 0; reads = 0; faults = 0; sure = false } }
     {
         StdSource {
             reader,
             latest: 0,
+            given: 0,
+            reads: 0,
             faults: 0,
         }
     }
@@ -44,9 +48,11 @@ impl<R: Read> Source for StdSource<R> {
         ensures reads { Reads self.old self.new result buf.new }
         ensures failed { OnErr result (self.new.faults ≡ next_count self.old.faults) }
     {
+        self.reads = self.reads.saturating_add(1);
         match self.reader.read(buf) {
             Ok(count) => {
                 self.latest = count;
+                self.given = self.given.saturating_add(count as u64);
                 Ok(count)
             }
             Err(_) => {

@@ -22,7 +22,7 @@ pub struct TiedWriter<'a, W: Write + Drop> {
     output: &'a TiedOutput<W>,
 }
 
-/// A reader that hands on what was written before it reads.
+/// A reader that hands on what was written before it reads, and fails where it can't.
 #[derive(Drop)]
 pub struct TiedReader<'a, R: Read, W: Write + Drop> {
     reader: R,
@@ -77,7 +77,7 @@ impl<W: Write + Drop> TiedOutput<W> {
         TiedWriter { output: self }
     }
 
-    /// A reader that hands on what was written before it reads.
+    /// A reader that hands on what was written before it reads, and fails where it can't.
     pub fn reader<R: Read>(&self, reader: R) -> TiedReader<'_, R, W> {
         TiedReader {
             reader,
@@ -117,9 +117,9 @@ impl<'a, W: Write + Drop> Write for TiedWriter<'a, W> {
 impl<'a, R: Read, W: Write + Drop> Read for TiedReader<'a, R, W> {
     ghost remaining = { λ r. R.remaining r.reader };
 
-    // A writer that fails is told of at the next write, or at the end.
+    // Where what was written can't be handed on, nothing more is read.
     fn read(&mut self, buf: &mut [u8]) -> io::Result<usize> {
-        let _ = self.output.hand_on();
+        self.output.hand_on()?;
         self.reader.read(buf)
     }
 }

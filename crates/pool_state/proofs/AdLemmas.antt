@@ -134,11 +134,6 @@ pub withdrawn : {T E : Type 0} (r : Result T E) (P : Type 0) (held : Bool) → h
 withdrawn (Ok x) P held is done none = done
 withdrawn (Err e) P held is done none = let clash : true ≡ false = sym is ∙ none in absurd (cc)
 
--- what is always so, where a call is Ok
-pub always_ok : {T E : Type 0} (r : Result T E) (P : Type 0) → P → OnOk r P
-always_ok (Ok x) P p = p
-always_ok (Err e) P p = tt
-
 -- the name that an ad has
 pub own_name : (ads : List Advert) (i : ℕ) (a : Advert) (name : List ℕ) → slice_get ads i ≡ Some a → option_map (λ x. x.name) (slice_get ads i) ≡ Some name → a.name ≡ name
 own_name ads i a name at is = let both : Some a.name ≡ Some name = sym (ap (option_map (λ (x : Advert). x.name)) at) ∙ is in cc

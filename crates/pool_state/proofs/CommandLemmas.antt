@@ -1,7 +1,7 @@
 -- The step of each command that changes the ads or the jobs. The definition of a step is long, so answers look through it here
 -- alone, where the state and the words are variables.
 use Rattle.std.proofs.Common.{arith, ◌≡◌, ◌≤◌, ◌+◌, ◌*◌, ℕ, List, length, refl}
-use Rattle.ad_parser.proofs.Outcomes.{ad_outcome}
+use Rattle.ad_parser.specs.Outcomes.{ad_outcome}
 use Rattle.pool_script.specs.declared.command.Command.TheVariants as command
 use Rattle.pool_state.specs.Claiming.{claim, offered_for_claim, release, undecided_for_claim}
 use Rattle.pool_state.specs.State.{State}

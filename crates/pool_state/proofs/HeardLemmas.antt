@@ -1,15 +1,15 @@
 -- Names that listen, and the rows of a desk that commands leave on it.
-use Rattle.std.proofs.Common.{◌≡◌, ◌≢◌, ◌↔◌, ℕ, Bool, true, false, not, ◌||◌, cond, List, [], ◌∷◌, ◌++◌, Option, None, Some, is_some, IsSome, IsTrue, IfOk, OnOk, Result, Ok, Err, bytes_eq, refl, true≢false, sym, ◌∙◌, ap, subst}
+use Rattle.std.proofs.Common.{◌≡◌, ◌≢◌, ◌↔◌, ℕ, Bool, true, false, not, ◌||◌, cond, List, [], ◌∷◌, ◌++◌, filter, Option, None, Some, is_some, IsSome, IsTrue, IfOk, OnOk, Result, Ok, Err, bytes_eq, refl, true≢false, sym, ◌∙◌, ap, subst}
 use Rattle.std.specs.List.{AllZip}
-use Rattle.notice_desk.specs.Desk.{Row, failures_under, names_of, without}
+use Rattle.notice_desk.specs.Desk.{Row, failures_under, leaves_with, names_of, without}
 use Rattle.pool_script.specs.declared.command.Command.{Command}
 use Rattle.pool_script.specs.declared.command.Command.TheVariants as command
 use Rattle.pool_replies.specs.declared.refusal.Refusal.TheVariants as why
 use Rattle.pool_replies.specs.declared.reply.Reply.{Reply}
 use Rattle.pool_replies.specs.declared.reply.Reply.TheVariants as reply
-use Rattle.pool_state.specs.Heard.{Heard, heard, is_unlisten, kept, kept_by, listens, others, step_heard, step_pool, unlisten}
+use Rattle.pool_state.specs.Heard.{Heard, heard, is_unlisten, kept, kept_by, listens, off_by, others, step_heard, step_pool, unlisten}
 use Rattle.pool_state.specs.Notices.{granted, notices, stale, told}
-use Rattle.pool_state.specs.Posting.{Post, RowAfter, posts_of_all}
+use Rattle.pool_state.specs.Posting.{ArePosted, DeskState, Post, RowAfter, desk_of, posts_of_all}
 use Rattle.pool_state.specs.declared.posting.Notice.{Notice}
 use Rattle.pool_text.specs.declared.memory.OutOfMemory.{OutOfMemory}
 use Rattle.pool_state.proofs.PostingLemmas.{rows_none}
@@ -88,6 +88,12 @@ rows-unlisten s name c old new (Ok r) is taken =
     rw (notices-unlisten s name c is, is, taken) (rows_none (without name old))
 rows-unlisten s name c old new (Err fault) is taken = tt
 
+pub told-unlisten : (s : State) (name : List ℕ) (c : Command) (old new : DeskState) (result : Result Reply OutOfMemory) → c ≡ command.Unlisten name → OnOk result (new.rows ≡ without name old.rows) → OnOk result (new.left ≡ old.left ++ filter (leaves_with name) old.rows)
+    → OnOk result (ArePosted (posts_of_all (notices s c)) (off_by c old) new)
+unfolding off_by
+told-unlisten s name c old new (Ok r) is rows left = rw (notices-unlisten s name c is, is) (λ i. desk_of (rows i) (left i))
+told-unlisten s name c old new (Err fault) is rows left = tt
+
 -- ---- the notices of a step that was answered so
 
 pub notices-by : (s t : State) (c : Command) (r : Reply) (gave lost : List Notice) → ◌≡◌ {A = State × Reply} (step s c) (t, r) → gave ≡ granted s.ads s.jobs c → lost ≡ stale s.jobs c → told r gave lost ≡ notices s c
@@ -146,6 +152,31 @@ kept-other command.Classes rows other = refl
 kept-other (command.Unlisten name) rows other = absurd (cc)
 kept-other (command.Bad number) rows other = refl
 
+off-other : (c : Command) (desk : DeskState) → is_unlisten c ≡ false → off_by c desk ≡ desk
+unfolding off_by
+off-other (command.Clock n) desk other = refl
+off-other (command.Advertise name lifetime block) desk other = refl
+off-other (command.Withdraw name) desk other = refl
+off-other (command.Show name) desk other = refl
+off-other command.List desk other = refl
+off-other (command.Eval text) desk other = refl
+off-other (command.EvalIn name text) desk other = refl
+off-other (command.Query block) desk other = refl
+off-other (command.Submit job user block) desk other = refl
+off-other (command.Remove job) desk other = refl
+off-other (command.Priority user n) desk other = refl
+off-other (command.Gang block) desk other = refl
+off-other command.Negotiate desk other = refl
+off-other (command.Claim job) desk other = refl
+off-other (command.Release job) desk other = refl
+off-other command.Jobs desk other = refl
+off-other (command.Job job) desk other = refl
+off-other command.Users desk other = refl
+off-other (command.Why job) desk other = refl
+off-other command.Classes desk other = refl
+off-other (command.Unlisten name) desk other = absurd (cc)
+off-other (command.Bad number) desk other = refl
+
 -- a command that takes no name off
 pub not-unlisten : (c : Command) → ((name : List ℕ) → c ≢ command.Unlisten name) → is_unlisten c ≡ false
 not-unlisten (command.Clock n) other = refl
@@ -185,6 +216,10 @@ answered-heard s t c old new posts (Err fault) other is posted = tt
 pub posted-heard : (c : Command) (old new : List Row) (posts : List Post) (result : Result Reply OutOfMemory) → is_unlisten c ≡ false → OnOk result (AllZip (RowAfter posts) old new) → OnOk result (AllZip (RowAfter posts) (kept_by c old) new)
 posted-heard c old new posts (Ok r) other posted = subst (λ (rows : List Row). AllZip (RowAfter posts) rows new) (sym (kept-other c old other)) posted
 posted-heard c old new posts (Err fault) other posted = tt
+
+pub told-heard : (c : Command) (old new : DeskState) (posts : List Post) (result : Result Reply OutOfMemory) → is_unlisten c ≡ false → OnOk result (ArePosted posts old new) → OnOk result (ArePosted posts (off_by c old) new)
+told-heard c old new posts (Ok r) other told = subst (λ (desk : DeskState). ArePosted posts desk new) (sym (off-other c old other)) told
+told-heard c old new posts (Err fault) other told = tt
 
 -- ---- rows that commands leave
 

@@ -1,5 +1,5 @@
 -- Posts one after the other.
-use Rattle.std.proofs.Common.{◌≡◌, ◌≢◌, ◌≤◌, ◌<◌, ℕ, suc, zero, ◌+◌, Bool, true, false, cond, List, [], ◌∷◌, ◌++◌, length, map, take, Option, None, Some, option_map, bytes_eq, refl, sym, ◌∙◌, ap, subst, inl, inr, arith, add-one, append_assoc, true≢false, slice_get}
+use Rattle.std.proofs.Common.{◌≡◌, ◌≢◌, ◌↔◌, ◌≤◌, ◌<◌, ℕ, suc, zero, ◌+◌, Bool, true, false, cond, List, [], ◌∷◌, ◌++◌, filter, length, map, take, Option, None, Some, IsNone, OnOk, Result, Ok, Err, option_map, bytes_eq, refl, sym, ◌∙◌, ap, subst, inl, inr, arith, add-one, append_assoc, true≢false, slice_get}
 use Rattle.std.specs.List.{AllZip, flat_map}
 use Rattle.std.proofs.lemmas.Bool.{cases_Bool, false_from_ne_true}
 use Rattle.std.proofs.lemmas.Grind.{flat_map-append}
@@ -9,10 +9,10 @@ use Rattle.std.proofs.lemmas.List.Sums.{fold-append}
 use Rattle.std.proofs.lemmas.Slice.Eq.{bytes_eq-Decides}
 use Rattle.pool_io.specs.Flow.{Rose}
 use Rattle.pool_io.specs.Memory.{next_count}
-use Rattle.notice_desk.specs.Desk.{Held, HeldPosts, Posts, Row, failures_after, retired, unmarked}
+use Rattle.notice_desk.specs.Desk.{Held, HeldPosts, Posts, Row, box_under, failures_after, is_marked, retired, unmarked}
 use Rattle.notice_desk.specs.declared.notices.PostEnd.{PostEnd}
 use Rattle.notice_desk.specs.declared.notices.PostEnd.TheVariants.{NoBox, Delivered, Failed}
-use Rattle.pool_state.specs.Posting.{HeldAfter, Kept, Post, RowAfter, calls_after, lines_to, post_to, with_feeds}
+use Rattle.pool_state.specs.Posting.{ArePosted, DeskState, HeldAfter, IsPosted, Kept, Post, RowAfter, calls_after, desk_of, lines_to, post_to, swept, with_feeds}
 
 -- ---- lists of rows
 
@@ -203,10 +203,10 @@ module _ (name line : List ℕ) where
       }))
 
   -- a post that didn't fail, and one that did, with the marked boxes dropped behind it
-  pub rows_taken : (end : PostEnd) → end ≢ Failed → (xs ys : List Row) → AllZip (Posts name line end) xs ys → AllZip (RowAfter one) xs ys
+  rows_taken : (end : PostEnd) → end ≢ Failed → (xs ys : List Row) → AllZip (Posts name line end) xs ys → AllZip (RowAfter one) xs ys
   rows_taken end fine xs ys posts = zip_more (Posts name line end) (RowAfter one) (taken_row end fine) xs ys posts
 
-  pub rows_failed : (xs ys : List Row) → AllZip (Posts name line Failed) xs ys → AllZip (RowAfter one) xs (map retired ys)
+  rows_failed : (xs ys : List Row) → AllZip (Posts name line Failed) xs ys → AllZip (RowAfter one) xs (map retired ys)
   rows_failed xs ys posts = zip_map (Posts name line Failed) (RowAfter one) retired failed_row xs ys posts
 
 -- ---- posts of one list after the other
@@ -219,14 +219,69 @@ take-next {A = A} xs i x at = ap (λ n. take n xs) (add-one i) ∙ by xs i at
     by (y ∷ ys) zero at = let same : y ≡ x = cc in ap (λ z. z ∷ []) same
     by (y ∷ ys) (suc j) at = ap (λ l. y ∷ l) (by ys j at)
 
+-- ---- posts with the boxes that leave
+
+-- the rows behind one post, and behind all
+row-posted : (post : Post) (old new : DeskState) → IsPosted post old new → AllZip (RowAfter (post ∷ [])) old.rows new.rows
+row-posted post old new posted = by posted.end refl
+  where
+    to : (end : PostEnd) → posted.end ≡ end → AllZip (RowAfter (post ∷ [])) old.rows (swept end (desk_of posted.rows old.left)).rows → AllZip (RowAfter (post ∷ [])) old.rows new.rows
+    to end is rows = subst (λ (d : DeskState). AllZip (RowAfter (post ∷ [])) old.rows d.rows) (sym (posted.behind ∙ ap (λ e. swept e (desk_of posted.rows old.left)) is)) rows
+
+    took : (end : PostEnd) → posted.end ≡ end → AllZip (Posts post.name post.line end) old.rows posted.rows
+    took end is = subst (λ (e : PostEnd). AllZip (Posts post.name post.line e) old.rows posted.rows) is posted.took
+
+    by : (end : PostEnd) → posted.end ≡ end → AllZip (RowAfter (post ∷ [])) old.rows new.rows
+    by Failed is = to Failed is (rows_failed post.name post.line old.rows posted.rows (took Failed is))
+    by Delivered is = to Delivered is (rows_taken post.name post.line Delivered (λ e. absurd (cc)) old.rows posted.rows (took Delivered is))
+    by NoBox is = to NoBox is (rows_taken post.name post.line NoBox (λ e. absurd (cc)) old.rows posted.rows (took NoBox is))
+
+pub rows-posted : (posts : List Post) (old new : DeskState) → ArePosted posts old new → AllZip (RowAfter posts) old.rows new.rows
+rows-posted [] old new same = subst (λ (d : DeskState). AllZip (RowAfter []) old.rows d.rows) (sym same) (rows_none old.rows)
+rows-posted (post ∷ posts) old new all =
+    rows_both (post ∷ []) posts old.rows all.0.rows new.rows (row-posted post old all.0 all.1) (rows-posted posts all.0 new all.2)
+
+-- some posts and then more
+posted-both : (a b : List Post) (x y z : DeskState) → ArePosted a x y → ArePosted b y z → ArePosted (a ++ b) x z
+posted-both [] b x y z first second = subst (λ (d : DeskState). ArePosted b d z) first second
+posted-both (post ∷ a) b x y z first second = (first.0, first.1, posted-both a b first.0 y z first.2 second)
+
+-- a line whose post failed, and one whose post didn't
+pub line-failed : (name line : List ℕ) (end : PostEnd) (old old_left rows left new new_left : List Row) → end ≡ Failed → ((end ≡ NoBox) ↔ IsNone (box_under name old)) → AllZip (Posts name line end) old rows → left ≡ old_left → new ≡ map retired rows → new_left ≡ left ++ filter is_marked rows → ArePosted (post_to line name ∷ []) (desk_of old old_left) (desk_of new new_left)
+line-failed name line end old old_left rows left new new_left failed none took same swept_rows swept_left =
+    let left_is : new_left ≡ old_left ++ filter is_marked rows = swept_left ∙ ap (λ l. l ++ filter is_marked rows) same in
+    let behind : desk_of new new_left ≡ swept end (desk_of rows old_left) = (λ i. desk_of (swept_rows i) (left_is i)) ∙ ap (λ e. swept e (desk_of rows old_left)) (sym failed) in
+    (desk_of new new_left, record { end = end; rows = rows; no_box = none; took = took; behind = behind }, refl)
+
+pub line-taken : (name line : List ℕ) (end : PostEnd) (old old_left rows left : List Row) → end ≢ Failed → ((end ≡ NoBox) ↔ IsNone (box_under name old)) → AllZip (Posts name line end) old rows → left ≡ old_left → ArePosted (post_to line name ∷ []) (desk_of old old_left) (desk_of rows left)
+line-taken name line end old old_left rows left fine none took same =
+    let behind : desk_of rows left ≡ swept end (desk_of rows old_left) = ap (desk_of rows) same ∙ sym (stays end fine (desk_of rows old_left)) in
+    (desk_of rows left, record { end = end; rows = rows; no_box = none; took = took; behind = behind }, refl)
+  where
+    stays : (e : PostEnd) → e ≢ Failed → (desk : DeskState) → swept e desk ≡ desk
+    stays NoBox other desk = refl
+    stays Delivered other desk = refl
+    stays Failed other desk = absurd (other refl)
+
+-- on a desk without a row a post changes nothing
+pub posted-empty : (posts : List Post) (rows left : List Row) → length rows ≡ 0 → ArePosted posts (desk_of rows left) (desk_of rows left)
+posted-empty posts (row ∷ rows) left empty = absurd (omega (arith, empty))
+posted-empty [] [] left empty = refl
+posted-empty (post ∷ posts) [] left empty =
+    (desk_of [] left, record { end = NoBox; rows = []; no_box = (λ _. refl, λ _. refl); took = tt; behind = refl }, posted-empty posts [] left empty)
+
+pub on_ok-any : {A E : Type 0} {P : Type 0} (result : Result A E) → P → OnOk result P
+on_ok-any (Ok x) holds = holds
+on_ok-any (Err e) holds = tt
+
 -- an item more
-pub rows_next : {A : Type 0} (f : A → List Post) (xs : List A) (i : ℕ) (x : A) (a b c : List Row) → slice_get xs i ≡ Some x → AllZip (RowAfter (flat_map f (take i xs))) a b → AllZip (RowAfter (f x)) b c → AllZip (RowAfter (flat_map f (take (i + 1) xs))) a c
-rows_next f xs i x a b c at first second =
+pub posted_next : {A : Type 0} (f : A → List Post) (xs : List A) (i : ℕ) (x : A) (a b c : DeskState) → slice_get xs i ≡ Some x → ArePosted (flat_map f (take i xs)) a b → ArePosted (f x) b c → ArePosted (flat_map f (take (i + 1) xs)) a c
+posted_next f xs i x a b c at first second =
     let posts : flat_map f (take (i + 1) xs) ≡ flat_map f (take i xs) ++ f x = ap (flat_map f) (take-next xs i x at) ∙ flat_map-append f (take i xs) (x ∷ []) ∙ ap (λ l. flat_map f (take i xs) ++ l) (append-nil (f x)) in
-    subst (λ (l : List Post). AllZip (RowAfter l) a c) (sym posts) (rows_both (flat_map f (take i xs)) (f x) a b c first second)
+    subst (λ (l : List Post). ArePosted l a c) (sym posts) (posted-both (flat_map f (take i xs)) (f x) a b c first second)
 
 -- a name more
-pub rows_name : (f : List ℕ → Post) (names : List (List ℕ)) (i : ℕ) (name : List ℕ) (a b c : List Row) → slice_get names i ≡ Some name → AllZip (RowAfter (map f (take i names))) a b → AllZip (RowAfter (f name ∷ [])) b c → AllZip (RowAfter (map f (take (i + 1) names))) a c
-rows_name f names i name a b c at first second =
+pub posted_name : (f : List ℕ → Post) (names : List (List ℕ)) (i : ℕ) (name : List ℕ) (a b c : DeskState) → slice_get names i ≡ Some name → ArePosted (map f (take i names)) a b → ArePosted (f name ∷ []) b c → ArePosted (map f (take (i + 1) names)) a c
+posted_name f names i name a b c at first second =
     let posts : map f (take (i + 1) names) ≡ map f (take i names) ++ f name ∷ [] = ap (map f) (take-next names i name at) ∙ map-append f (take i names) (name ∷ []) in
-    subst (λ (l : List Post). AllZip (RowAfter l) a c) (sym posts) (rows_both (map f (take i names)) (f name ∷ []) a b c first second)
+    subst (λ (l : List Post). ArePosted l a c) (sym posts) (posted-both (map f (take i names)) (f name ∷ []) a b c first second)

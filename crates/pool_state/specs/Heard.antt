@@ -1,12 +1,13 @@
 -- A pool that names on a desk listen to.
-use Rattle.std.specs.Prelude.{ℕ, Bool, true, false, not, List, [], ◌∷◌, filter, bytes_eq, if◌then◌else◌}
+use Rattle.std.specs.Prelude.{ℕ, Bool, true, false, not, List, [], ◌∷◌, ◌++◌, filter, bytes_eq, if◌then◌else◌}
 use Rattle.std.specs.List.{list_any}
-use Rattle.notice_desk.specs.Desk.{Row, names_of, without}
+use Rattle.notice_desk.specs.Desk.{Row, leaves_with, names_of, without}
 use Rattle.pool_script.specs.declared.command.Command.{Command}
 use Rattle.pool_script.specs.declared.command.Command.TheVariants as command
 use Rattle.pool_replies.specs.declared.refusal.Refusal.TheVariants as why
 use Rattle.pool_replies.specs.declared.reply.Reply.{Reply}
 use Rattle.pool_replies.specs.declared.reply.Reply.TheVariants as reply
+use Rattle.pool_state.specs.Posting.{DeskState, desk_of}
 use Rattle.pool_state.specs.State.{State, opening}
 use Rattle.pool_state.specs.Step.{step}
 
@@ -60,3 +61,8 @@ kept_by other rows = rows
 abbrev pub kept : List Command → List Row → List Row
 kept [] rows = rows
 kept (command ∷ commands) rows = kept commands (kept_by command rows)
+
+-- the desk behind the name that a command takes off it, whose box leaves as it is
+unfoldable pub off_by : Command → DeskState → DeskState
+off_by (command.Unlisten name) desk = desk_of (without name desk.rows) (desk.left ++ filter (leaves_with name) desk.rows)
+off_by other desk = desk

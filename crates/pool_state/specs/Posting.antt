@@ -1,9 +1,11 @@
 -- What notices are, and what posting them does to the rows of a desk.
-use Rattle.std.specs.Prelude.{◌≡◌, ◌⊎◌, ◌≤◌, ◌<◌, ℕ, List, [], ◌∷◌, ◌++◌, filter, fold, length, map, Option, None, Some, option_map, bytes_eq, true}
-use Rattle.std.specs.List.{flat_map}
+use Rattle.std.specs.Prelude.{◌≡◌, ◌⊎◌, ◌↔◌, ◌≤◌, ◌<◌, ℕ, List, [], ◌∷◌, ◌++◌, filter, fold, length, map, Option, None, Some, IsNone, option_map, bytes_eq, true}
+use Rattle.std.specs.List.{AllZip, flat_map}
 use Rattle.pool_io.specs.Flow.{Rose}
 use Rattle.pool_io.specs.Memory.{next_count}
-use Rattle.notice_desk.specs.Desk.{Held, Row}
+use Rattle.notice_desk.specs.Desk.{Held, Posts, Row, box_under, is_marked, retired}
+use Rattle.notice_desk.specs.declared.notices.PostEnd.{PostEnd}
+use Rattle.notice_desk.specs.declared.notices.PostEnd.TheVariants.{NoBox, Failed}
 use Rattle.pool_state.specs.declared.posting.Notice.{Notice}
 
 -- ---- posts
@@ -62,3 +64,32 @@ HeldAfter lines (Some old) before (Some new) after = Kept lines old new × (afte
 pub record RowAfter (posts : List Post) (old new : Row) : Type 0 where
   pub name : new.name ≡ old.name
   pub held : HeldAfter (lines_to old.name posts) old.held old.failures new.held new.failures
+
+-- ---- the boxes that leave
+
+-- a desk: its rows, and those whose box left it, each as it was then
+pub record DeskState : Type 0 where
+  pub rows : List Row
+  pub left : List Row
+
+-- a desk of these rows, and of these that left
+abbrev pub desk_of : List Row → List Row → DeskState
+desk_of rows left = record { rows = rows; left = left }
+
+-- the desk behind a post that ended so: where it failed, each marked box leaves, and else none does
+abbrev pub swept : PostEnd → DeskState → DeskState
+swept Failed desk = desk_of (map retired desk.rows) (desk.left ++ filter is_marked desk.rows)
+swept end desk = desk
+
+-- a post: the one box under the name took the line or failed at it, all else stayed, and where it failed the marked boxes left
+pub record IsPosted (post : Post) (old new : DeskState) : Type 0 where
+  pub end : PostEnd
+  pub rows : List Row
+  pub no_box : (end ≡ NoBox) ↔ IsNone (box_under post.name old.rows)
+  pub took : AllZip (Posts post.name post.line end) old.rows rows
+  pub behind : new ≡ swept end (desk_of rows old.left)
+
+-- posts one after the other
+abbrev pub ArePosted : List Post → DeskState → DeskState → Type 0
+ArePosted [] old new = new ≡ old
+ArePosted (post ∷ posts) old new = (between : DeskState) × IsPosted post old between × ArePosted posts between new

@@ -6,7 +6,7 @@ use Rattle.ad_tree.specs.Frames.{Frame}
 use Rattle.ad_tree.specs.Inline.{Inline, ad_of, phrase_of, phrase_tree}
 use Rattle.ad_tree.specs.Tree.{Tree}
 use Rattle.ad_parser.specs.declared.fault.ParseFault.{ParseFault}
-use Rattle.ad_parser.proofs.Outcomes.{ad_outcome, expr_outcome}
+use Rattle.ad_parser.specs.Outcomes.{ad_outcome, expr_outcome}
 use Rattle.pool_text.specs.declared.language.AdPlace.{AdPlace}
 use Rattle.eval_scope.specs.World.{PlainWorld}
 use Rattle.ad_eval.specs.Value.{evaluation}

@@ -1,7 +1,7 @@
 // The commands on the ads of the pool.
 ghost use Rattle.std.specs.Prelude.{◌≡◌, ◌+◌, ◌<◌, ◌≤◌, ℕ, List, length, map, option_map, slice_get, Some, Contains, IfOk, IfSome, IsTrue};
 ghost use Rattle.std.specs.Option.{option_and_then};
-ghost use Rattle.ad_parser.proofs.Outcomes.{ad_outcome};
+ghost use Rattle.ad_parser.specs.Outcomes.{ad_outcome};
 ghost use Rattle.ad_store.specs.Store.{stock_of};
 ghost use Rattle.claim_table.specs.Table.{jobs_of};
 ghost use Rattle.claim_table.specs.Priorities.{Setting};

@@ -1,6 +1,6 @@
 // The values of expressions, alone or beside an ad.
 ghost use Rattle.std.specs.Prelude.{◌≡◌, ◌+◌, ◌*◌, ◌≤◌, [], IfOk, IsTrue};
-ghost use Rattle.ad_parser.proofs.Outcomes.{expr_outcome};
+ghost use Rattle.ad_parser.specs.Outcomes.{expr_outcome};
 ghost use Rattle.ad_store.specs.Store.{stock_of};
 ghost use Rattle.ad_tree.specs.Ad.{ad_frames};
 ghost use Rattle.ad_tree.specs.Small.{IsSmall};

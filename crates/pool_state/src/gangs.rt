@@ -1,6 +1,6 @@
 // Gangs: the resources that the ports of a request are given.
 ghost use Rattle.std.specs.Prelude.{◌≡◌, ◌+◌, ◌*◌, ◌≤◌, IfOk, IfSome, IsTrue, Some};
-ghost use Rattle.ad_parser.proofs.Outcomes.{ad_outcome};
+ghost use Rattle.ad_parser.specs.Outcomes.{ad_outcome};
 ghost use Rattle.ad_store.specs.Store.{stock_of};
 ghost use Rattle.ad_tree.specs.Ad.{ad_frames};
 ghost use Rattle.ad_tree.specs.Requests.{ArePorts};

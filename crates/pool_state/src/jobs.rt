@@ -1,6 +1,6 @@
 // The commands on the jobs of the pool and on the priorities of their users.
 ghost use Rattle.std.specs.Prelude.{◌≡◌, ◌≤◌, ◌^◌, ℕ, List, length, is_none, IfOk, IfSome, IsTrue};
-ghost use Rattle.ad_parser.proofs.Outcomes.{ad_outcome};
+ghost use Rattle.ad_parser.specs.Outcomes.{ad_outcome};
 ghost use Rattle.ad_tree.specs.Ad.{ad_frames};
 ghost use Rattle.ad_tree.specs.Requests.{ArePorts};
 ghost use Rattle.claim_table.specs.Priorities.{Setting};

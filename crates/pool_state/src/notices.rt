@@ -3,7 +3,7 @@ ghost use Rattle.std.specs.Prelude.{◌≡◌, ◌++◌, ◌∷◌, bytes_eq, co
 ghost use Rattle.std.specs.List.{AllZip};
 ghost use Rattle.pool_replies.specs.Cycles.{with_blanks};
 ghost use Rattle.pool_state.specs.Notices as rules;
-ghost use Rattle.pool_state.specs.Posting.{RowAfter, posts_of_all};
+ghost use Rattle.pool_state.specs.Posting.{ArePosted, RowAfter, desk_of, posts_of_all};
 ghost use Rattle.pool_state.specs.Queue.{is_listed};
 
 use crate::posting::{Notice, NoticeList, post_all};
@@ -109,7 +109,10 @@ pub(crate) fn tell<D: Notices>(
     ensures same { IfOk result (λ told. told ≡ reply) }
     ensures posted { OnOk result (AllZip (RowAfter (posts_of_all (rules.told reply granted stale)))
         (D.shows desk.old) (D.shows desk.new)) }
+    ensures told { OnOk result (ArePosted (posts_of_all (rules.told reply granted stale))
+        (desk_of (D.shows desk.old) (D.left desk.old)) (desk_of (D.shows desk.new) (D.left desk.new))) }
     ensures none { OnErr result (D.shows desk.new ≡ D.shows desk.old) }
+    ensures none_left { OnErr result (D.left desk.new ≡ D.left desk.old) }
 {
     match told(alloc, &reply, granted, stale) {
         Ok(notices) => {

@@ -1,10 +1,10 @@
 // The pool and its steps.
-ghost use Rattle.std.specs.Prelude.{◌≡◌, ◌+◌, ◌*◌, ◌≤◌, true, false, IfOk, IsErr, IsTrue, OnErr, OnOk};
+ghost use Rattle.std.specs.Prelude.{◌≡◌, ◌+◌, ◌*◌, ◌++◌, ◌≤◌, filter, true, false, IfOk, IsErr, IsTrue, OnErr, OnOk};
 ghost use Rattle.std.specs.List.{AllZip};
 ghost use Rattle.ad_store.specs.Store.{stock_of};
 ghost use Rattle.bilateral_match.specs.Rows.{rows_of};
 ghost use Rattle.literal_index.specs.Shown.{IsIndex};
-ghost use Rattle.notice_desk.specs.Desk.{without};
+ghost use Rattle.notice_desk.specs.Desk.{leaves_with, without};
 ghost use Rattle.pool_script.specs.Form.{is_within_form};
 ghost use Rattle.pool_replies.specs.Refusals.{is_fault_of_text};
 ghost use Rattle.pool_replies.specs.Replies.{is_printable};
@@ -13,9 +13,9 @@ ghost use Rattle.pool_replies.specs.declared.reply.Reply.TheVariants as replies;
 ghost use Rattle.pool_state.specs.Apart.{AreGivenApart};
 ghost use Rattle.pool_state.specs.Changes.{changes_nothing, is_search, keeps_ads};
 ghost use Rattle.pool_state.specs.Heard as rules;
-ghost use Rattle.pool_state.specs.Heard.{heard, kept_by, step_heard};
+ghost use Rattle.pool_state.specs.Heard.{heard, kept_by, off_by, step_heard};
 ghost use Rattle.pool_state.specs.Notices.{notices};
-ghost use Rattle.pool_state.specs.Posting.{RowAfter, posts_of_all};
+ghost use Rattle.pool_state.specs.Posting.{ArePosted, RowAfter, desk_of, posts_of_all};
 ghost use Rattle.pool_state.specs.State.{State, opening};
 ghost use Rattle.pool_state.specs.Step as steps;
 
@@ -70,8 +70,10 @@ impl Pool {
         }
     }
 
-    /// Runs a command and posts its notices to a desk, whose names listen; `unlisten` takes one of them off. A box that fails is
-    /// dropped before the next post, and changes neither the reply nor the state. Where memory is wanting nothing is posted.
+    /// Runs a command and posts its notices to a desk, whose names listen; `unlisten` takes one of them off, with its box as it is. A
+    /// box that fails leaves the desk before the next post, with all others that are marked, and changes neither the reply nor the
+    /// state; no box leaves otherwise. Where memory is wanting nothing is posted, and the pool is spent: a further step answers
+    /// `OutOfMemory` and changes nothing, neither the pool nor the desk nor a counter.
     ///
     /// It counts in `tops` the whole evaluations, one at most for `eval` and `evalin`, for `why` one at most for each ad and
     /// conjunct of either side, and for any other command five at most for each dock that it meets and that literal attributes
@@ -92,13 +94,17 @@ impl Pool {
         ensures printable { IfOk result (λ reply. IsTrue (is_printable reply)) }
         ensures posted { OnOk result (AllZip (RowAfter (posts_of_all (notices (state_of self.old) command.now)))
             (kept_by command.now (D.shows desk.old)) (D.shows desk.new)) }
+        ensures told { OnOk result (ArePosted (posts_of_all (notices (state_of self.old) command.now))
+            (off_by command.now (desk_of (D.shows desk.old) (D.left desk.old))) (desk_of (D.shows desk.new) (D.left desk.new))) }
         ensures unposted { OnErr result (D.shows desk.new ≡ D.shows desk.old) }
+        ensures none_left { OnErr result (D.left desk.new ≡ D.left desk.old) }
         ensures fresh { OnOk result (is_spent self.new ≡ false) }
         ensures memory { OnErr result (is_spent self.new ≡ true) }
         ensures cost { tops.new ≤ tops.old + steps.allowance (state_of self.old) command.now }
         ensures ratio { entry.new + 9216 * tops.old ≤ entry.old + 9216 * tops.new }
         ensures looks { touch.new ≤ touch.old + steps.looks (state_of self.old) command.now }
-        ensures spent { is_spent self.old ≡ true → IsErr result × (self.new ≡ self.old) }
+        ensures spent { is_spent self.old ≡ true → IsErr result × (self.new ≡ self.old) × (desk.new ≡ desk.old)
+            × (tops.new ≡ tops.old) × (entry.new ≡ entry.old) × (touch.new ≡ touch.old) }
     {
         if self.spent {
             return Err(OutOfMemory);
@@ -122,7 +128,10 @@ impl Pool {
         ensures printable { IfOk result (λ reply. IsTrue (is_printable reply)) }
         ensures posted { OnOk result (AllZip (RowAfter (posts_of_all (notices (state_of self.old) command.now)))
             (kept_by command.now (D.shows desk.old)) (D.shows desk.new)) }
+        ensures told { OnOk result (ArePosted (posts_of_all (notices (state_of self.old) command.now))
+            (off_by command.now (desk_of (D.shows desk.old) (D.left desk.old))) (desk_of (D.shows desk.new) (D.left desk.new))) }
         ensures unposted { OnErr result (D.shows desk.new ≡ D.shows desk.old) }
+        ensures none_left { OnErr result (D.left desk.new ≡ D.left desk.old) }
         ensures cost { tops.new ≤ tops.old + steps.allowance (state_of self.old) command.now }
         ensures ratio { entry.new + 9216 * tops.old ≤ entry.old + 9216 * tops.new }
         ensures looks { touch.new ≤ touch.old + steps.looks (state_of self.old) command.now }
@@ -147,7 +156,10 @@ impl Pool {
         ensures printable { IfOk result (λ reply. IsTrue (is_printable reply)) }
         ensures posted { OnOk result (AllZip (RowAfter (posts_of_all (notices (state_of self.old) command.now)))
             (D.shows desk.old) (D.shows desk.new)) }
+        ensures told { OnOk result (ArePosted (posts_of_all (notices (state_of self.old) command.now))
+            (desk_of (D.shows desk.old) (D.left desk.old)) (desk_of (D.shows desk.new) (D.left desk.new))) }
         ensures unposted { OnErr result (D.shows desk.new ≡ D.shows desk.old) }
+        ensures none_left { OnErr result (D.left desk.new ≡ D.left desk.old) }
         ensures cost { tops.new ≤ tops.old + steps.allowance (state_of self.old) command.now }
         ensures ratio { entry.new + 9216 * tops.old ≤ entry.old + 9216 * tops.new }
         ensures looks { touch.new ≤ touch.old + steps.looks (state_of self.old) command.now }
@@ -364,14 +376,16 @@ impl Pool {
     }
 }
 
-/// `unlisten`: the name is taken off the desk, and its box is dropped.
+/// `unlisten`: the name is taken off the desk, with its box as it is.
 #[tactic(auto, unfolding(pool_replies::specs::Replies::is_printable, pool_replies::specs::Refusals::is_printable_refusal))]
 fn unlisten<D: Notices>(desk: &mut D, name: &Text) -> Result<Reply, OutOfMemory>
     ensures step { IfOk result (λ reply. (pool : State) → rules.unlisten (heard pool (D.shows desk.old)) name.now
         ≡ (heard pool (D.shows desk.new), reply)) }
     ensures printable { IfOk result (λ reply. IsTrue (is_printable reply)) }
     ensures kept { OnOk result (D.shows desk.new ≡ without name.now (D.shows desk.old)) }
+    ensures left { OnOk result (D.left desk.new ≡ D.left desk.old ++ filter (leaves_with name.now) (D.shows desk.old)) }
     ensures unposted { OnErr result (D.shows desk.new ≡ D.shows desk.old) }
+    ensures none_left { OnErr result (D.left desk.new ≡ D.left desk.old) }
 {
     let named = name.copy()?;
     if desk.close(name.bytes()) {

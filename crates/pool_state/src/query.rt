@@ -1,6 +1,6 @@
 // Queries: the ads whose dock with a request is true.
 ghost use Rattle.std.specs.Prelude.{◌≡◌, ◌+◌, ◌*◌, ◌≤◌, ◌<◌, List, [], length, map, All, Contains, IfOk, IsTrue};
-ghost use Rattle.ad_parser.proofs.Outcomes.{ad_outcome};
+ghost use Rattle.ad_parser.specs.Outcomes.{ad_outcome};
 ghost use Rattle.ad_store.specs.Store.{stock_of};
 ghost use Rattle.ad_tree.specs.Ad.{ad_frames};
 ghost use Rattle.ad_tree.specs.Small.{IsSmall};

@@ -4,7 +4,11 @@
 #[cfg(test)]
 mod crowds;
 #[cfg(test)]
+mod faults;
+#[cfg(test)]
 mod mail;
+#[cfg(test)]
+mod memory;
 #[cfg(test)]
 mod runs;
 #[cfg(test)]

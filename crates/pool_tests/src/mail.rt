@@ -17,13 +17,13 @@ const REPLIES: &[u8] =
 const NOTICES: &[u8] =
     b"matched j m\nclaimed j m\nfreed j m\nmatched j m\nfreed j m\nmatched k m\nfreed k m\n";
 
-// What a script writes, what the boxes of `m` and of `u` show behind it, and how many notices to `m` failed.
+/// What a script writes, what the boxes of `m` and of `u` show behind it, and how many notices to `m` failed.
 #[derive(Drop)]
-struct Seen {
-    replies: Text,
-    m: Option<Text>,
-    u: Option<Text>,
-    failures: Option<u64>,
+pub(crate) struct Seen {
+    pub(crate) replies: Text,
+    pub(crate) m: Option<Text>,
+    pub(crate) u: Option<Text>,
+    pub(crate) failures: Option<u64>,
 }
 
 // A box that fails at one of its notices, or at none where that is 0.
@@ -32,8 +32,8 @@ fn mailbox(alloc: Global, fails: usize) -> Result<Box<MemoryMailbox>, OutOfMemor
     Ok(Box::new(alloc, mailbox)?)
 }
 
-// Runs a script with a box for `m`, which fails at one of its notices, and a box for `u`.
-fn run_heard(alloc: Global, script: &[u8], fails: usize) -> Result<Seen, OutOfMemory> {
+/// Runs a script with a box for `m`, which fails at one of its notices, and a box for `u`.
+pub(crate) fn run_heard(alloc: Global, script: &[u8], fails: usize) -> Result<Seen, OutOfMemory> {
     let mut desk = Desk::new(alloc);
     let seen = run_on(alloc, script, fails, &mut desk);
     drop(desk);
@@ -49,7 +49,7 @@ fn run_on(
 ) -> Result<Seen, OutOfMemory> {
     listen(alloc, desk, b"m", fails)?;
     listen(alloc, desk, b"u", 0)?;
-    let replies = replies(alloc, script, desk)?;
+    let replies = write_replies(alloc, script, desk)?;
     what_is_seen(alloc, desk, replies)
 }
 
@@ -65,8 +65,8 @@ pub(crate) fn listen(
     Ok(())
 }
 
-// What was written, and what the boxes show.
-fn what_is_seen(alloc: Global, desk: &Desk, replies: Text) -> Result<Seen, OutOfMemory> {
+/// What was written, and what the boxes show.
+pub(crate) fn what_is_seen(alloc: Global, desk: &Desk, replies: Text) -> Result<Seen, OutOfMemory> {
     Ok(Seen {
         replies,
         m: kept(alloc, desk.shown(b"m"))?,
@@ -83,8 +83,12 @@ fn kept(alloc: Global, shown: Option<&[u8]>) -> Result<Option<Text>, OutOfMemory
     Ok(Some(Text::from_bytes(alloc, bytes)?))
 }
 
-// What a script writes, over a desk.
-fn replies<D: Notices>(alloc: Global, script: &[u8], desk: &mut D) -> Result<Text, OutOfMemory> {
+/// What a script writes, over a desk.
+pub(crate) fn write_replies<D: Notices>(
+    alloc: Global,
+    script: &[u8],
+    desk: &mut D,
+) -> Result<Text, OutOfMemory> {
     let mut source = source_of(alloc, script, 7, 0)?;
     let ran = run_over(alloc, &[], &mut source, (99, 0), desk);
     drop(source);
@@ -100,12 +104,13 @@ fn shows(shown: &Option<Text>, bytes: &[u8]) -> bool {
     }
 }
 
-fn assert_replies(rt: &impl Abort, seen: &Seen, wanted: &[u8]) {
+/// A script wrote this.
+pub(crate) fn assert_replies(rt: &impl Abort, seen: &Seen, wanted: &[u8]) {
     assert_eq!(rt; seen.replies.bytes(), wanted);
 }
 
-// A box shows these bytes.
-fn assert_shows(rt: &impl Abort, shown: &Option<Text>, wanted: &[u8]) {
+/// A box shows these bytes.
+pub(crate) fn assert_shows(rt: &impl Abort, shown: &Option<Text>, wanted: &[u8]) {
     assert!(rt; shows(shown, wanted));
 }
 

@@ -55,8 +55,8 @@ pub(crate) fn run_over<D: Notices>(
     Ok((end, written?))
 }
 
-// The same over an empty desk.
-fn run_alone(
+/// The same over an empty desk.
+pub(crate) fn run_alone(
     alloc: Global,
     words: &[Text],
     source: &mut MemorySource,
@@ -185,6 +185,38 @@ fn each_write_may_fail(rt: HostRuntime) -> Result<(), Fail> {
             replies,
         )?;
     }
+    Ok(())
+}
+
+#[test]
+fn nothing_is_read_behind_the_end(rt: HostRuntime) -> Result<(), Fail> {
+    let end = RunEnd::Done { refused: 0 };
+    assert_run(&rt, rt.alloc(), THREE, (7, 4096), (5, 0), end, REPLIES)?;
+    Ok(())
+}
+
+// A command of 4,096 bytes, with its line feed, and a short one.
+fn long_and_short(alloc: Global) -> Result<Text, OutOfMemory> {
+    let mut script = Text::from_bytes(alloc, b"eval 1")?;
+    for _ in 6..4095 {
+        script.append(b" ")?;
+    }
+    script.append(b"\neval 2\n")?;
+    Ok(script)
+}
+
+#[test]
+fn a_read_offers_room_for_4096_bytes(rt: HostRuntime) -> Result<(), Fail> {
+    let script = long_and_short(rt.alloc())?;
+    assert_run(
+        &rt,
+        rt.alloc(),
+        script.bytes(),
+        (9999, 4096),
+        (2, 0),
+        RunEnd::ReadFault,
+        b"1\n",
+    )?;
     Ok(())
 }
 

@@ -1,6 +1,7 @@
 // Schedules of the claiming protocol with their replies, over sources and sinks in memory that are cut and fail.
-use crate::runs::{sink_of, source_of};
-use pool_engine::{RunEnd, run_wire};
+use crate::mail::texts;
+use crate::runs::{run_alone, source_of};
+use pool_engine::RunEnd;
 use pool_io::MemorySource;
 use pool_text::{OutOfMemory, Text};
 use std::alloc::Global;
@@ -26,13 +27,12 @@ fn run(
 fn run_over(
     alloc: Global,
     source: &mut MemorySource,
-    (most, fails): (usize, usize),
+    sink: (usize, usize),
 ) -> Result<(RunEnd, Text), OutOfMemory> {
-    let mut sink = sink_of(alloc, most, fails)?;
-    let end = run_wire(alloc, 1, 2, source, &mut sink);
-    let written = Text::from_bytes(alloc, sink.taken());
-    drop(sink);
-    Ok((end, written?))
+    let words = texts(alloc, &[b"--wire", b"1", b"2"])?;
+    let ran = run_alone(alloc, &words, source, sink);
+    drop(words);
+    ran
 }
 
 // A run over such a source and such a sink, which fail at these calls, ends like this, with these replies.

@@ -117,6 +117,28 @@ fn a_box_over_a_file_writes_lines(rt: HostRuntime) -> Result<(), Fail> {
     Ok(())
 }
 
+// The notice of a gang of eight, whose names have 64 bytes each, as the job's has.
+fn long_notice(alloc: Global) -> Result<Text, OutOfMemory> {
+    let mut notice = Text::from_bytes(alloc, b"matched")?;
+    for _ in 0..9 {
+        notice.append(b" 0123456789abcdef0123456789abcdef0123456789abcdef0123456789abcdef")?;
+    }
+    Ok(notice)
+}
+
+#[test]
+fn the_first_notice_over_a_file_may_be_long(rt: HostRuntime) -> Result<(), Fail> {
+    let mut notice = long_notice(rt.alloc())?;
+    let mut kept = file_box(rt, b"long.txt")?;
+    assert_delivered(&rt, &mut kept, notice.bytes(), Ok(()));
+    drop(kept);
+    let text = fs::read(&rt, "long.txt")?;
+    fs::remove_file(&rt, "long.txt")?;
+    notice.append(b"\n")?;
+    assert_eq!(rt; text.as_slice(), notice.bytes());
+    Ok(())
+}
+
 #[test]
 fn a_box_fails_where_no_file_can_be(rt: HostRuntime) -> Result<(), Fail> {
     let mut lost = file_box(rt, b"no_such_folder/notices.txt")?;

@@ -153,7 +153,7 @@ fn what_is_written_is_handed_on_before_more_is_read(rt: HostRuntime) -> Result<(
 }
 
 #[test]
-fn a_tied_writer_that_fails_takes_nothing_more(rt: HostRuntime) -> Result<(), Fail> {
+fn behind_a_tied_writer_that_fails_nothing_is_read_or_taken(rt: HostRuntime) -> Result<(), Fail> {
     let taken = Cell::new(0);
     let device = Counting {
         taken: &taken,
@@ -163,8 +163,33 @@ fn a_tied_writer_that_fails_takes_nothing_more(rt: HostRuntime) -> Result<(), Fa
     let mut sink = StdSink::new(output.writer());
     let mut source = StdSource::new(output.reader(b"jobs".as_slice()));
     assert_all(&rt, &mut sink, b"offers 1\n", Ok(()));
-    assert_read(&rt, &mut source, Ok(3));
+    assert_read(&rt, &mut source, Err(Failed));
+    assert_read(&rt, &mut source, Err(Failed));
     assert_write(&rt, &mut sink, b"hits 0\n", Err(Failed));
     assert_eq!(rt; output.finish(), Err(Failed));
+    Ok(())
+}
+
+// A tied writer hands on a piece of so many bytes whole.
+fn assert_whole(rt: &impl Abort, alloc: Global, length: usize) -> Result<(), OutOfMemory> {
+    let taken = Cell::new(0);
+    let device = Counting {
+        taken: &taken,
+        fails: false,
+    };
+    let output = TiedOutput::new(alloc, device)?;
+    let mut sink = StdSink::new(output.writer());
+    let piece = vec![in alloc; b'x'; length]?;
+    assert_all(rt, &mut sink, &piece, Ok(()));
+    assert_eq!(rt; output.finish(), Ok(()));
+    assert_eq!(rt; taken.get(), length);
+    Ok(())
+}
+
+#[test]
+fn pieces_beyond_what_is_gathered_are_handed_on_whole(rt: HostRuntime) -> Result<(), Fail> {
+    for length in [8_191, 8_192, 8_193, 200_000] {
+        assert_whole(&rt, rt.alloc(), length)?;
+    }
     Ok(())
 }

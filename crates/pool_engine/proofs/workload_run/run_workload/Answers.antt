@@ -1,6 +1,6 @@
 use Rattle.std.proofs.Common.{ap}
-use Rattle.pool_engine.specs.Ends.{effects}
-use Rattle.pool_engine.proofs.EndLemmas.{done-read, done-words, done-write, memory-read, memory-words, memory-write, write-read, write-words}
+use Rattle.script_run.specs.Effects.{effects}
+use Rattle.pool_engine.proofs.SummingLemmas.{done-read, done-words, done-write, memory-read, memory-words, memory-write, write-read, write-words}
 use Rattle.pool_engine.proofs.SummingLemmas.{Workload-unprinted, from_err}
 use Rattle.pool_engine.proofs.workload_run.run_workload.Goals as goal
 

@@ -1,5 +1,5 @@
-use Rattle.std.proofs.Common.{[], ◌∷◌, arith, refl}
-use Rattle.pool_engine.proofs.SummingLemmas.{Summing-command, Summing-start, Summing-stopped, Took-stopped, always_err}
+use Rattle.std.proofs.Common.{arith, refl}
+use Rattle.pool_engine.proofs.SummingLemmas.{Summing-behind, Summing-command, Summing-start, Summing-tried, always_err}
 use Rattle.pool_engine.proofs.workload_run.sum_waiting.Goals as goal
 
 pub loop-command-init : goal.loop-command-init
@@ -9,7 +9,7 @@ loop-command-init g c = record {
 }
 
 pub returns-in_err-one-clause-stopped : goal.returns-in_err-one-clause-stopped
-returns-in_err-one-clause-stopped g c = always_err c.from_residual.result _ (Summing-stopped _ _ _ _ _ _ _ _ c.in-Some.command c.loop-command.summary c.loop-command.invariant.summing c.in-Some.ensures.waiting c.in_err-one.ensures.stopped)
+returns-in_err-one-clause-stopped g c = always_err c.from_residual.result _ (Summing-tried _ _ _ _ _ _ _ _ c.in-Some.command c.loop-command.summary c.loop-command.invariant.summing c.in-Some.ensures.waiting refl c.in_err-one.ensures.tried)
 
 pub loop-command-preserved : goal.loop-command-preserved
 loop-command-preserved g c = record {
@@ -18,4 +18,4 @@ loop-command-preserved g c = record {
 }
 
 pub returns-in_err-add-clause-stopped : goal.returns-in_err-add-clause-stopped
-returns-in_err-add-clause-stopped g c = always_err c.from_residual-in_err-add.result _ (Summing-stopped _ _ _ _ _ _ _ _ c.in-Some.command c.loop-command.summary c.loop-command.invariant.summing c.in-Some.ensures.waiting (Took-stopped _ _ _ _ (c.in-Some.command ∷ []) _ _ c.in_ok-one.ensures.took))
+returns-in_err-add-clause-stopped g c = always_err c.from_residual-in_err-add.result _ (Summing-behind _ _ _ _ _ _ _ _ _ c.in-Some.command c.loop-command.summary c.in_ok-one.one.refused c.loop-command.invariant.summing c.in-Some.ensures.waiting c.in_ok-one.ensures.took)

@@ -1,5 +1,5 @@
 use Rattle.std.proofs.Common.{◌+◌, ◌*◌, ◌≤◌, length}
-use Rattle.pool_engine.specs.Ends.{effects}
+use Rattle.script_run.specs.Effects.{effects}
 use Rattle.pool_state.specs.Heard.{heard}
 use Rattle.pool_state.specs.Pool.{state_of}
 use Rattle.pool_engine.specs.Workloads.{silent}

@@ -1,5 +1,6 @@
 use Rattle.std.proofs.Common.{◌≡◌, length, Some, sym, ◌∙◌, ap}
-use Rattle.ad_parser.proofs.Outcomes.{ad_outcome, ad_outcome-has}
+use Rattle.ad_parser.specs.Outcomes.{ad_outcome}
+use Rattle.ad_parser.proofs.Outcomes.{ad_outcome-has}
 use Rattle.ad_store.specs.Answers.{is_added}
 use Rattle.ad_store.specs.declared.answers.PutFault.TheVariants as fault
 use Rattle.pool_replies.specs.declared.reply.Reply.{Reply}

@@ -1,5 +1,6 @@
 use Rattle.std.proofs.Common.{sym, ◌∙◌}
-use Rattle.ad_parser.proofs.Outcomes.{expr_outcome, expr_outcome-has}
+use Rattle.ad_parser.specs.Outcomes.{expr_outcome}
+use Rattle.ad_parser.proofs.Outcomes.{expr_outcome-has}
 use Rattle.pool_state.proofs.HitLemmas.{if_ok}
 use Rattle.pool_state.proofs.StepLemmas.{eval-faulty, eval-parsed}
 use Rattle.pool_state.proofs.eval.eval.Goals as goal

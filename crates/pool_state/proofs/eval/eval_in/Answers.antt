@@ -1,5 +1,6 @@
 use Rattle.std.proofs.Common.{◌≡◌, IfOk, sym, ◌∙◌, subst}
-use Rattle.ad_parser.proofs.Outcomes.{expr_outcome, expr_outcome-has}
+use Rattle.ad_parser.specs.Outcomes.{expr_outcome}
+use Rattle.ad_parser.proofs.Outcomes.{expr_outcome-has}
 use Rattle.ad_store.specs.Store.{stock_of}
 use Rattle.pool_replies.specs.declared.reply.Reply.{Reply}
 use Rattle.pool_state.proofs.HitLemmas.{if_ok}

@@ -3,7 +3,8 @@ use Rattle.ad_tree.specs.Ad.{ad_frames}
 use Rattle.ad_tree.specs.Frames.{Frame}
 use Rattle.ad_tree.specs.Small.{IsSmall}
 use Rattle.ad_tree.specs.declared.request.Request.{Request}
-use Rattle.ad_parser.proofs.Outcomes.{ad_outcome, ad_outcome-has}
+use Rattle.ad_parser.specs.Outcomes.{ad_outcome}
+use Rattle.ad_parser.proofs.Outcomes.{ad_outcome-has}
 use Rattle.pool_replies.specs.declared.reply.Reply.{Reply}
 use Rattle.pool_state.specs.Books.{queue_of}
 use Rattle.pool_state.specs.Indexed.{ads_of}

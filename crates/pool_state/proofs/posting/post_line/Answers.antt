@@ -1,20 +1,13 @@
-use Rattle.std.proofs.Common.{◌∷◌, [], List, sym, subst}
-use Rattle.std.specs.List.{AllZip}
-use Rattle.notice_desk.specs.Desk.{Posts, Row}
-use Rattle.notice_desk.specs.declared.notices.PostEnd.{PostEnd}
-use Rattle.pool_state.specs.Posting.{RowAfter, post_to}
-use Rattle.pool_state.proofs.PostingLemmas.{rows_failed, rows_taken}
+use Rattle.pool_state.proofs.PostingLemmas.{line-failed, line-taken}
 use Rattle.pool_state.proofs.posting.post_line.Goals as goal
 
 pub returns-in-Failed : goal.returns-in-Failed
 returns-in-Failed g c =
-    let name = c.args.name.now in
-    let line = c.args.line.now in
-    let xs = g.D.Notices.shows c.args.desk.now in
-    let ys = g.D.Notices.shows c.post.new.self in
-    subst (λ (rows : List Row). AllZip (RowAfter (post_to line name ∷ [])) xs rows) (sym c.retire_failed-retired.ensures.rows)
-    (rows_failed name line xs ys (subst (λ (end : PostEnd). AllZip (Posts name line end) xs ys) c.in-Failed.is c.post.ensures.rows))
+    line-failed c.args.name.now c.args.line.now c.post.result (g.D.Notices.shows c.args.desk.now) (g.D.Notices.left c.args.desk.now) (g.D.Notices.shows c.post.new.self) (g.D.Notices.left c.post.new.self)
+    (g.D.Notices.shows c.retire_failed-retired.new.self) (g.D.Notices.left c.retire_failed-retired.new.self)
+    c.in-Failed.is c.post.ensures.no_box c.post.ensures.rows c.post.ensures.left c.retire_failed-retired.ensures.rows c.retire_failed-retired.ensures.left
 
 pub returns-in_default : goal.returns-in_default
 returns-in_default g c =
-    rows_taken c.args.name.now c.args.line.now c.post.result c.in_default.not-Failed (g.D.Notices.shows c.args.desk.now) (g.D.Notices.shows c.post.new.self) c.post.ensures.rows
+    line-taken c.args.name.now c.args.line.now c.post.result (g.D.Notices.shows c.args.desk.now) (g.D.Notices.left c.args.desk.now) (g.D.Notices.shows c.post.new.self) (g.D.Notices.left c.post.new.self)
+    c.in_default.not-Failed c.post.ensures.no_box c.post.ensures.rows c.post.ensures.left

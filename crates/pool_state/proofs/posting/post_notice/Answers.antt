@@ -1,12 +1,8 @@
 use Rattle.std.proofs.Common.{◌≡◌, ◌∷◌, [], ℕ, List, Some, slice_get, sym, ◌∙◌, ap, subst}
-use Rattle.std.specs.List.{AllZip}
 use Rattle.std.proofs.lemmas.Option.{slice_get-get_or}
-use Rattle.pool_state.specs.Posting.{RowAfter, post_to}
-use Rattle.pool_state.proofs.PostingLemmas.{rows_name, rows_none}
+use Rattle.pool_state.specs.Posting.{ArePosted, desk_of, post_to}
+use Rattle.pool_state.proofs.PostingLemmas.{posted_name}
 use Rattle.pool_state.proofs.posting.post_notice.Goals as goal
-
-pub loop-name-init : goal.loop-name-init
-loop-name-init g c = rows_none (g.D.Notices.shows c.args.desk.now)
 
 pub loop-name-preserved : goal.loop-name-preserved
 loop-name-preserved g c =
@@ -15,9 +11,10 @@ loop-name-preserved g c =
     let name = c.name-item.result in
     let names = c.args.notice.now.names in
     let at : slice_get names i ≡ Some name = subst (λ (l : List (List ℕ)). slice_get l i ≡ Some name) c.as_slice-name-items.ensures (slice_get-get_or c.as_slice-name-items.result.now i name c.loop-name-test.true ∙ ap (λ (n : List ℕ). Some n) (sym c.name-item.is)) in
-    let b = g.D.Notices.shows c.loop-name.desk in
-    let d = g.D.Notices.shows c.post_line.new.desk in
-    let posted : AllZip (RowAfter (post_to line name ∷ [])) b d =
-    subst (λ (l : List ℕ). AllZip (RowAfter (post_to l name ∷ [])) b d) c.bytes-in-loop-name.ensures
-    (subst (λ (n : List ℕ). AllZip (RowAfter (post_to c.bytes-in-loop-name.result.now n ∷ [])) b d) c.bytes.ensures c.post_line.ensures) in
-    rows_name (post_to line) names i name (g.D.Notices.shows c.args.desk.now) b d at c.loop-name.invariant posted
+    let a = desk_of (g.D.Notices.shows c.args.desk.now) (g.D.Notices.left c.args.desk.now) in
+    let b = desk_of (g.D.Notices.shows c.loop-name.desk) (g.D.Notices.left c.loop-name.desk) in
+    let d = desk_of (g.D.Notices.shows c.post_line.new.desk) (g.D.Notices.left c.post_line.new.desk) in
+    let posted : ArePosted (post_to line name ∷ []) b d =
+    subst (λ (l : List ℕ). ArePosted (post_to l name ∷ []) b d) c.bytes-in-loop-name.ensures
+    (subst (λ (n : List ℕ). ArePosted (post_to c.bytes-in-loop-name.result.now n ∷ []) b d) c.bytes.ensures c.post_line.ensures) in
+    posted_name (post_to line) names i name a b d at c.loop-name.invariant posted

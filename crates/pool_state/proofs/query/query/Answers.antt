@@ -1,5 +1,6 @@
 use Rattle.std.proofs.Common.{sym, ◌∙◌, arith}
-use Rattle.ad_parser.proofs.Outcomes.{ad_outcome, ad_outcome-has}
+use Rattle.ad_parser.specs.Outcomes.{ad_outcome}
+use Rattle.ad_parser.proofs.Outcomes.{ad_outcome-has}
 use Rattle.pool_state.specs.Indexed.{ads_of}
 use Rattle.pool_state.proofs.HitLemmas.{if_ok}
 use Rattle.pool_state.proofs.StepLemmas.{narrowest-parsed, query-faulty, query-parsed, undecided-parsed}

@@ -1,5 +1,5 @@
 use Rattle.std.proofs.Common.{ℕ, List, length, sym, ◌∙◌, ap}
-use Rattle.ad_parser.proofs.Outcomes.{ad_outcome}
+use Rattle.ad_parser.specs.Outcomes.{ad_outcome}
 use Rattle.claim_table.specs.Settings.{settings_of}
 use Rattle.pool_state.specs.Pool.{state_of}
 use Rattle.pool_state.specs.State.{State}

@@ -1,0 +1,337 @@
+// Each fault in its turn: how a run ends, and what was written. The scripts that are large are made by loops.
+use crate::mail::{
+    Seen, assert_replies, assert_shows, listen, run_heard, what_is_seen, write_replies,
+};
+use crate::runs::assert_run;
+use notice_desk::{Desk, FileMailbox};
+use pool_engine::RunEnd;
+use pool_text::{OutOfMemory, Text, append_count};
+use std::alloc::Global;
+use std::process::Abort;
+use std::test::Fail;
+
+// A script, how many bytes each call of the source and of the sink passes on, and which call of each fails (0: none); how the run
+// ends, and what was written.
+#[derive(Clone, Copy)]
+struct Case {
+    script: &'static [u8],
+    most: (usize, usize),
+    fails: (usize, usize),
+    end: RunEnd,
+    written: &'static [u8],
+}
+
+const CASES: [Case; 8] = [
+    // The second read fails, and then the first.
+    Case {
+        script: b"eval 1\neval 2\n",
+        most: (7, 4096),
+        fails: (2, 0),
+        end: RunEnd::ReadFault,
+        written: b"1\n",
+    },
+    Case {
+        script: b"eval 1\neval 2\n",
+        most: (7, 4096),
+        fails: (1, 0),
+        end: RunEnd::ReadFault,
+        written: b"",
+    },
+    // A last line without its line feed is answered at the end of the input alone.
+    Case {
+        script: b"eval 1",
+        most: (6, 4096),
+        fails: (2, 0),
+        end: RunEnd::ReadFault,
+        written: b"",
+    },
+    Case {
+        script: b"eval 1",
+        most: (6, 4096),
+        fails: (0, 0),
+        end: RunEnd::Done { refused: 0 },
+        written: b"1\n",
+    },
+    // A write fails within the first reply, and then within the second.
+    Case {
+        script: b"eval 12\neval 3\n",
+        most: (4096, 1),
+        fails: (0, 2),
+        end: RunEnd::WriteFault,
+        written: b"1",
+    },
+    Case {
+        script: b"eval 12\neval 3\n",
+        most: (4096, 1),
+        fails: (0, 4),
+        end: RunEnd::WriteFault,
+        written: b"12\n",
+    },
+    // The input ends within a block, and then within the line that ends one.
+    Case {
+        script: b"query\n[ ]\n",
+        most: (4096, 4096),
+        fails: (0, 0),
+        end: RunEnd::Done { refused: 1 },
+        written: b"refused 4 block not ended\n",
+    },
+    Case {
+        script: b"query\n[ ]\n.",
+        most: (4096, 4096),
+        fails: (0, 0),
+        end: RunEnd::Done { refused: 0 },
+        written: b"hits 0\n",
+    },
+];
+
+#[test]
+fn each_fault_in_its_turn(rt: HostRuntime) -> Result<(), Fail> {
+    for case in CASES {
+        assert_run(
+            &rt,
+            rt.alloc(),
+            case.script,
+            case.most,
+            case.fails,
+            case.end,
+            case.written,
+        )?;
+    }
+    Ok(())
+}
+
+// A run of a script without a fault refuses so many commands, and writes this.
+fn assert_written(
+    rt: &impl Abort,
+    alloc: Global,
+    script: &[u8],
+    refused: u64,
+    written: &[u8],
+) -> Result<(), OutOfMemory> {
+    let end = RunEnd::Done { refused };
+    assert_run(rt, alloc, script, (4096, 4096), (0, 0), end, written)
+}
+
+// The text so many times.
+fn repeated(alloc: Global, text: &[u8], count: usize) -> Result<Text, OutOfMemory> {
+    let mut whole = Text::new(alloc);
+    for _ in 0..count {
+        whole.append(text)?;
+    }
+    Ok(whole)
+}
+
+#[test]
+fn a_line_of_65536_bytes_is_read(rt: HostRuntime) -> Result<(), Fail> {
+    let mut line = repeated(rt.alloc(), b"xxxxxxxxxxxxxxxx", 4096)?;
+    line.append(b"\n")?;
+    assert_written(
+        &rt,
+        rt.alloc(),
+        line.bytes(),
+        1,
+        b"refused 2 unknown command\n",
+    )?;
+    let mut longer = Text::from_bytes(rt.alloc(), b"x")?;
+    longer.append(line.bytes())?;
+    assert_written(
+        &rt,
+        rt.alloc(),
+        longer.bytes(),
+        1,
+        b"refused 1 line too long\n",
+    )?;
+    Ok(())
+}
+
+/// One resource and one job are matched.
+const MATCHED: &[u8] =
+    b"advertise m 9\n[ Requirements = true ]\n.\nsubmit j u\n[ Requirements = true ]\n.\nnegotiate\n";
+
+const MATCHES: &[u8] =
+    b"advertised m\nsubmitted j\nspin 1 free 1\nslice u 1\noffer j u m\nspin 2 free 0\noffers 1\n";
+
+#[test]
+fn a_box_fails_at_its_first_notice(rt: HostRuntime) -> Result<(), Fail> {
+    let seen = run_heard(rt.alloc(), MATCHED, 1)?;
+    assert_replies(&rt, &seen, MATCHES);
+    assert!(rt; seen.m.is_none() && seen.failures == Some(1));
+    assert_shows(&rt, &seen.u, b"matched j m\n");
+    Ok(())
+}
+
+// A run with boxes for `m` and `u`, which both fail at their first notice.
+fn run_deaf(alloc: Global, script: &[u8]) -> Result<Seen, OutOfMemory> {
+    let mut desk = Desk::new(alloc);
+    let seen = run_deaf_on(alloc, script, &mut desk);
+    drop(desk);
+    seen
+}
+
+// The same on a desk that is empty.
+fn run_deaf_on(alloc: Global, script: &[u8], desk: &mut Desk) -> Result<Seen, OutOfMemory> {
+    listen(alloc, desk, b"m", 1)?;
+    listen(alloc, desk, b"u", 1)?;
+    let replies = write_replies(alloc, script, desk)?;
+    what_is_seen(alloc, desk, replies)
+}
+
+#[test]
+fn both_boxes_fail(rt: HostRuntime) -> Result<(), Fail> {
+    let seen = run_deaf(rt.alloc(), MATCHED)?;
+    assert_replies(&rt, &seen, MATCHES);
+    assert!(rt; seen.m.is_none() && seen.u.is_none() && seen.failures == Some(1));
+    Ok(())
+}
+
+// A run with a box for `m` over a file whose folder isn't there.
+fn run_filed(rt: &HostRuntime, script: &[u8], desk: &mut Desk) -> Result<Seen, OutOfMemory> {
+    let file = Text::from_bytes(rt.alloc(), b"no such folder/m")?;
+    let mailbox = Box::new(rt.alloc(), FileMailbox::new(*rt, file))?;
+    drop(desk.add(b"m", mailbox));
+    let replies = write_replies(rt.alloc(), script, desk)?;
+    what_is_seen(rt.alloc(), desk, replies)
+}
+
+#[test]
+fn a_box_has_no_folder(rt: HostRuntime) -> Result<(), Fail> {
+    let mut desk = Desk::new(rt.alloc());
+    let seen = run_filed(&rt, MATCHED, &mut desk)?;
+    assert_replies(&rt, &seen, MATCHES);
+    assert!(rt; seen.failures == Some(1));
+    drop(desk);
+    Ok(())
+}
+
+// A name with a number behind it.
+fn append_name(script: &mut Text, name: &[u8], i: u64) -> Result<(), OutOfMemory> {
+    script.append(name)?;
+    append_count(script, i)
+}
+
+// Queries an ad `x` whose attributes `X1` to that of this number are each twice the one before.
+fn doublings(alloc: Global, count: u64) -> Result<Text, OutOfMemory> {
+    let mut script = Text::from_bytes(alloc, b"advertise x 600\n[ X0 = 1; ")?;
+    for i in 0..count {
+        append_doubling(&mut script, i)?;
+    }
+    append_name(&mut script, b"Requirements = X", count)?;
+    script.append(b" > 0 ]\n.\nquery\n[ Requirements = true ]\n.\n")?;
+    Ok(script)
+}
+
+// `XJ = XI + XI; ` where J is behind I.
+fn append_doubling(script: &mut Text, i: u64) -> Result<(), OutOfMemory> {
+    append_name(script, b"X", i.saturating_add(1))?;
+    append_name(script, b" = X", i)?;
+    append_name(script, b" + X", i)?;
+    script.append(b"; ")
+}
+
+#[test]
+fn doublings_take_no_time(rt: HostRuntime) -> Result<(), Fail> {
+    let script = doublings(rt.alloc(), 22)?;
+    assert_written(
+        &rt,
+        rt.alloc(),
+        script.bytes(),
+        0,
+        b"advertised x\nhits 1\nx 0\n",
+    )?;
+    let longer = doublings(rt.alloc(), 23)?;
+    assert_written(
+        &rt,
+        rt.alloc(),
+        longer.bytes(),
+        0,
+        b"advertised x\nhits 0\n",
+    )?;
+    Ok(())
+}
+
+// `XJ = XI + XI and so on; ` with 32 times `XI`, where J is behind I.
+fn append_wide_sum(script: &mut Text, i: u64) -> Result<(), OutOfMemory> {
+    append_name(script, b"X", i.saturating_add(1))?;
+    append_name(script, b" = X", i)?;
+    for _ in 1..32 {
+        append_name(script, b" + X", i)?;
+    }
+    script.append(b"; ")
+}
+
+#[test]
+fn wide_sums_take_no_time(rt: HostRuntime) -> Result<(), Fail> {
+    let mut script = Text::from_bytes(rt.alloc(), b"advertise x 600\n[ X0 = 1; ")?;
+    for i in 0..8 {
+        append_wide_sum(&mut script, i)?;
+    }
+    script.append(b"]\n.\nevalin x X8\n")?;
+    assert_written(
+        &rt,
+        rt.alloc(),
+        script.bytes(),
+        0,
+        b"advertised x\n1099511627776\n",
+    )?;
+    Ok(())
+}
+
+// Ten thousand ads that decide a test of their memory.
+fn small_machines(alloc: Global) -> Result<Text, OutOfMemory> {
+    let mut script = Text::new(alloc);
+    for i in 0..10_000 {
+        append_name(&mut script, b"advertise m", i)?;
+        script.append(b" 600\n[ Memory = 1; Requirements = true ]\n.\n")?;
+    }
+    Ok(script)
+}
+
+// A query whose requirements test the memory, and copy 29 million bytes where they are evaluated.
+fn heavy_query(alloc: Global) -> Result<Text, OutOfMemory> {
+    let mut query = Text::from_bytes(alloc, b"query\n[ S0 = \"0123456789abcdef\"; ")?;
+    for i in 0..11 {
+        append_twice(&mut query, i)?;
+    }
+    for i in 0..900 {
+        append_name(&mut query, b"P", i)?;
+        query.append(b" = strcat(S11, \"\"); ")?;
+    }
+    query.append(b"Requirements = sum({ size(P0)")?;
+    for i in 1..900 {
+        append_name(&mut query, b", size(P", i)?;
+        query.append(b")")?;
+    }
+    query.append(b" }) > 0 && TARGET.Memory >= 64 ]\n.\n")?;
+    Ok(query)
+}
+
+// `SJ = strcat(SI, SI); ` where J is behind I.
+fn append_twice(query: &mut Text, i: u64) -> Result<(), OutOfMemory> {
+    append_name(query, b"S", i.saturating_add(1))?;
+    append_name(query, b" = strcat(S", i)?;
+    append_name(query, b", S", i)?;
+    query.append(b"); ")
+}
+
+// The replies to the ads, and to so many queries that hit none.
+fn no_hits(alloc: Global, queries: usize) -> Result<Text, OutOfMemory> {
+    let mut written = Text::new(alloc);
+    for i in 0..10_000 {
+        append_name(&mut written, b"advertised m", i)?;
+        written.append(b"\n")?;
+    }
+    let hits = repeated(alloc, b"hits 0\n", queries)?;
+    written.append(hits.bytes())?;
+    Ok(written)
+}
+
+#[test]
+fn decided_docks_evaluate_nothing(rt: HostRuntime) -> Result<(), Fail> {
+    let mut script = small_machines(rt.alloc())?;
+    let query = heavy_query(rt.alloc())?;
+    let queries = repeated(rt.alloc(), query.bytes(), 20)?;
+    script.append(queries.bytes())?;
+    let written = no_hits(rt.alloc(), 20)?;
+    assert_written(&rt, rt.alloc(), script.bytes(), 0, written.bytes())?;
+    Ok(())
+}

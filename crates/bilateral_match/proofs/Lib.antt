@@ -1,4 +1,3 @@
-pub mod AlikeLemmas
 mod BarLemmas
 mod ConjunctLemmas
 pub mod DecidedLemmas

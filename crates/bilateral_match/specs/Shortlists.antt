@@ -1,4 +1,4 @@
--- The members for a job in order, which serve it and all jobs of the same ad and of users with the same number, while more and more resources are offered.
+-- The members for a job in order, which serve it and all jobs of users with the same number that no ad tells apart, while more and more resources are offered.
 use Rattle.std.specs.Prelude.{◌≡◌, ℕ, Bool, true, not, List, map, Option}
 use Rattle.std.specs.List.{find}
 use Rattle.std.specs.List.Sorted.{IsPermutation, IsSorted}

@@ -1,53 +1,13 @@
-// Whether two ads are the same, found with no memory taken.
-ghost use Rattle.std.specs.Prelude.{◌≡◌, ◌↔◌, ◌<◌, IsTrue, length};
-ghost use Rattle.ad_tree.specs.Ad.{ad_frames};
-ghost use Rattle.ad_tree.specs.Frames.{attributes_at};
+// Whether two expressions are the same, found with no memory taken.
+ghost use Rattle.std.specs.Prelude.{◌≡◌, ◌↔◌, IsTrue};
 ghost use Rattle.ad_tree.specs.Tree.{tree, trees, two};
-ghost use Rattle.bilateral_match.specs.Alike.{AreAlike};
 
-use ad_tree::{Ad, Expr, Exprs, scopes_are_equal};
+use ad_tree::{Expr, Exprs, scopes_are_equal};
 use pool_text::{Lit, same_binary, same_unary};
-
-/// Whether two ads have the same frames, attribute by attribute in their order, each name spelled alike. No memory is taken.
-/// Then they dock with the same resources, and the same one is best for both (`ads_that_are_alike_have_the_same_best`).
-pub fn are_alike(a: &Ad, b: &Ad) -> bool
-    ensures { IsTrue result ↔ AreAlike (ad_frames a.now) (ad_frames b.now) }
-{
-    if a.frames() != b.frames() {
-        return false;
-    }
-    for frame in 0..a.frames() {
-        if a.parent(frame) != b.parent(frame) || !same_attributes(a, b, frame) {
-            return false;
-        }
-    }
-    true
-}
-
-// Whether a frame of two ads has the same attributes.
-fn same_attributes(a: &Ad, b: &Ad, frame: u32) -> bool
-    requires first { frame < length (ad_frames a.now) }
-    requires second { frame < length (ad_frames b.now) }
-    ensures { IsTrue result ↔ (attributes_at (ad_frames a.now) frame ≡ attributes_at (ad_frames b.now) frame) }
-{
-    if a.count(frame) != b.count(frame) {
-        return false;
-    }
-    for k in 0..a.count(frame) {
-        // Most ads that differ do in a number, which is compared in less time than a name.
-        if !same_expr(a.expr(frame, k), b.expr(frame, k)) {
-            return false;
-        }
-        if a.name(frame, k) != b.name(frame, k) {
-            return false;
-        }
-    }
-    true
-}
 
 /// Whether two expressions have the same tree.
 #[cycle(alike)]
-pub(crate) fn same_expr(a: &Expr, b: &Expr) -> bool
+pub fn same_expr(a: &Expr, b: &Expr) -> bool
     ensures { IsTrue result ↔ (tree a.now ≡ tree b.now) }
 {
     match (a, b) {

@@ -17,6 +17,7 @@ ghost use Rattle.bilateral_match.specs.Small.{AreSmallAds, AreSmallHolders};
 
 use crate::candidates::candidates_knowing;
 use crate::known::{Known, Ranking};
+use crate::looks::Looks;
 use crate::member::Member;
 use crate::members::{member_at, reaches};
 use ad_store::{Holdings, Store};
@@ -69,8 +70,10 @@ pub fn best<H: Holdings, F: Ledger, E: Ledger, T: Ledger>(
         + 9 * least_left (stock_of store.now).ads (tests_of (ad_frames request.now.ad) 0 []) }
 {
     let mut known = Known::new(alloc);
+    let mut looks = Looks::none();
     best_knowing(
-        alloc, store, index, held, request, number, moment, &mut known, tops, entry, touch,
+        alloc, store, index, held, request, number, moment, &mut known, &mut looks, tops, entry,
+        touch,
     )
 }
 
@@ -78,7 +81,7 @@ pub fn best<H: Holdings, F: Ledger, E: Ledger, T: Ledger>(
 /// another that it may be given, is passed over with no look and no evaluation. Ranks that are evaluated are noted where the
 /// resource's literals settle them, so that each is evaluated once for all jobs with the same rank expression.
 ///
-/// It counts no more than `best` may.
+/// It counts no more than `best` may, and adds to `looks.saved` what it knows of the looks that `best` may make and it doesn't.
 pub fn best_knowing<H: Holdings, F: Ledger, E: Ledger, T: Ledger>(
     alloc: Global,
     store: &Store,
@@ -88,6 +91,7 @@ pub fn best_knowing<H: Holdings, F: Ledger, E: Ledger, T: Ledger>(
     number: u64,
     moment: u64,
     known: &mut Known,
+    looks: &mut Looks,
     tops: &mut Steps<F>,
     entry: &mut Steps<E>,
     touch: &mut Steps<T>,
@@ -108,8 +112,11 @@ pub fn best_knowing<H: Holdings, F: Ledger, E: Ledger, T: Ledger>(
     ensures ratio { IsSmall (ad_frames request.now.ad) → AreSmallAds (stock_of store.now).ads → AreSmallHolders (H.holding held.now) → entry.new + 9216 * tops.old ≤ entry.old + 9216 * tops.new }
     ensures looks { touch.new ≤ touch.old
         + 9 * least_left (stock_of store.now).ads (tests_of (ad_frames request.now.ad) 0 []) }
+    ensures saved { touch.new + looks.new.saved ≤ touch.old + looks.old.saved
+        + 9 * least_left (stock_of store.now).ads (tests_of (ad_frames request.now.ad) 0 []) }
 {
     let places = candidates_knowing(alloc, store, index, request, &mut known.tests)?;
+    looks.begin(places.len());
     let mut ranking = known.take(alloc, store.len(), request)?;
     let first = first_at(
         alloc,
@@ -120,6 +127,7 @@ pub fn best_knowing<H: Holdings, F: Ledger, E: Ledger, T: Ledger>(
         moment,
         &places,
         &mut ranking,
+        looks,
         tops,
         entry,
         touch,
@@ -148,6 +156,7 @@ fn first_at<H: Holdings, F: Ledger, E: Ledger, T: Ledger>(
     moment: u64,
     places: &Slots,
     ranking: &mut Ranking,
+    looks: &mut Looks,
     tops: &mut Steps<F>,
     entry: &mut Steps<E>,
     touch: &mut Steps<T>,
@@ -162,12 +171,14 @@ fn first_at<H: Holdings, F: Ledger, E: Ledger, T: Ledger>(
     ensures entries { entry.new ≤ entry.old + sum_by (scan.attributes_for (pool_of moment (stock_of store.now) (H.is_offered held.now) (H.holding held.now)) (ad_frames request.now.ad)) places.now }
     ensures ratio { IsSmall (ad_frames request.now.ad) → AreSmallAds (stock_of store.now).ads → AreSmallHolders (H.holding held.now) → entry.new + 9216 * tops.old ≤ entry.old + 9216 * tops.new }
     ensures looks { touch.new ≤ touch.old + 9 * length places.now }
+    ensures saved { touch.new + looks.new.saved ≤ touch.old + looks.old.saved + 9 * length places.now }
 {
     let mut first = None;
     for place in places.as_slice() {
         let bar = rank_of(&first);
         let next = next_at(
-            alloc, store, held, request, number, moment, *place, bar, ranking, tops, entry, touch,
+            alloc, store, held, request, number, moment, *place, bar, ranking, looks, tops, entry,
+            touch,
         )?;
         first = earlier(first, next);
     }
@@ -185,6 +196,7 @@ fn next_at<H: Holdings, F: Ledger, E: Ledger, T: Ledger>(
     place: usize,
     bar: Option<i128>,
     ranking: &mut Ranking,
+    looks: &mut Looks,
     tops: &mut Steps<F>,
     entry: &mut Steps<E>,
     touch: &mut Steps<T>,
@@ -199,12 +211,14 @@ fn next_at<H: Holdings, F: Ledger, E: Ledger, T: Ledger>(
     ensures entries { entry.new ≤ entry.old + scan.attributes_for (pool_of moment (stock_of store.now) (H.is_offered held.now) (H.holding held.now)) (ad_frames request.now.ad) place }
     ensures ratio { IsSmall (ad_frames request.now.ad) → AreSmallAds (stock_of store.now).ads → AreSmallHolders (H.holding held.now) → entry.new + 9216 * tops.old ≤ entry.old + 9216 * tops.new }
     ensures looks { touch.new ≤ touch.old + 9 }
+    ensures saved { touch.new + looks.new.saved ≤ touch.old + looks.old.saved + 9 }
 {
     if is_known_below(bar, ranking.at(place)) {
+        looks.save(9);
         return Ok(None);
     }
     member_at(
-        alloc, store, held, request, number, moment, place, bar, ranking, tops, entry, touch,
+        alloc, store, held, request, number, moment, place, bar, ranking, looks, tops, entry, touch,
     )
 }
 

@@ -5,7 +5,7 @@ ghost use Rattle.ad_tree.specs.Tree.{tree};
 ghost use Rattle.ad_tree.specs.Ad.{ad_frames};
 ghost use Rattle.ad_eval.specs.Dock.{is_docked, meets_requirement};
 ghost use Rattle.ad_eval.specs.Value.{value_with};
-ghost use Rattle.ad_store.specs.Stock.{Advert, Stock};
+ghost use Rattle.ad_store.specs.Stock.{Advert};
 ghost use Rattle.conjunct_plan.specs.declared.test.Test.{Test};
 ghost use Rattle.conjunct_plan.specs.Decided.{is_side_met, test_value};
 ghost use Rattle.conjunct_plan.specs.Tests.{conjuncts, labels_of, test_of};
@@ -13,12 +13,11 @@ ghost use Rattle.eval_scope.specs.Shown.{world_of};
 ghost use Rattle.eval_scope.specs.World.{request_side, resource_side};
 ghost use Rattle.bilateral_match.specs.declared.hit.Match.{Match};
 ghost use Rattle.bilateral_match.specs.declared.member.Member.{Member};
-ghost use Rattle.bilateral_match.specs.Alike.{AreAlike};
 ghost use Rattle.bilateral_match.specs.Answers.{AreAnswers, answers};
 ghost use Rattle.bilateral_match.specs.Counts.{entered_for, open_count};
 ghost use Rattle.bilateral_match.specs.Docks.{is_last_decided, last_ad, last_open, rank_of_dock};
 ghost use Rattle.bilateral_match.specs.Known.{is_rank_settled, rank_expr};
-ghost use Rattle.bilateral_match.specs.Members.{IsBest, best, best_slot, members};
+ghost use Rattle.bilateral_match.specs.Members.{IsBest, best, members};
 ghost use Rattle.bilateral_match.specs.Pool.{Pool};
 
 use ad_tree::{Ad, Expr};
@@ -93,13 +92,6 @@ pub fn more_offers_leave_no_more_members(request: &Ad)
         → open_count (record pool { is_offered = offered }) (ad_frames request.now) ≤ open_count pool (ad_frames request.now) }
     ensures entered { (pool : Pool) (offered : ℕ → Bool) → ((place : ℕ) → pool.is_offered place ≡ true → offered place ≡ true)
         → entered_for (record pool { is_offered = offered }) (ad_frames request.now) ≤ entered_for pool (ad_frames request.now) }
-{}
-
-/// Two jobs whose ads are alike, of users with the same number, are given the same resource: each dock, and each rank in it, is
-/// the same for both.
-pub fn ads_that_are_alike_have_the_same_best(a: &Ad, b: &Ad)
-    ensures { (stock : Stock) (pool : Pool) (number : ℕ) → AreAlike (ad_frames a.now) (ad_frames b.now)
-        → best_slot stock pool (ad_frames a.now) number ≡ best_slot stock pool (ad_frames b.now) number }
 {}
 
 /// An ad that settles a rank expression is given the same rank by all requests that have it: so that is evaluated once.

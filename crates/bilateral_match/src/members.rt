@@ -1,5 +1,5 @@
 // Which resources are members for a job.
-ghost use Rattle.std.specs.Prelude.{◌≡◌, ◌≤◌, ◌<◌, ◌+◌, ◌*◌, ℕ, Option, [], nat_le, nat_lt, length, slice_get, max, option_map, All, Contains, IfOk, IfSome, Some, if◌then◌else◌};
+ghost use Rattle.std.specs.Prelude.{◌≡◌, ◌≤◌, ◌<◌, ◌+◌, ◌*◌, ℕ, Option, [], nat_le, nat_lt, length, slice_get, max, option_map, All, Contains, IfOk, IfSome, None, Some, if◌then◌else◌};
 ghost use Rattle.std.specs.Option.{option_map_or};
 ghost use Rattle.ad_tree.specs.Ad.{ad_frames};
 ghost use Rattle.ad_tree.specs.Small.{IsSmall};
@@ -20,6 +20,7 @@ ghost use Rattle.bilateral_match.specs.Small.{AreSmallAds, AreSmallHolders};
 
 use crate::docking::slots_world;
 use crate::known::Ranking;
+use crate::looks::Looks;
 use crate::member::{Member, Preemption, Ranks};
 use crate::sides::{OpenSides, open_sides};
 use ad_eval::rank;
@@ -33,7 +34,7 @@ use std::sync::ledger::Ledger;
 
 /// The resource at a place, if it is a member for the job, whose user has this number, and the job ranks it no lower than the
 /// bar, where there is one. A resource below the bar isn't asked how it ranks the job, nor is its holder. The job's rank is
-/// noted in the ranking.
+/// noted in the ranking, and what the looks come to in `looks`.
 pub fn member_at<H: Holdings, F: Ledger, E: Ledger, T: Ledger>(
     alloc: Global,
     store: &Store,
@@ -44,6 +45,7 @@ pub fn member_at<H: Holdings, F: Ledger, E: Ledger, T: Ledger>(
     place: usize,
     bar: Option<i128>,
     ranking: &mut Ranking,
+    looks: &mut Looks,
     tops: &mut Steps<F>,
     entry: &mut Steps<E>,
     touch: &mut Steps<T>,
@@ -58,6 +60,7 @@ pub fn member_at<H: Holdings, F: Ledger, E: Ledger, T: Ledger>(
     ensures entries { entry.new ≤ entry.old + scan.attributes_for (pool.pool_of moment (stock_of store.now) (H.is_offered held.now) (H.holding held.now)) (ad_frames request.now.ad) place }
     ensures ratio { IsSmall (ad_frames request.now.ad) → AreSmallAds (stock_of store.now).ads → AreSmallHolders (H.holding held.now) → entry.new + 9216 * tops.old ≤ entry.old + 9216 * tops.new }
     ensures looks { touch.new ≤ touch.old + 9 }
+    ensures saved { touch.new + looks.new.saved ≤ touch.old + looks.old.saved + 9 }
 {
     let slot = store.at(place);
     if held.offered(slot) {
@@ -67,13 +70,16 @@ pub fn member_at<H: Holdings, F: Ledger, E: Ledger, T: Ledger>(
         return Ok(None);
     }
     let ad = store.look(slot, touch);
+    looks.weigh();
     let known = ranking.at(place);
     let weighed = ranks(alloc, request, ad, moment, bar, known, tops, entry)?;
     ranking.note(&request.ad, ad, place, weighed.rank);
     let Some(ranks) = weighed.ranks else {
+        looks.save(8);
         return Ok(None);
     };
     let holder = held.holder(slot);
+    looks.save_unless_held(&holder);
     let won = won_from(
         alloc,
         store,
@@ -266,6 +272,7 @@ pub fn won_from<F: Ledger, E: Ledger, T: Ledger>(
         + option_map_or (λ h. attribute_count (pool.holder_world moment (stock_of store.now) h)) (option_map holding_of holder.entry) 0 }
     ensures ratio { IfSome holder.entry (λ h. IsSmall (ad_frames h.request.now.ad)) → AreSmallAds (stock_of store.now).ads → entry.new + 9216 * tops.old ≤ entry.old + 9216 * tops.new }
     ensures looks { touch.new ≤ touch.old + 8 }
+    ensures free { holder.entry ≡ None → touch.new ≡ touch.old }
 {
     let Some(holder) = holder else {
         return Ok(Some(Preemption::No));

@@ -17,6 +17,7 @@ ghost use Rattle.bilateral_match.specs.Small.{AreSmallAds, AreSmallHolders};
 
 use crate::candidates::candidates;
 use crate::known::Ranking;
+use crate::looks::Looks;
 use crate::member::Member;
 use crate::members::member_at;
 use ad_store::{Holdings, Store};
@@ -30,8 +31,8 @@ use std::sync::ledger::Ledger;
 
 /// The slots of all resources that a job without ports may be given, whose user has this number, the best one first and each in
 /// the order of `best`. While the holders stay and no offer is taken back, the best resource is the first of the list that isn't
-/// offered. So one list serves all jobs of the same ad and of users with the same number, as the automatic clusters of HTCondor's
-/// negotiator do.
+/// offered. So one list serves all jobs of users with the same number that no ad tells apart, as the automatic clusters of
+/// HTCondor's negotiator do.
 ///
 /// It takes what `best` takes, and counts no more: each ad that is looked at is weighed once.
 pub fn shortlist<H: Holdings, F: Ledger, E: Ledger, T: Ledger>(
@@ -101,6 +102,7 @@ fn members_at<H: Holdings, F: Ledger, E: Ledger, T: Ledger>(
 {
     let mut found = Vec::new(alloc);
     let mut ranking = Ranking::unknown(alloc);
+    let mut looks = Looks::none();
     for place in places.as_slice() {
         let next = member_at(
             alloc,
@@ -112,6 +114,7 @@ fn members_at<H: Holdings, F: Ledger, E: Ledger, T: Ledger>(
             *place,
             None,
             &mut ranking,
+            &mut looks,
             tops,
             entry,
             touch,

@@ -1,4 +1,5 @@
 mod AddLemmas
+mod CompareLemmas
 pub mod ContainLemmas
 mod DockedLemmas
 mod EntryLemmas

@@ -110,7 +110,7 @@ module _ (ads : List (List Frame)) (fs gs res : List Frame) (marks : List Bool) 
 
   attributes-nested : (b p : ℕ) → parent_of fs b ≡ Some p → attributes_at fs b ≡ attributes_at gs b
   attributes-nested zero p parent = absurd (cc)
-  attributes-nested (suc f) p parent = twins.nested f
+  attributes-nested (suc f) p parent = twins.nested (suc f) (omega arith)
 
   lower : AreLower gs
   lower f parent is = ad.lower f parent (twins.parents f ∙ is)

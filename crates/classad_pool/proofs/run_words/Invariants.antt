@@ -1,10 +1,6 @@
+use Rattle.std.proofs.Common.{◌≡◌, map, take}
+use Rattle.notice_desk.specs.Sight.{entry_names}
 use Rattle.classad_pool.proofs.run_words.Given as goal
 
-abbrev pub ghosts-run_uncounted-F-Ledger : goal.ghosts-run_uncounted-F-Ledger
-ghosts-run_uncounted-F-Ledger a = record { name = a.tops.name; parts = a.tops.parts }
-
-abbrev pub ghosts-run_uncounted-T-Ledger : goal.ghosts-run_uncounted-T-Ledger
-ghosts-run_uncounted-T-Ledger a = record { name = a.touch.name; parts = a.touch.parts }
-
-abbrev pub ghosts-run_uncounted-E-Ledger : goal.ghosts-run_uncounted-E-Ledger
-ghosts-run_uncounted-E-Ledger a = record { name = a.entry.name; parts = a.entry.parts }
+abbrev pub invariant-loop-k : goal.invariant-loop-k
+invariant-loop-k l = entry_names l.desk.entries.items ≡ map (λ mail. mail.name) (take l.k l.asked.items)

@@ -9,6 +9,8 @@ negotiate  SIZE machines, half as many jobs of ten users with priorities; cycles
 gang       SIZE processors and licences; requests that want some of each
 claims     SIZE machines that change hands: claims, preemption, releases, ads advertised anew
 classes    SIZE jobs in 40 classes, each with a number of its own, over some machines
+twins      as many jobs as machines, of ten kinds, each with a number and a time of its own; no test narrows; one cycle
+batches    the same without numbers and times, so that the ads of a kind are equal
 generate   the script that the program runs with the words `--generate SIZE`, for any size
 """
 import random
@@ -145,6 +147,26 @@ def classes(dice, size):
         yield "classes\n"
 
 
+def of_ten_kinds(dice, size, own):
+    yield from machines(dice, size)
+    for j in range(size):
+        kind = dice.randrange(10)
+        number = f"Number = {j}; Began = {1700000000 + 13 * j}; " if own else ""
+        yield with_block(
+            f"submit j{j} {USERS[kind]}",
+            f'[ {number}Owner = "{USERS[kind]}"; Size = {1 + kind}; Worth = {kind % 3}; Requirements = TARGET.Speed * 10 >= {kind * 370}; Rank = TARGET.Speed + TARGET.Memory / 64 ]',
+        )
+    yield "negotiate\n"
+
+
+def twins(dice, size):
+    return of_ten_kinds(dice, size, True)
+
+
+def batches(dice, size):
+    return of_ten_kinds(dice, size, False)
+
+
 def generate(dice, size):
     for i in range(size):
         yield with_block(
@@ -171,6 +193,8 @@ KINDS = {
     "gang": gang,
     "claims": claims,
     "classes": classes,
+    "twins": twins,
+    "batches": batches,
     "generate": generate,
 }
 

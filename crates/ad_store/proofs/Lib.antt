@@ -4,3 +4,4 @@ pub mod ChangeLemmas
 pub mod EnterLemmas
 pub mod ReplaceLemmas
 pub mod SlotLemmas
+pub mod EndLemmas

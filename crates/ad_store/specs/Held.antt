@@ -1,5 +1,5 @@
 -- How the ads lie in memory: names in order, each with a slot, and a table that has an entry at each slot.
-use Rattle.std.specs.Prelude.{◌≡◌, ℕ, Bool, true, false, not, ◌&&◌, ◌==◌, List, [], ◌∷◌, ◌++◌, map, Option, None, Some, Vec, bytes_eq}
+use Rattle.std.specs.Prelude.{◌≡◌, ℕ, ◌+◌, Bool, true, false, not, ◌&&◌, ◌==◌, List, [], ◌∷◌, ◌++◌, map, Option, None, Some, Vec, bytes_eq}
 use Rattle.std.specs.declared.alloc.Global.{Global}
 use Rattle.std.specs.List.{list_any}
 use Rattle.std.specs.Option.{option_map_or}
@@ -18,6 +18,10 @@ advert_of name entry = record {
   size = option_map_or (λ e. e.content.size) entry 0;
   ad = option_map_or (λ e. ad_frames e.content.ad) entry [];
 }
+
+-- when an entry's lifetime ends
+abbrev pub end_of : Option Entry → ℕ
+end_of entry = (advert_of [] entry).born + (advert_of [] entry).lifetime
 
 -- a content under a name
 abbrev pub named_content : List ℕ → Content → Advert

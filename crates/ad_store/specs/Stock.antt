@@ -1,5 +1,5 @@
 -- The ads that are held, as contracts see them, and the rules for them.
-use Rattle.std.specs.Prelude.{ℕ, ◌+◌, Bool, not, ◌&&◌, nat_le, nat_lt, List, [], ◌∷◌, length, sum_by, Option, None, Some, bytes_eq, if◌then◌else◌}
+use Rattle.std.specs.Prelude.{ℕ, ◌+◌, ◌≤◌, Bool, not, ◌&&◌, nat_le, nat_lt, List, [], ◌∷◌, All, length, sum_by, Option, None, Some, bytes_eq, if◌then◌else◌}
 use Rattle.std.specs.List.{list_any}
 use Rattle.ad_tree.specs.Frames.{Frame}
 use Rattle.ad_store.specs.declared.answers.PutFault.{PutFault}
@@ -58,6 +58,10 @@ is_live now advert = nat_lt now (advert.born + advert.lifetime)
 -- the slot of the first ad that isn't live
 abbrev pub first_expired : ℕ → Stock → Option ℕ
 first_expired now stock = slot_beside (λ advert. not (is_live now advert)) stock.ads stock.slots
+
+-- no ad's lifetime ends before this moment
+abbrev pub EndFrom : ℕ → List Advert → Type 0
+EndFrom moment ads = All (λ advert. moment ≤ advert.born + advert.lifetime) ads
 
 -- ---- limits
 

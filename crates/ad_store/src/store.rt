@@ -1,12 +1,12 @@
 // The store: names in order, each with a slot, and the ads in a table of slots.
-ghost use Rattle.std.specs.Prelude.{◌≡◌, ◌+◌, ◌≤◌, ℕ, [], true, false, not, filter, find, nat_lt, ◌<◌, length, slice_get, option_map, bytes_eq, IsTrue, IfErr, IfNone, IfOk, IfSome, None, OnErr, OnOk, Some, Contains};
+ghost use Rattle.std.specs.Prelude.{◌≡◌, ◌+◌, ◌≤◌, ℕ, [], true, false, not, filter, find, nat_lt, ◌<◌, All, length, slice_get, option_map, bytes_eq, IsTrue, IfErr, IfNone, IfOk, IfSome, None, OnErr, OnOk, Some, Contains};
 ghost use Rattle.std.specs.Option.{option_map_or};
 ghost use Rattle.indexmap.specs.IndexMap.{get_by};
 ghost use Rattle.slab.specs.Slab.{ContainsKey, Updates, get};
 ghost use Rattle.ad_tree.specs.Ad.{ad_frames};
 ghost use Rattle.ad_store.specs.Answers.{IsCause, is_added, slot_put, slots_put};
-ghost use Rattle.ad_store.specs.Held.{IsEntered, advert_of, adverts, are_held, named_content};
-ghost use Rattle.ad_store.specs.Stock.{ads_limit, is_live, text_held, text_limit};
+ghost use Rattle.ad_store.specs.Held.{IsEntered, advert_of, adverts, end_of, are_held, named_content};
+ghost use Rattle.ad_store.specs.Stock.{EndFrom, ads_limit, is_live, text_held, text_limit};
 
 use crate::entry::{Content, Entry};
 use crate::{NoName, Put, PutFault};
@@ -32,10 +32,13 @@ pub struct Store {
     names: IndexMap<Vec<u8>, usize>,
     table: Slab<Entry>,
     text: u64,
+    // No lifetime ends before it, so that a moment before it expires nothing.
+    soonest: u64,
     ghost held: { IsTrue (are_held table names.entries) },
     ghost counted: { text ≡ text_held (adverts table names.entries) },
     ghost within: { text ≤ text_limit },
     ghost few: { length names.entries ≤ ads_limit },
+    ghost due: { EndFrom soonest (adverts table names.entries) },
 }
 
 impl Store {
@@ -51,6 +54,7 @@ impl Store {
             names: IndexMap::new(alloc),
             table: Slab::new(alloc),
             text: 0,
+            soonest: u64::MAX,
         }
     }
 
@@ -91,6 +95,7 @@ impl Store {
         }
         renew(&mut self.table, slot, content);
         self.text = others + text_len;
+        self.soonest = self.soonest.min(born.saturating_add(lifetime));
         Ok(Put::Replaced(slot))
     }
 
@@ -109,6 +114,7 @@ impl Store {
             return Err(PutFault::Full);
         }
         let size = content.size;
+        let end = content.born.saturating_add(content.lifetime);
         if self.text.saturating_add(size) > TEXT_LIMIT {
             return Err(PutFault::FullText);
         }
@@ -116,6 +122,7 @@ impl Store {
             return Err(PutFault::OutOfMemory);
         };
         self.text += size;
+        self.soonest = self.soonest.min(end);
         Ok(Put::Added(slot))
     }
 
@@ -199,7 +206,21 @@ impl Store {
         ensures held { IfSome result (Contains (stock_of self.now).slots) }
         ensures all_live { IfNone result (filter (is_live now) (stock_of self.now).ads ≡ (stock_of self.now).ads) }
     {
+        if now < self.soonest {
+            return None;
+        }
         first_expired(&self.table, self.names.values().as_slice(), now)
+    }
+
+    /// Takes note of when the next ad expires, for a moment at which none is left to expire: `next_expired` goes through no ad
+    /// before then.
+    pub fn note_soonest(&mut self, now: u64)
+        ensures { stock_of self.new ≡ stock_of self.old }
+    {
+        if now < self.soonest {
+            return;
+        }
+        self.soonest = soonest_end(&self.table, self.names.values().as_slice());
     }
 
     // What lies in a slot.
@@ -237,6 +258,15 @@ impl Store {
             → option_map (λ a. a.lifetime) (slice_get (stock_of self.now).ads i) ≡ Some result }
     {
         self.entry(slot).content.lifetime
+    }
+
+    /// Whether the ad in this slot is live at a moment, in seconds: the moment is before its birth plus its lifetime.
+    pub fn is_live(&self, slot: usize, now: u64) -> bool
+        requires { Contains (stock_of self.now).slots slot }
+        ensures { (i : ℕ) → slice_get (stock_of self.now).slots i ≡ Some slot
+            → option_map (is_live now) (slice_get (stock_of self.now).ads i) ≡ Some result }
+    {
+        is_within(now, self.born(slot), self.lifetime(slot))
     }
 
     /// The ad in this slot. Counts one in `touch`.
@@ -281,6 +311,27 @@ fn first_expired(table: &Slab<Entry>, slots: &[usize], now: u64) -> Option<usize
         .iter()
         .copied()
         .find(|slot| !is_live_at(table, *slot, now))
+}
+
+// A moment before which no ad in these slots ends its lifetime.
+fn soonest_end(table: &Slab<Entry>, slots: &[usize]) -> u64
+    ensures { All (λ slot. result ≤ end_of (get table.now slot)) slots.now }
+{
+    let mut soonest = u64::MAX;
+    for k in 0..slots.len() {
+        soonest = soonest.min(end_at(table, slots[k]));
+    }
+    soonest
+}
+
+// When the ad in this slot ends its lifetime, or the last moment that 64 bits hold, where that is sooner.
+fn end_at(table: &Slab<Entry>, slot: usize) -> u64
+    ensures { result ≤ end_of (get table.now slot) }
+{
+    match table.get(slot) {
+        Some(entry) => entry.content.born.saturating_add(entry.content.lifetime),
+        None => 0,
+    }
 }
 
 // Whether the ad in this slot is live.

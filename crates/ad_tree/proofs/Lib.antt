@@ -1,5 +1,6 @@
 pub mod AdLemmas
 pub mod AttributeLemmas
+mod DifferLemmas
 mod DraftLemmas
 pub mod FinishLemmas
 mod FrameLemmas
@@ -10,6 +11,7 @@ mod OrderLemmas
 mod PlaceLemmas
 pub mod PlacedLemmas
 pub mod ReadLemmas
+mod SameLemmas
 pub mod SpellingLemmas
 pub mod TreeLemmas
 mod WalkLemmas

@@ -1,4 +1,5 @@
 pub mod Ad
+pub mod Alike
 pub mod Attributes
 pub mod Digests
 pub mod Draft

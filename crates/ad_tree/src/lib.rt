@@ -2,6 +2,7 @@
 #![tactic(auto)]
 
 mod ad;
+mod alike;
 mod attribute;
 mod attributes;
 mod draft;
@@ -9,6 +10,7 @@ mod frame;
 mod indexed;
 mod laws;
 mod list;
+mod literal;
 mod order;
 mod phrase;
 mod places;
@@ -18,6 +20,7 @@ mod table;
 mod tree;
 
 pub use ad::Ad;
+pub use alike::{are_alike, same_attributes, same_expr};
 pub use draft::Draft;
 pub use laws::{
     a_definition_stands_at_its_first_place, ad_is_spelled_level_by_level, ad_is_well_formed,
@@ -26,6 +29,7 @@ pub use laws::{
     frames_stand_in_the_order_of_their_brackets, scopes_are_equal, settling_ends_with_names_apart,
     spelled_trees_have_ads,
 };
+pub use literal::{copy_literal, same_literal};
 pub use phrase::Phrase;
 pub use request::{Port, Ports, Request};
 pub use tree::{Expr, Exprs, Scope};

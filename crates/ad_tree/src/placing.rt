@@ -9,8 +9,9 @@ ghost use Rattle.ad_tree.specs.Table.{frame_of};
 ghost use Rattle.ad_tree.specs.Draft.{draft_frames};
 
 use crate::frame::AdFrame;
+use crate::literal::copy_literal;
 use crate::{Draft, Expr, Exprs};
-use pool_text::{Lit, OutOfMemory};
+use pool_text::OutOfMemory;
 
 /// A copy of an expression that stands in the frame `parent`, with the frames of its ad literals put behind those of `out`.
 #[cycle(placing)]
@@ -175,17 +176,4 @@ pub fn place_definitions(
         out.define(at, name, expr)?;
     }
     Ok(())
-}
-
-fn copy_literal(literal: &Lit) -> Result<Lit, OutOfMemory>
-    ensures { IfOk result (λ copy. copy ≡ literal.now) }
-{
-    Ok(match literal {
-        Lit::Undefined => Lit::Undefined,
-        Lit::Error => Lit::Error,
-        Lit::Boolean(b) => Lit::Boolean(*b),
-        Lit::Integer(n) => Lit::Integer(*n),
-        Lit::Decimal(millionths) => Lit::Decimal(*millionths),
-        Lit::Str(text) => Lit::Str(text.copy()?),
-    })
 }

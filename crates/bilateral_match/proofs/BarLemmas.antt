@@ -4,12 +4,13 @@ use Rattle.std.specs.Option.{option_and_then}
 use Rattle.std.specs.Ordering.{int_cmp, is_lt, nat_cmp, ordering_then}
 use Rattle.ad_tree.specs.Frames.{Frame}
 use Rattle.ad_store.specs.Stock.{Advert, is_live}
+use Rattle.dock_match.specs.declared.preemption.Preemption.{Preemption}
+use Rattle.dock_match.specs.Docks.{docks, rank_of_dock}
+use Rattle.dock_match.specs.Preemption.{order_of}
+use Rattle.dock_match.specs.Pool.{Pool}
 use Rattle.bilateral_match.specs.declared.member.Member.{Member}
-use Rattle.bilateral_match.specs.declared.member.Preemption.{Preemption}
 use Rattle.bilateral_match.specs.declared.member.Ranks.{Ranks}
-use Rattle.bilateral_match.specs.Docks.{docks, rank_of_dock}
-use Rattle.bilateral_match.specs.Members.{as_member, earlier, is_won, member_with, order_of, regard}
-use Rattle.bilateral_match.specs.Pool.{Pool}
+use Rattle.bilateral_match.specs.Members.{as_member, earlier, is_won, member_with, regard}
 use Rattle.bilateral_match.specs.Scan.{member_above, ranks_above, ranks_of_dock, reaches, where_won}
 
 -- without a bar all members are there

@@ -4,13 +4,14 @@ use Rattle.std.specs.List.{cons_option}
 use Rattle.std.proofs.lemmas.List.Elements.{All-head, All-tail}
 use Rattle.ad_tree.specs.Frames.{Frame}
 use Rattle.ad_store.specs.Stock.{Advert, is_live}
+use Rattle.dock_match.specs.Docks.{docks, rank_of_dock}
+use Rattle.dock_match.specs.Preemption.{is_yielded, preemption_of}
+use Rattle.dock_match.specs.Pool.{Pool}
 use Rattle.bilateral_match.specs.declared.hit.Match.{Match}
 use Rattle.bilateral_match.specs.declared.member.Member.{Member}
 use Rattle.bilateral_match.specs.Answers.{answers, arranged, match_with, matches_from}
 use Rattle.bilateral_match.specs.DockedAlike.{AllDockAlike, AreDockedAlike}
-use Rattle.bilateral_match.specs.Docks.{docks, rank_of_dock}
-use Rattle.bilateral_match.specs.Members.{best, first_of, is_yielded, member_with, members_from, preemption_of, regard}
-use Rattle.bilateral_match.specs.Pool.{Pool}
+use Rattle.bilateral_match.specs.Members.{best, first_of, member_with, members_from, regard}
 
 -- ---- answers
 

@@ -19,12 +19,12 @@ use Rattle.eval_scope.specs.World.{PlainWorld, expr_of, frame_of_attribute}
 use Rattle.ad_eval.specs.Dock.{attribute_of, rank_number}
 use Rattle.ad_eval.specs.Node.{named, node_value}
 use Rattle.ad_eval.specs.Value.{evaluation_at, results_by, value_at, value_by}
-use Rattle.bilateral_match.specs.Docks.{pair_world, rank_of_dock}
+use Rattle.dock_match.specs.Docks.{pair_world, rank_of_dock}
+use Rattle.dock_match.specs.Pool.{Pool}
+use Rattle.dock_match.proofs.FindLemmas.{finds-alone, named-counted}
 use Rattle.bilateral_match.specs.Known.{AreRanks, are_settled, is_known_below, is_rank_settled, is_settled, is_settled_label, known_at, rank_expr}
 use Rattle.bilateral_match.specs.Members.{as_member, is_member, member_with}
-use Rattle.bilateral_match.specs.Pool.{Pool}
 use Rattle.bilateral_match.specs.Scan.{member_above, member_at, reaches}
-use Rattle.bilateral_match.proofs.FindLemmas.{finds-alone, named-counted}
 
 both-true : (b c : Bool) → (b && c) ≡ true → (b ≡ true) × (c ≡ true)
 both-true true c e = (refl, e)

@@ -8,9 +8,10 @@ use Rattle.std.proofs.lemmas.Cmp.{back_total, int_cmp_total, int_ranked, nat_cmp
 use Rattle.std.proofs.lemmas.List.Elements.{All-append, All-cons, All-contains, All-nil, All-push, All-tail, Contains-append_left, Contains-push}
 use Rattle.std.proofs.lemmas.List.Sorted.{ranks_by}
 use Rattle.std.proofs.lemmas.List.Sums.{sum_by-cons}
+use Rattle.dock_match.specs.declared.preemption.Preemption.{Preemption}
+use Rattle.dock_match.specs.Preemption.{order_of}
 use Rattle.bilateral_match.specs.declared.member.Member.{Member}
-use Rattle.bilateral_match.specs.declared.member.Preemption.{Preemption}
-use Rattle.bilateral_match.specs.Members.{IsBest, IsFirst, earlier, first_of, member_order, order_of}
+use Rattle.bilateral_match.specs.Members.{IsBest, IsFirst, earlier, first_of, member_order}
 
 -- ---- the order
 

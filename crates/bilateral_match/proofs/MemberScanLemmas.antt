@@ -6,12 +6,12 @@ use Rattle.std.proofs.lemmas.List.Elements.{All-cons, All-contains, All-nil, All
 use Rattle.std.proofs.lemmas.List.Sums.{sum_by-cons}
 use Rattle.ad_tree.specs.Frames.{Frame}
 use Rattle.ad_store.specs.Stock.{Advert, Stock, is_live}
+use Rattle.ad_candidates.specs.Candidates.{AreCandidates}
+use Rattle.dock_match.specs.Docks.{docks, is_undecided}
+use Rattle.dock_match.specs.Pool.{Pool, slot_at}
 use Rattle.bilateral_match.specs.declared.member.Member.{Member}
-use Rattle.bilateral_match.specs.Candidates.{AreCandidates}
 use Rattle.bilateral_match.specs.Counts.{attributes_weighed, entered_for, is_open, open_count, sum_from}
-use Rattle.bilateral_match.specs.Docks.{docks, is_undecided}
 use Rattle.bilateral_match.specs.Members.{IsBest, as_member, best, earlier, first_of, is_won, member_with, members, members_from}
-use Rattle.bilateral_match.specs.Pool.{Pool, slot_at}
 use Rattle.bilateral_match.specs.Scan.{attributes_for, evaluations_for, member_at}
 use Rattle.bilateral_match.proofs.LoopLemmas.{finds-all, finds-next}
 use Rattle.bilateral_match.proofs.MemberLemmas.{first-is-best, first-next, one-first}

@@ -4,11 +4,11 @@ use Rattle.std.specs.List.{cons_option}
 use Rattle.std.specs.Ordering.{is_lt}
 use Rattle.ad_tree.specs.Frames.{Frame}
 use Rattle.ad_store.specs.Stock.{Advert, is_live}
+use Rattle.dock_match.specs.Docks.{docks, is_undecided}
+use Rattle.dock_match.specs.Pool.{Pool}
 use Rattle.bilateral_match.specs.declared.member.Member.{Member}
 use Rattle.bilateral_match.specs.Counts.{attributes_weighed, entered_for, is_open, open_count, sum_from}
-use Rattle.bilateral_match.specs.Docks.{docks, is_undecided}
 use Rattle.bilateral_match.specs.Members.{as_member, best, earlier, first_of, is_won, member_order, member_with, members, members_from}
-use Rattle.bilateral_match.specs.Pool.{Pool}
 
 -- ---- Booleans
 

@@ -3,11 +3,12 @@ use Rattle.std.proofs.Common.{◌≡◌, ◌<◌, ◌+◌, ℕ, suc, Bool, not, 
 use Rattle.std.specs.List.{cons_option}
 use Rattle.ad_tree.specs.Frames.{Frame}
 use Rattle.ad_store.specs.Stock.{Advert, is_live}
+use Rattle.dock_match.specs.Docks.{docks, is_undecided, rank_of_dock}
+use Rattle.dock_match.specs.Preemption.{is_yielded, preemption_of}
+use Rattle.dock_match.specs.Pool.{Hold, Pool}
 use Rattle.bilateral_match.specs.declared.member.Member.{Member}
 use Rattle.bilateral_match.specs.Counts.{is_open, open_count, sum_from}
-use Rattle.bilateral_match.specs.Docks.{docks, is_undecided, rank_of_dock}
-use Rattle.bilateral_match.specs.Members.{best, first_of, is_yielded, member_with, members_from, preemption_of, regard}
-use Rattle.bilateral_match.specs.Pool.{Hold, Pool}
+use Rattle.bilateral_match.specs.Members.{best, first_of, member_with, members_from, regard}
 
 at-front : (k : ℕ) → k + 0 ≡ k
 at-front k = omega arith

@@ -10,13 +10,13 @@ use Rattle.std.proofs.lemmas.List.Sums.{sum_by-cons}
 use Rattle.ad_tree.specs.Frames.{Frame}
 use Rattle.ad_store.specs.Stock.{Advert}
 use Rattle.eval_scope.specs.World.{attribute_count}
+use Rattle.ad_candidates.specs.Candidates.{AreCandidates, places_where}
+use Rattle.dock_match.specs.Docks.{docks, is_undecided, pair_world, rank_of_dock, ranked}
+use Rattle.dock_match.proofs.DecidedLemmas.{not-docked}
 use Rattle.bilateral_match.specs.declared.hit.Match.{Match}
 use Rattle.bilateral_match.specs.Answers.{answers, match_order, match_with, matches_from}
-use Rattle.bilateral_match.specs.Candidates.{AreCandidates, places_where}
 use Rattle.bilateral_match.specs.Counts.{attributes_most, entered_most, evaluations_most, sum_from, undecided_count}
-use Rattle.bilateral_match.specs.Docks.{docks, is_undecided, pair_world, rank_of_dock, ranked}
 use Rattle.bilateral_match.specs.Scan.{attributes_at, evaluations_at, match_at}
-use Rattle.bilateral_match.proofs.DecidedLemmas.{not-docked}
 use Rattle.bilateral_match.proofs.OrderLemmas.{arranged-in-order, arranged-permutation, in-order-from, one-order}
 
 -- ---- a decided dock is not among the matches

@@ -11,11 +11,11 @@ use Rattle.std.proofs.lemmas.List.Sums.{sum_by-cons}
 use Rattle.ad_tree.specs.Frames.{Frame}
 use Rattle.ad_store.specs.Holdings.{Holding}
 use Rattle.ad_store.specs.Stock.{Advert, Stock, is_live}
+use Rattle.ad_candidates.specs.Candidates.{AreCandidates}
+use Rattle.dock_match.specs.Docks.{docks}
+use Rattle.dock_match.specs.Pool.{Pool, pool_of, slot_at}
 use Rattle.bilateral_match.specs.declared.member.Member.{Member}
-use Rattle.bilateral_match.specs.Candidates.{AreCandidates}
-use Rattle.bilateral_match.specs.Docks.{docks}
 use Rattle.bilateral_match.specs.Members.{IsBest, as_member, best, first_of, is_won, member_order, members, members_from}
-use Rattle.bilateral_match.specs.Pool.{Pool, pool_of, slot_at}
 use Rattle.bilateral_match.specs.Scan.{member_at}
 use Rattle.bilateral_match.specs.Shortlists.{IsShortlist, first_left}
 use Rattle.bilateral_match.proofs.MemberLemmas.{NotBefore, first-is-best, member_weak, not-before-itself, one-first}

@@ -1,15 +1,15 @@
 -- What one dock is worth, and what it takes.
-use Rattle.std.proofs.Common.{◌≡◌, ◌*◌, ℕ, ℤ, Bool, true, false, not, List, [], ◌∷◌, Option, None, Some, option_map, if◌then◌else◌, ap, sym, ◌∙◌}
+use Rattle.std.proofs.Common.{◌≡◌, ◌≤◌, ◌+◌, ◌*◌, ℕ, ℤ, Bool, true, false, not, List, [], ◌∷◌, Option, None, Some, option_map, if◌then◌else◌, ap, sym, ◌∙◌}
 use Rattle.std.specs.Option.{option_and_then, option_map_or}
 use Rattle.ad_tree.specs.declared.request.Port.{Port}
 use Rattle.ad_tree.specs.Frames.{Frame}
 use Rattle.ad_store.specs.Stock.{Advert}
 use Rattle.eval_scope.specs.World.{PlainWorld, attribute_count, with_docked}
 use Rattle.conjunct_plan.specs.Decided.{is_dock_decided}
+use Rattle.dock_match.specs.Docks.{pair_world, rank_of_dock, ranked}
 use Rattle.bilateral_match.specs.declared.hit.Match.{Match}
 use Rattle.bilateral_match.specs.Answers.{match_with}
 use Rattle.bilateral_match.specs.Counts.{attributes_most, evaluations_most}
-use Rattle.bilateral_match.specs.Docks.{pair_world, rank_of_dock, ranked}
 use Rattle.bilateral_match.proofs.ScanLemmas.{decided-docks}
 
 module _ (moment : ℕ) (request ad : List Frame) where
@@ -50,3 +50,10 @@ module _ (fs : List Frame) where
   pub number-there : (f : List Frame → ℕ) (o : Option Advert) → option_map (λ a. a.ad) o ≡ Some fs → option_map_or (λ (a : Advert). f a.ad) o 0 ≡ f fs
   number-there f None is = absurd (cc)
   number-there f (Some a) is = let same : a.ad ≡ fs = cc in ap f same
+
+-- ---- what is counted
+
+-- what is counted where a dock isn't decided
+pub most-left : (decided : Bool) (n before after : ℕ) → decided ≡ false → after ≤ before + n → after ≤ before + (if not decided then n else 0)
+most-left true n before after e most = absurd (cc)
+most-left false n before after e most = most

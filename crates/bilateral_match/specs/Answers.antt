@@ -6,9 +6,9 @@ use Rattle.std.specs.List.{cons_option}
 use Rattle.std.specs.List.Sorted.{IsPermutation, IsSorted}
 use Rattle.ad_tree.specs.Frames.{Frame}
 use Rattle.ad_store.specs.Stock.{Advert}
+use Rattle.dock_match.specs.Docks.{ranked}
 use Rattle.bilateral_match.specs.declared.hit.Hit.{Hit}
 use Rattle.bilateral_match.specs.declared.hit.Match.{Match}
-use Rattle.bilateral_match.specs.Docks.{ranked}
 
 -- ---- all ads that dock
 

@@ -1,13 +1,11 @@
--- How often a query, and the choice of a resource for a job, may look at an ad and evaluate.
-use Rattle.std.specs.Prelude.{ℕ, suc, ◌+◌, ◌*◌, Bool, not, ◌&&◌, List, [], ◌∷◌, length, min, count_by, fold, sum_by, if◌then◌else◌}
+-- How many evaluations a query, and the choice of a resource for a job, may take, and how many attributes these may enter.
+use Rattle.std.specs.Prelude.{ℕ, suc, ◌+◌, ◌*◌, Bool, not, ◌&&◌, List, [], ◌∷◌, count_by, sum_by, if◌then◌else◌}
 use Rattle.std.specs.Option.{option_map_or}
 use Rattle.ad_tree.specs.Frames.{Frame}
 use Rattle.ad_store.specs.Stock.{Advert}
-use Rattle.conjunct_plan.specs.declared.test.Test.{Test}
-use Rattle.conjunct_plan.specs.Decided.{is_decided}
 use Rattle.eval_scope.specs.World.{attribute_count}
-use Rattle.bilateral_match.specs.Docks.{is_undecided, pair_world}
-use Rattle.bilateral_match.specs.Pool.{Pool}
+use Rattle.dock_match.specs.Docks.{is_undecided, pair_world}
+use Rattle.dock_match.specs.Pool.{Pool}
 
 -- a dock that isn't decided takes three evaluations at most: the requirements of both sides, and the rank
 abbrev pub evaluations_most : List Frame → List Frame → ℕ
@@ -20,18 +18,6 @@ attributes_most moment request ad = evaluations_most request ad * attribute_coun
 -- how many ads have an undecided dock with the request
 abbrev pub undecided_count : List Frame → List Advert → ℕ
 undecided_count request ads = count_by (λ advert. is_undecided request advert.ad) ads
-
--- how many ads a test leaves: those whose root doesn't decide against it
-abbrev pub left_by : List Advert → Test → ℕ
-left_by ads test = count_by (λ advert. not (is_decided test advert.ad 0)) ads
-
--- the least number of ads that one of the tests leaves, or the most that is asked for where it is more
-abbrev pub least_within : ℕ → List Advert → List Test → ℕ
-least_within most ads tests = fold (λ least test. min least (left_by ads test)) most tests
-
--- the least number of ads that one of the tests leaves; all ads where there is no test
-abbrev pub least_left : List Advert → List Test → ℕ
-least_left ads tests = least_within (length ads) ads tests
 
 -- how many attributes may be entered in the docks with all ads
 abbrev pub entered_most : ℕ → List Frame → List Advert → ℕ

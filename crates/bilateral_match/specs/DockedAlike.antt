@@ -2,7 +2,7 @@
 use Rattle.std.specs.Prelude.{◌≡◌, ℕ, List, All}
 use Rattle.ad_tree.specs.Frames.{Frame}
 use Rattle.ad_store.specs.Stock.{Advert}
-use Rattle.bilateral_match.specs.Docks.{docks, rank_of_dock}
+use Rattle.dock_match.specs.Docks.{docks, rank_of_dock}
 use Rattle.bilateral_match.specs.Members.{regard}
 
 -- an ad docks with both requests or with neither, both give it the same rank, and it gives both the same

@@ -8,9 +8,9 @@ use Rattle.ad_tree.specs.Frames.{Frame}
 use Rattle.ad_tree.specs.Tree.{Label, Tree, Trees, all, any, binary, choice, frame, literal, more, name, node, none, unary}
 use Rattle.ad_store.specs.Stock.{Advert}
 use Rattle.conjunct_plan.specs.Decided.{counted}
+use Rattle.ad_candidates.specs.KnownTests.{AreTestsKnown}
+use Rattle.dock_match.specs.Docks.{rank_of_dock}
 use Rattle.bilateral_match.specs.declared.known.Known.{Known}
-use Rattle.bilateral_match.specs.Docks.{rank_of_dock}
-use Rattle.bilateral_match.specs.KnownTests.{AreTestsKnown}
 use Rattle.bilateral_match.specs.Scan.{reaches}
 
 -- the expression of a request's rank, if it has one

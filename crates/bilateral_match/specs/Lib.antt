@@ -1,15 +1,7 @@
-pub mod Alike
 pub mod Answers
-pub mod Candidates
 pub mod Counts
 pub mod DockedAlike
-pub mod Docks
 pub mod Known
-pub mod KnownTests
 pub mod Members
-pub mod Pool
-pub mod Rows
 pub mod Scan
 pub mod Shortlists
-pub mod Sides
-pub mod Small

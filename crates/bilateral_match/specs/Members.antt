@@ -1,35 +1,20 @@
 -- The members for a single job: the resources that it may be given. The best of them.
-use Rattle.std.specs.Prelude.{◌≡◌, ℕ, ℤ, suc, ◌*◌, Bool, false, true, not, ◌&&◌, int_lt, nat_le, List, [], ◌∷◌, Option, None, Some, option_map, All, Contains, if◌then◌else◌}
+use Rattle.std.specs.Prelude.{◌≡◌, ℕ, ℤ, suc, Bool, false, not, ◌&&◌, List, [], ◌∷◌, Option, None, Some, option_map, All, Contains, if◌then◌else◌}
 use Rattle.std.specs.List.{cons_option}
-use Rattle.std.specs.Option.{option_map_or}
-use Rattle.std.specs.Ordering.{int_cmp, is_lt, match_ordering, nat_cmp, ordering_then}
+use Rattle.std.specs.Ordering.{int_cmp, is_lt, nat_cmp, ordering_then}
 use Rattle.std.specs.declared.cmp.Ordering.{Ordering}
 use Rattle.ad_tree.specs.Frames.{Frame}
 use Rattle.ad_store.specs.Stock.{Advert, Stock, is_live}
+use Rattle.dock_match.specs.Docks.{docks, pair_world, rank_of_dock}
+use Rattle.dock_match.specs.Pool.{Pool, regard_in, slot_at}
+use Rattle.dock_match.specs.Preemption.{is_yielded, order_of, preemption_of}
 use Rattle.bilateral_match.specs.declared.member.Member.{Member}
-use Rattle.bilateral_match.specs.declared.member.Preemption.{Preemption}
-use Rattle.bilateral_match.specs.Docks.{docks, pair_world, rank_of_dock}
-use Rattle.bilateral_match.specs.Pool.{Hold, Pool, regard_in, slot_at}
 
 -- ---- members
 
 -- the rank that a resource gives the job
 abbrev pub regard : ℕ → List Frame → List Frame → ℤ
 regard moment request ad = regard_in (pair_world moment request ad)
-
--- a resource that ranks a job so is taken from its holder: it ranks the holder strictly lower, or equal where the holder's user
--- has at least twice the number of the job's
-abbrev pub is_taken : ℕ → ℤ → Hold → Bool
-is_taken number regard hold = match_ordering (int_cmp (regard_in hold.world) regard) true (nat_le (2 * number) hold.number) false
-
--- it is yielded to the job: it is unclaimed, or it is taken from its holder
-abbrev pub is_yielded : ℕ → ℤ → Option Hold → Bool
-is_yielded number regard hold = option_map_or (is_taken number regard) hold true
-
--- whether a resource that is yielded to a job, which it ranks so, is taken from a holder, and why: by the resource's rank, or by the users' priorities
-abbrev pub preemption_of : ℤ → Option Hold → Preemption
-preemption_of regard None = Preemption.No
-preemption_of regard (Some hold) = if int_lt (regard_in hold.world) regard then Preemption.ByRank else Preemption.ByPriority
 
 -- the resource at a place is yielded to the job, whose user has this number
 abbrev pub is_won : Pool → List Frame → ℕ → ℕ → List Frame → Bool
@@ -64,12 +49,6 @@ abbrev pub members : Pool → List Frame → ℕ → List Member
 members pool request number = members_from pool request number 0 pool.ads
 
 -- ---- their order
-
--- a resource that is unclaimed comes first, then one that is taken by its rank, then one that is taken by priority
-abbrev pub order_of : Preemption → ℕ
-order_of Preemption.No = 0
-order_of Preemption.ByRank = 1
-order_of Preemption.ByPriority = 2
 
 -- by the job's rank falling, then by how the resource is taken, then by the resource's rank of the job falling, then by place rising
 abbrev pub member_order : Member → Member → Ordering

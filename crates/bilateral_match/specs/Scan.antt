@@ -1,20 +1,19 @@
 -- The ads at places, as a query goes through them.
-use Rattle.std.specs.Prelude.{ℕ, ℤ, ◌*◌, Bool, true, not, int_lt, nat_le, List, Option, None, Some, option_map, slice_get, if◌then◌else◌}
+use Rattle.std.specs.Prelude.{ℕ, ℤ, Bool, true, not, int_lt, List, Option, None, Some, option_map, slice_get, if◌then◌else◌}
 use Rattle.std.specs.Option.{option_and_then, option_map_or}
-use Rattle.std.specs.Ordering.{int_cmp, match_ordering}
 use Rattle.ad_tree.specs.Frames.{Frame}
 use Rattle.ad_store.specs.Stock.{Advert}
 use Rattle.eval_scope.specs.World.{PlainWorld, request_side, resource_side}
 use Rattle.ad_eval.specs.Dock.{is_docked, rank_by}
+use Rattle.dock_match.specs.declared.preemption.Preemption.{Preemption}
+use Rattle.dock_match.specs.Docks.{docks, rank_of_dock}
+use Rattle.dock_match.specs.Pool.{Pool}
 use Rattle.bilateral_match.specs.declared.hit.Match.{Match}
 use Rattle.bilateral_match.specs.Answers.{match_with}
 use Rattle.bilateral_match.specs.declared.member.Member.{Member}
-use Rattle.bilateral_match.specs.declared.member.Preemption.{Preemption}
 use Rattle.bilateral_match.specs.declared.member.Ranks.{Ranks}
 use Rattle.bilateral_match.specs.Counts.{attributes_most, attributes_weighed, evaluations_most, is_open}
-use Rattle.bilateral_match.specs.Docks.{docks, rank_of_dock}
-use Rattle.bilateral_match.specs.Members.{is_yielded, member_with, preemption_of, regard}
-use Rattle.bilateral_match.specs.Pool.{Hold, Pool}
+use Rattle.bilateral_match.specs.Members.{member_with, regard}
 
 -- the match with the ad at a place
 abbrev pub match_at : ℕ → List Frame → List Advert → ℕ → Option Match
@@ -36,15 +35,6 @@ ranks_in w = if is_docked w then Some (record { rank = rank_by w (request_side w
 -- what the sides rank each other where they dock
 abbrev pub ranks_of_dock : ℕ → List Frame → List Frame → Option Ranks
 ranks_of_dock moment request ad = if docks moment request ad then Some (record { rank = rank_of_dock moment request ad; regard = regard moment request ad }) else None
-
--- how a resource is taken, where it is yielded to a job of a user with this number, which it ranks so
-abbrev pub won_from : ℕ → ℤ → Option Hold → Option Preemption
-won_from number regard hold = if is_yielded number regard hold then Some (preemption_of regard hold) else None
-
--- how it is taken from a holder to whom it gave a rank, and whose user has the number `held`
-abbrev pub taken_by : ℤ → ℤ → ℕ → ℕ → Option Preemption
-taken_by given regard held number =
-    match_ordering (int_cmp given regard) (Some Preemption.ByRank) (if nat_le (2 * number) held then Some Preemption.ByPriority else None) None
 
 -- a resource as members are compared, and none where it isn't won
 abbrev pub as_member : Ranks → ℕ → Preemption → Member

@@ -1,13 +1,13 @@
--- The members for a job in order, which serve it and all jobs of the same ad and of users with the same number, while more and more resources are offered.
+-- The members for a job in order, which serve it and all jobs of users with the same number that no ad tells apart, while more and more resources are offered.
 use Rattle.std.specs.Prelude.{◌≡◌, ℕ, Bool, true, not, List, map, Option}
 use Rattle.std.specs.List.{find}
 use Rattle.std.specs.List.Sorted.{IsPermutation, IsSorted}
 use Rattle.ad_tree.specs.Frames.{Frame}
 use Rattle.ad_store.specs.Holdings.{Holding}
 use Rattle.ad_store.specs.Stock.{Stock}
+use Rattle.dock_match.specs.Pool.{pool_of, slot_at}
 use Rattle.bilateral_match.specs.declared.member.Member.{Member}
 use Rattle.bilateral_match.specs.Members.{best_slot, member_order}
-use Rattle.bilateral_match.specs.Pool.{pool_of, slot_at}
 
 -- the first of these slots that isn't offered
 abbrev pub first_left : (ℕ → Bool) → List ℕ → Option ℕ

@@ -6,19 +6,21 @@ ghost use Rattle.ad_tree.specs.Small.{IsSmall};
 ghost use Rattle.ad_store.specs.Store.{stock_of};
 ghost use Rattle.conjunct_plan.specs.Tests.{tests_of};
 ghost use Rattle.literal_index.specs.Shown.{IsIndex};
-ghost use Rattle.bilateral_match.specs.Counts.{entered_for, least_left, open_count};
+ghost use Rattle.ad_candidates.specs.Counts.{least_left};
+ghost use Rattle.ad_candidates.specs.Rows.{rows_of};
+ghost use Rattle.dock_match.specs.Pool.{AreStored, pool_of};
+ghost use Rattle.dock_match.specs.Small.{AreSmallAds, AreSmallHolders};
+ghost use Rattle.bilateral_match.specs.Counts.{entered_for, open_count};
 ghost use Rattle.bilateral_match.specs.Known.{AreKnown, AreRanks, is_known_below, rank_expr};
 ghost use Rattle.bilateral_match.specs.Members.{IsBest, best_slot};
 ghost use Rattle.bilateral_match.specs.Members as members;
-ghost use Rattle.bilateral_match.specs.Pool.{AreStored, pool_of};
-ghost use Rattle.bilateral_match.specs.Rows.{rows_of};
 ghost use Rattle.bilateral_match.specs.Scan as scan;
-ghost use Rattle.bilateral_match.specs.Small.{AreSmallAds, AreSmallHolders};
 
-use crate::candidates::candidates_knowing;
 use crate::known::{Known, Ranking};
+use crate::looks::Looks;
 use crate::member::Member;
 use crate::members::{member_at, reaches};
+use ad_candidates::candidates_knowing;
 use ad_store::{Holdings, Store};
 use ad_tree::Request;
 use literal_index::Index;
@@ -69,8 +71,10 @@ pub fn best<H: Holdings, F: Ledger, E: Ledger, T: Ledger>(
         + 9 * least_left (stock_of store.now).ads (tests_of (ad_frames request.now.ad) 0 []) }
 {
     let mut known = Known::new(alloc);
+    let mut looks = Looks::none();
     best_knowing(
-        alloc, store, index, held, request, number, moment, &mut known, tops, entry, touch,
+        alloc, store, index, held, request, number, moment, &mut known, &mut looks, tops, entry,
+        touch,
     )
 }
 
@@ -78,7 +82,7 @@ pub fn best<H: Holdings, F: Ledger, E: Ledger, T: Ledger>(
 /// another that it may be given, is passed over with no look and no evaluation. Ranks that are evaluated are noted where the
 /// resource's literals settle them, so that each is evaluated once for all jobs with the same rank expression.
 ///
-/// It counts no more than `best` may.
+/// It counts no more than `best` may, and adds to `looks.saved` what it knows of the looks that `best` may make and it doesn't.
 pub fn best_knowing<H: Holdings, F: Ledger, E: Ledger, T: Ledger>(
     alloc: Global,
     store: &Store,
@@ -88,6 +92,7 @@ pub fn best_knowing<H: Holdings, F: Ledger, E: Ledger, T: Ledger>(
     number: u64,
     moment: u64,
     known: &mut Known,
+    looks: &mut Looks,
     tops: &mut Steps<F>,
     entry: &mut Steps<E>,
     touch: &mut Steps<T>,
@@ -108,8 +113,11 @@ pub fn best_knowing<H: Holdings, F: Ledger, E: Ledger, T: Ledger>(
     ensures ratio { IsSmall (ad_frames request.now.ad) → AreSmallAds (stock_of store.now).ads → AreSmallHolders (H.holding held.now) → entry.new + 9216 * tops.old ≤ entry.old + 9216 * tops.new }
     ensures looks { touch.new ≤ touch.old
         + 9 * least_left (stock_of store.now).ads (tests_of (ad_frames request.now.ad) 0 []) }
+    ensures saved { touch.new + looks.new.saved ≤ touch.old + looks.old.saved
+        + 9 * least_left (stock_of store.now).ads (tests_of (ad_frames request.now.ad) 0 []) }
 {
     let places = candidates_knowing(alloc, store, index, request, &mut known.tests)?;
+    looks.begin(places.len());
     let mut ranking = known.take(alloc, store.len(), request)?;
     let first = first_at(
         alloc,
@@ -120,6 +128,7 @@ pub fn best_knowing<H: Holdings, F: Ledger, E: Ledger, T: Ledger>(
         moment,
         &places,
         &mut ranking,
+        looks,
         tops,
         entry,
         touch,
@@ -148,6 +157,7 @@ fn first_at<H: Holdings, F: Ledger, E: Ledger, T: Ledger>(
     moment: u64,
     places: &Slots,
     ranking: &mut Ranking,
+    looks: &mut Looks,
     tops: &mut Steps<F>,
     entry: &mut Steps<E>,
     touch: &mut Steps<T>,
@@ -162,12 +172,14 @@ fn first_at<H: Holdings, F: Ledger, E: Ledger, T: Ledger>(
     ensures entries { entry.new ≤ entry.old + sum_by (scan.attributes_for (pool_of moment (stock_of store.now) (H.is_offered held.now) (H.holding held.now)) (ad_frames request.now.ad)) places.now }
     ensures ratio { IsSmall (ad_frames request.now.ad) → AreSmallAds (stock_of store.now).ads → AreSmallHolders (H.holding held.now) → entry.new + 9216 * tops.old ≤ entry.old + 9216 * tops.new }
     ensures looks { touch.new ≤ touch.old + 9 * length places.now }
+    ensures saved { touch.new + looks.new.saved ≤ touch.old + looks.old.saved + 9 * length places.now }
 {
     let mut first = None;
     for place in places.as_slice() {
         let bar = rank_of(&first);
         let next = next_at(
-            alloc, store, held, request, number, moment, *place, bar, ranking, tops, entry, touch,
+            alloc, store, held, request, number, moment, *place, bar, ranking, looks, tops, entry,
+            touch,
         )?;
         first = earlier(first, next);
     }
@@ -185,6 +197,7 @@ fn next_at<H: Holdings, F: Ledger, E: Ledger, T: Ledger>(
     place: usize,
     bar: Option<i128>,
     ranking: &mut Ranking,
+    looks: &mut Looks,
     tops: &mut Steps<F>,
     entry: &mut Steps<E>,
     touch: &mut Steps<T>,
@@ -199,12 +212,14 @@ fn next_at<H: Holdings, F: Ledger, E: Ledger, T: Ledger>(
     ensures entries { entry.new ≤ entry.old + scan.attributes_for (pool_of moment (stock_of store.now) (H.is_offered held.now) (H.holding held.now)) (ad_frames request.now.ad) place }
     ensures ratio { IsSmall (ad_frames request.now.ad) → AreSmallAds (stock_of store.now).ads → AreSmallHolders (H.holding held.now) → entry.new + 9216 * tops.old ≤ entry.old + 9216 * tops.new }
     ensures looks { touch.new ≤ touch.old + 9 }
+    ensures saved { touch.new + looks.new.saved ≤ touch.old + looks.old.saved + 9 }
 {
     if is_known_below(bar, ranking.at(place)) {
+        looks.save(9);
         return Ok(None);
     }
     member_at(
-        alloc, store, held, request, number, moment, place, bar, ranking, tops, entry, touch,
+        alloc, store, held, request, number, moment, place, bar, ranking, looks, tops, entry, touch,
     )
 }
 

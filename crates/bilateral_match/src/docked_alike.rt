@@ -2,10 +2,10 @@
 ghost use Rattle.std.specs.Prelude.{◌≡◌, ℕ, List};
 ghost use Rattle.ad_tree.specs.Ad.{ad_frames};
 ghost use Rattle.ad_store.specs.Stock.{Advert};
+ghost use Rattle.dock_match.specs.Pool.{Pool};
 ghost use Rattle.bilateral_match.specs.Answers.{answers};
 ghost use Rattle.bilateral_match.specs.DockedAlike.{AllDockAlike};
 ghost use Rattle.bilateral_match.specs.Members.{best};
-ghost use Rattle.bilateral_match.specs.Pool.{Pool};
 
 use ad_tree::Ad;
 

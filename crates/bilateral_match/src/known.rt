@@ -3,13 +3,12 @@ ghost use Rattle.std.specs.Prelude.{◌≡◌, ◌<◌, ℕ, List, Option, Some,
 ghost use Rattle.ad_tree.specs.Ad.{ad_frames};
 ghost use Rattle.ad_tree.specs.Tree.{Tree};
 ghost use Rattle.ad_store.specs.Stock.{Advert};
-ghost use Rattle.bilateral_match.specs.Docks.{rank_of_dock};
+ghost use Rattle.dock_match.specs.Docks.{rank_of_dock};
 ghost use Rattle.bilateral_match.specs.Known.{AreKnown, AreRanks, known_at, rank_expr};
 
-use crate::alike::same_expr;
-use crate::known_tests::KnownTests;
 use crate::settled::is_rank_settled;
-use ad_tree::{Ad, Request};
+use ad_candidates::KnownTests;
+use ad_tree::{Ad, Request, same_expr};
 use pool_text::OutOfMemory;
 use std::alloc::Global;
 

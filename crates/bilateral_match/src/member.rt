@@ -1,6 +1,7 @@
 // The members for a job, and their order.
 ghost use Rattle.std.specs.Prelude.{◌≡◌};
 
+use dock_match::Preemption;
 use std::cmp::Ordering;
 
 /// What the sides of a dock rank each other, in millionths: the request the resource, and the resource the request.
@@ -8,30 +9,6 @@ use std::cmp::Ordering;
 pub struct Ranks {
     pub rank: i128,
     pub regard: i128,
-}
-
-/// How a job gets a resource: it is unclaimed, or it is taken from a holder that it ranks strictly lower, or from one that it
-/// ranks equal, by the priorities of the users (the three are those of the HTCondor negotiator).
-#[derive(Clone, Copy)]
-pub enum Preemption {
-    No,
-    ByRank,
-    ByPriority,
-}
-
-impl Preemption {
-    ghost use Rattle.bilateral_match.specs.Members.{order_of};
-
-    // Where it stands among the three.
-    pub(crate) fn order(&self) -> u8
-        ensures { result ≡ order_of self.now }
-    {
-        match self {
-            Preemption::No => 0,
-            Preemption::ByRank => 1,
-            Preemption::ByPriority => 2,
-        }
-    }
 }
 
 /// A resource that a job may be given: the rank that the job gives it, how it is taken, the rank that it gives the job, and

@@ -1,30 +1,26 @@
 // Which resources are members for a job.
-ghost use Rattle.std.specs.Prelude.{◌≡◌, ◌≤◌, ◌<◌, ◌+◌, ◌*◌, ℕ, Option, [], nat_le, nat_lt, length, slice_get, max, option_map, All, Contains, IfOk, IfSome, Some, if◌then◌else◌};
-ghost use Rattle.std.specs.Option.{option_map_or};
+ghost use Rattle.std.specs.Prelude.{◌≡◌, ◌≤◌, ◌<◌, ◌+◌, ◌*◌, Option, [], length, IfOk, IfSome, Some, if◌then◌else◌};
 ghost use Rattle.ad_tree.specs.Ad.{ad_frames};
 ghost use Rattle.ad_tree.specs.Small.{IsSmall};
-ghost use Rattle.ad_store.specs.Holdings.{holding_of};
-ghost use Rattle.ad_store.specs.Stock as stock;
 ghost use Rattle.ad_store.specs.Store.{stock_of};
 ghost use Rattle.ad_eval.specs.Dock.{rank_by};
 ghost use Rattle.ad_eval.specs.Small.{AreSmall};
 ghost use Rattle.eval_scope.specs.Shown.{world_of};
-ghost use Rattle.eval_scope.specs.World.{attribute_count, request_side, resource_side};
-ghost use Rattle.bilateral_match.specs.declared.member.Preemption.{Preemption};
-ghost use Rattle.bilateral_match.specs.Docks.{is_undecided, last_open, pair_world, rank_of_dock};
+ghost use Rattle.eval_scope.specs.World.{attribute_count, request_side};
+ghost use Rattle.dock_match.specs.declared.preemption.Preemption.{Preemption};
+ghost use Rattle.dock_match.specs.Docks.{is_undecided, last_open, pair_world, rank_of_dock};
+ghost use Rattle.dock_match.specs.Pool as pool;
+ghost use Rattle.dock_match.specs.Small.{AreSmallAds, AreSmallHolders};
 ghost use Rattle.bilateral_match.specs.Known.{AreRanks, rank_expr};
-ghost use Rattle.bilateral_match.specs.Members as members;
-ghost use Rattle.bilateral_match.specs.Pool as pool;
 ghost use Rattle.bilateral_match.specs.Scan as scan;
-ghost use Rattle.bilateral_match.specs.Small.{AreSmallAds, AreSmallHolders};
 
-use crate::docking::slots_world;
 use crate::known::Ranking;
-use crate::member::{Member, Preemption, Ranks};
-use crate::sides::{OpenSides, open_sides};
+use crate::looks::Looks;
+use crate::member::{Member, Ranks};
 use ad_eval::rank;
-use ad_store::{Held, Holdings, Store};
+use ad_store::{Holdings, Store};
 use ad_tree::{Ad, Request};
+use dock_match::{OpenSides, Preemption, open_sides, won_from};
 use eval_scope::World;
 use pool_steps::Steps;
 use pool_text::OutOfMemory;
@@ -33,7 +29,7 @@ use std::sync::ledger::Ledger;
 
 /// The resource at a place, if it is a member for the job, whose user has this number, and the job ranks it no lower than the
 /// bar, where there is one. A resource below the bar isn't asked how it ranks the job, nor is its holder. The job's rank is
-/// noted in the ranking.
+/// noted in the ranking, and what the looks come to in `looks`.
 pub fn member_at<H: Holdings, F: Ledger, E: Ledger, T: Ledger>(
     alloc: Global,
     store: &Store,
@@ -44,6 +40,7 @@ pub fn member_at<H: Holdings, F: Ledger, E: Ledger, T: Ledger>(
     place: usize,
     bar: Option<i128>,
     ranking: &mut Ranking,
+    looks: &mut Looks,
     tops: &mut Steps<F>,
     entry: &mut Steps<E>,
     touch: &mut Steps<T>,
@@ -58,22 +55,26 @@ pub fn member_at<H: Holdings, F: Ledger, E: Ledger, T: Ledger>(
     ensures entries { entry.new ≤ entry.old + scan.attributes_for (pool.pool_of moment (stock_of store.now) (H.is_offered held.now) (H.holding held.now)) (ad_frames request.now.ad) place }
     ensures ratio { IsSmall (ad_frames request.now.ad) → AreSmallAds (stock_of store.now).ads → AreSmallHolders (H.holding held.now) → entry.new + 9216 * tops.old ≤ entry.old + 9216 * tops.new }
     ensures looks { touch.new ≤ touch.old + 9 }
+    ensures saved { touch.new + looks.new.saved ≤ touch.old + looks.old.saved + 9 }
 {
     let slot = store.at(place);
     if held.offered(slot) {
         return Ok(None);
     }
-    if !is_live(store, slot, moment) {
+    if !store.is_live(slot, moment) {
         return Ok(None);
     }
     let ad = store.look(slot, touch);
+    looks.weigh();
     let known = ranking.at(place);
     let weighed = ranks(alloc, request, ad, moment, bar, known, tops, entry)?;
     ranking.note(&request.ad, ad, place, weighed.rank);
     let Some(ranks) = weighed.ranks else {
+        looks.save(8);
         return Ok(None);
     };
     let holder = held.holder(slot);
+    looks.save_unless_held(&holder);
     let won = won_from(
         alloc,
         store,
@@ -112,22 +113,6 @@ fn as_member(ranks: Ranks, place: usize, preemption: Preemption) -> Member
         regard: ranks.regard,
         place,
     }
-}
-
-/// Whether the ad in a slot is live.
-pub fn is_live(store: &Store, slot: usize, moment: u64) -> bool
-    requires { Contains (stock_of store.now).slots slot }
-    ensures { (i : ℕ) → slice_get (stock_of store.now).slots i ≡ Some slot
-        → option_map (stock.is_live moment) (slice_get (stock_of store.now).ads i) ≡ Some result }
-{
-    is_within(moment, store.born(slot), store.lifetime(slot))
-}
-
-// Whether a moment is before the end of a lifetime, which may be out of 64 bits.
-fn is_within(now: u64, born: u64, lifetime: u64) -> bool
-    ensures { result ≡ nat_lt now (born + lifetime) }
-{
-    now < born || now - born < lifetime
 }
 
 // What was found of a dock: the request's rank where that was evaluated, and the ranks of both sides where the dock is true and
@@ -240,77 +225,4 @@ pub(crate) fn reaches(bar: Option<i128>, rank: i128) -> bool
         Some(bar) => rank >= bar,
         None => true,
     }
-}
-
-/// How a resource that ranks a job so is taken for it, `None` exactly where it stays with its holder. It is taken where it is
-/// unclaimed, where it ranks its holder strictly lower, and where it ranks its holder equal and the holder's user has at least
-/// twice the number of the job's. The holder is ranked in the world of the dock by which it holds the resource: one evaluation,
-/// and one look for each of its resources up to this one.
-pub fn won_from<F: Ledger, E: Ledger, T: Ledger>(
-    alloc: Global,
-    store: &Store,
-    holder: Option<Held<'_>>,
-    regard: i128,
-    number: u64,
-    moment: u64,
-    tops: &mut Steps<F>,
-    entry: &mut Steps<E>,
-    touch: &mut Steps<T>,
-) -> Result<Option<Preemption>, OutOfMemory>
-    requires stored { IfSome holder (λ h. All (Contains (stock_of store.now).slots) h.slots.now) }
-    requires stands { IfSome holder (λ h. h.port < length h.slots.now) }
-    requires fills { IfSome holder (λ h. length h.slots.now ≡ max 1 (length h.request.now.ports)) }
-    ensures won { IfOk result (λ won. won ≡ scan.won_from number regard (option_map (pool.hold_of moment (stock_of store.now)) (option_map holding_of holder.entry))) }
-    ensures evaluations { tops.new ≤ tops.old + 1 }
-    ensures entries { entry.new ≤ entry.old
-        + option_map_or (λ h. attribute_count (pool.holder_world moment (stock_of store.now) h)) (option_map holding_of holder.entry) 0 }
-    ensures ratio { IfSome holder.entry (λ h. IsSmall (ad_frames h.request.now.ad)) → AreSmallAds (stock_of store.now).ads → entry.new + 9216 * tops.old ≤ entry.old + 9216 * tops.new }
-    ensures looks { touch.new ≤ touch.old + 8 }
-{
-    let Some(holder) = holder else {
-        return Ok(Some(Preemption::No));
-    };
-    let upto = holder.port as usize + 1;
-    let world = slots_world(store, holder.request, &holder.slots[..upto], moment, touch);
-    taken_from(alloc, &world, holder.number, regard, number, tops, entry)
-}
-
-// How the resource that was docked last is taken from the other side, whose user has the number `held`, for a job that it ranks
-// so.
-fn taken_from<F: Ledger, E: Ledger>(
-    alloc: Global,
-    world: &World<'_>,
-    held: u64,
-    regard: i128,
-    number: u64,
-    tops: &mut Steps<F>,
-    entry: &mut Steps<E>,
-) -> Result<Option<Preemption>, OutOfMemory>
-    ensures taken { IfOk result (λ won. won ≡ scan.taken_by (rank_by (world_of world.now) (resource_side (world_of world.now))) regard held number) }
-    ensures evaluations { tops.new ≤ tops.old + 1 }
-    ensures entries { entry.new ≤ entry.old + attribute_count (world_of world.now) }
-    ensures ratio { AreSmall (world_of world.now) → entry.new + 9216 * tops.old ≤ entry.old + 9216 * tops.new }
-{
-    let given = rank(alloc, world, world.resource_place(), tops, entry)?;
-    Ok(taken_by(given, regard, held, number))
-}
-
-// How a resource is taken from a holder to whom it gave a rank, and whose user has the number `held`.
-fn taken_by(given: i128, regard: i128, held: u64, number: u64) -> Option<Preemption>
-    ensures { result ≡ scan.taken_by given regard held number }
-{
-    if given < regard {
-        return Some(Preemption::ByRank);
-    }
-    if regard < given || !is_twice(held, number) {
-        return None;
-    }
-    Some(Preemption::ByPriority)
-}
-
-// Whether a number is at least twice another, of which the double may be out of 64 bits.
-fn is_twice(n: u64, other: u64) -> bool
-    ensures { result ≡ nat_le (2 * other) n }
-{
-    other <= n && other <= n - other
 }

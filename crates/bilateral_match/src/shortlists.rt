@@ -7,18 +7,20 @@ ghost use Rattle.ad_tree.specs.Small.{IsSmall};
 ghost use Rattle.ad_store.specs.Store.{stock_of};
 ghost use Rattle.conjunct_plan.specs.Tests.{tests_of};
 ghost use Rattle.literal_index.specs.Shown.{IsIndex};
-ghost use Rattle.bilateral_match.specs.Counts.{entered_for, least_left, open_count};
+ghost use Rattle.ad_candidates.specs.Counts.{least_left};
+ghost use Rattle.ad_candidates.specs.Rows.{rows_of};
+ghost use Rattle.dock_match.specs.Pool.{AreStored, pool_of, slot_at};
+ghost use Rattle.dock_match.specs.Small.{AreSmallAds, AreSmallHolders};
+ghost use Rattle.bilateral_match.specs.Counts.{entered_for, open_count};
 ghost use Rattle.bilateral_match.specs.Members.{member_order};
-ghost use Rattle.bilateral_match.specs.Pool.{AreStored, pool_of, slot_at};
-ghost use Rattle.bilateral_match.specs.Rows.{rows_of};
 ghost use Rattle.bilateral_match.specs.Scan as scan;
 ghost use Rattle.bilateral_match.specs.Shortlists.{AreInOrder, IsShortlist};
-ghost use Rattle.bilateral_match.specs.Small.{AreSmallAds, AreSmallHolders};
 
-use crate::candidates::candidates;
 use crate::known::Ranking;
+use crate::looks::Looks;
 use crate::member::Member;
 use crate::members::member_at;
+use ad_candidates::candidates;
 use ad_store::{Holdings, Store};
 use ad_tree::Request;
 use literal_index::Index;
@@ -30,8 +32,8 @@ use std::sync::ledger::Ledger;
 
 /// The slots of all resources that a job without ports may be given, whose user has this number, the best one first and each in
 /// the order of `best`. While the holders stay and no offer is taken back, the best resource is the first of the list that isn't
-/// offered. So one list serves all jobs of the same ad and of users with the same number, as the automatic clusters of HTCondor's
-/// negotiator do.
+/// offered. So one list serves all jobs of users with the same number that no ad tells apart, as the automatic clusters of
+/// HTCondor's negotiator do.
 ///
 /// It takes what `best` takes, and counts no more: each ad that is looked at is weighed once.
 pub fn shortlist<H: Holdings, F: Ledger, E: Ledger, T: Ledger>(
@@ -101,6 +103,7 @@ fn members_at<H: Holdings, F: Ledger, E: Ledger, T: Ledger>(
 {
     let mut found = Vec::new(alloc);
     let mut ranking = Ranking::unknown(alloc);
+    let mut looks = Looks::none();
     for place in places.as_slice() {
         let next = member_at(
             alloc,
@@ -112,6 +115,7 @@ fn members_at<H: Holdings, F: Ledger, E: Ledger, T: Ledger>(
             *place,
             None,
             &mut ranking,
+            &mut looks,
             tops,
             entry,
             touch,

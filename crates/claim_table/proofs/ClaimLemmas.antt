@@ -5,7 +5,7 @@ use Rattle.std.specs.Option.{option_and_then, option_map_or, option_to_list}
 use Rattle.std.proofs.lemmas.List.Elements.{All-nil}
 use Rattle.std.proofs.lemmas.Option.{same_Some}
 use Rattle.ad_store.specs.Stock.{Stock}
-use Rattle.bilateral_match.specs.Docks.{is_last_decided}
+use Rattle.dock_match.specs.Docks.{is_last_decided}
 use Rattle.claim_table.specs.declared.answers.ClaimFault.{ClaimFault}
 use Rattle.claim_table.specs.declared.answers.Freed.{Freed}
 use Rattle.claim_table.specs.declared.answers.JobFault.{JobFault}

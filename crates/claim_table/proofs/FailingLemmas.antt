@@ -9,8 +9,8 @@ use Rattle.ad_tree.specs.Frames.{Frame}
 use Rattle.ad_tree.specs.declared.request.Request.{Request}
 use Rattle.ad_store.specs.Stock.{Stock}
 use Rattle.eval_scope.specs.World.{PlainWorld, with_docked}
-use Rattle.bilateral_match.specs.Pool.{ad_in, slots_world}
-use Rattle.bilateral_match.proofs.DockingLemmas.{dock-next}
+use Rattle.dock_match.specs.Pool.{ad_in, slots_world}
+use Rattle.dock_match.proofs.DockingLemmas.{dock-next}
 use Rattle.claim_table.specs.declared.job.Job.{Job}
 use Rattle.claim_table.specs.Claims.{first_failing, passes, ports_of, sum_over, world_at}
 use Rattle.claim_table.specs.Jobs.{offer_of}

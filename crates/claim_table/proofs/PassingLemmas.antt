@@ -15,14 +15,13 @@ use Rattle.eval_scope.specs.World.{PlainWorld, attribute_count, port_frame, requ
 use Rattle.ad_eval.specs.Dock.{is_docked}
 use Rattle.conjunct_plan.specs.Decided.{is_dock_decided}
 use Rattle.conjunct_plan.specs.Tests.{labels_of}
-use Rattle.bilateral_match.specs.Docks.{is_last_decided, last_ad, last_open}
-use Rattle.bilateral_match.specs.declared.member.Preemption.{Preemption}
-use Rattle.bilateral_match.specs.Members.{is_yielded, preemption_of}
-use Rattle.bilateral_match.specs.Pool.{AreStored, hold_of, holder_world, regard_in}
-use Rattle.bilateral_match.specs.Scan.{won_from}
-use Rattle.bilateral_match.specs.Sides.{open_sides}
-use Rattle.bilateral_match.proofs.DecidedLemmas.{not-docked}
-use Rattle.bilateral_match.proofs.DockingLemmas.{frame-there}
+use Rattle.dock_match.specs.Docks.{is_last_decided, last_ad, last_open}
+use Rattle.dock_match.specs.declared.preemption.Preemption.{Preemption}
+use Rattle.dock_match.specs.Preemption.{is_yielded, preemption_of, won_from}
+use Rattle.dock_match.specs.Pool.{AreStored, hold_of, holder_world, regard_in}
+use Rattle.dock_match.specs.Sides.{open_sides}
+use Rattle.dock_match.proofs.DecidedLemmas.{not-docked}
+use Rattle.dock_match.proofs.DockingLemmas.{frame-there}
 use Rattle.claim_table.specs.declared.job.Job.{Job}
 use Rattle.claim_table.specs.declared.job.Stage.{Stage}
 use Rattle.claim_table.specs.Claims.{entered_in, is_won, passes}

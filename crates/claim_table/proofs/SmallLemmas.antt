@@ -2,7 +2,7 @@
 use Rattle.std.proofs.Common.{List}
 use Rattle.ad_tree.specs.Ad.{ad_frames}
 use Rattle.ad_tree.specs.Small.{IsSmall}
-use Rattle.bilateral_match.specs.Small.{AreSmallHolders}
+use Rattle.dock_match.specs.Small.{AreSmallHolders}
 use Rattle.claim_table.specs.declared.job.Job.{Job}
 use Rattle.claim_table.specs.Holders.{holder_of}
 use Rattle.claim_table.specs.Priorities.{Setting}

@@ -6,9 +6,9 @@ use Rattle.ad_tree.specs.declared.request.Request.{Request}
 use Rattle.ad_store.specs.Stock.{Stock}
 use Rattle.eval_scope.specs.World.{PlainWorld, attribute_count}
 use Rattle.ad_eval.specs.Dock.{is_docked}
-use Rattle.bilateral_match.specs.Docks.{is_last_decided}
-use Rattle.bilateral_match.specs.Members.{is_yielded}
-use Rattle.bilateral_match.specs.Pool.{hold_of, holder_world, regard_in, slots_world}
+use Rattle.dock_match.specs.Docks.{is_last_decided}
+use Rattle.dock_match.specs.Preemption.{is_yielded}
+use Rattle.dock_match.specs.Pool.{hold_of, holder_world, regard_in, slots_world}
 use Rattle.claim_table.specs.declared.answers.ClaimFault.{ClaimFault}
 use Rattle.claim_table.specs.declared.answers.Freed.{Freed}
 use Rattle.claim_table.specs.declared.answers.JobState.{JobState}

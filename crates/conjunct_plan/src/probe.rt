@@ -9,7 +9,7 @@ ghost use Rattle.conjunct_plan.specs.Tests.{comparison_of, is_comparison, labels
 
 use crate::Test;
 use crate::side::{Side, side_of};
-use ad_tree::{Ad, Expr, Ports};
+use ad_tree::{Ad, Expr, Ports, copy_literal};
 use pool_text::{BinOp, Lit, OutOfMemory, Text};
 
 /// A test whose name and literal stand elsewhere.
@@ -69,25 +69,11 @@ impl<'a> Probe<'a> {
             } => Ok(Test::Compare {
                 name: name.copy()?,
                 op,
-                lit: copy_of(lit)?,
+                lit: copy_literal(lit)?,
                 attr_left,
             }),
         }
     }
-}
-
-// A second literal of the same value.
-fn copy_of(lit: &Lit) -> Result<Lit, OutOfMemory>
-    ensures { IfOk result (λ copy. copy ≡ lit.now) }
-{
-    Ok(match lit {
-        Lit::Undefined => Lit::Undefined,
-        Lit::Error => Lit::Error,
-        Lit::Boolean(b) => Lit::Boolean(*b),
-        Lit::Integer(n) => Lit::Integer(*n),
-        Lit::Decimal(millionths) => Lit::Decimal(*millionths),
-        Lit::Str(text) => Lit::Str(text.copy()?),
-    })
 }
 
 /// The test that a conjunct is, if it is one, in a frame of an ad with these ports.

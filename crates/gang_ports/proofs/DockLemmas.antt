@@ -6,9 +6,9 @@ use Rattle.ad_eval.specs.Dock.{is_docked}
 use Rattle.conjunct_plan.specs.Decided.{is_dock_decided}
 use Rattle.conjunct_plan.specs.Tests.{labels_of}
 use Rattle.eval_scope.specs.World.{PlainWorld, port_frame, with_docked}
-use Rattle.bilateral_match.specs.Docks.{is_last_decided, last_ad}
-use Rattle.bilateral_match.specs.Pool.{Pool}
-use Rattle.bilateral_match.proofs.UndecidedLemmas.{never-docked}
+use Rattle.dock_match.specs.Docks.{is_last_decided, last_ad}
+use Rattle.dock_match.specs.Pool.{Pool}
+use Rattle.dock_match.proofs.DecidedLemmas.{not-docked}
 use Rattle.gang_ports.specs.Choice.{fits, is_among, next}
 use Rattle.gang_ports.specs.Gangs.{ad_at, choice_of, free_places, gang_world, is_open, open_places}
 use Rattle.gang_ports.proofs.ListLemmas.{filter-narrow, length-mapped, length-more, map-more}
@@ -48,7 +48,7 @@ module _ (pool : Pool) (request : List Frame) (ports : List Port) (before : List
     where
       by : (b : Bool) → is_dock_decided request (port_frame ports (suc (length before))) (labels_of ports) (ad_at pool place) ≡ b → not b ≡ true
       by true e =
-          let wrong : is_docked world ≡ false = never-docked world (omega (arith, many-docked)) (decided-is ∙ e) in
+          let wrong : is_docked world ≡ false = not-docked world (omega (arith, many-docked)) (decided-is ∙ e) in
           absurd (cc)
       by false e = refl
 

@@ -5,7 +5,7 @@ use Rattle.ad_tree.specs.Frames.{Frame, attributes_in, expr_at}
 use Rattle.ad_tree.specs.Tree.{Tree}
 use Rattle.ad_tree.specs.declared.request.Port.{Port}
 use Rattle.eval_scope.specs.World.{frames_of_ad}
-use Rattle.bilateral_match.specs.Pool.{Pool}
+use Rattle.dock_match.specs.Pool.{Pool}
 use Rattle.gang_ports.specs.FreePorts.{is_free_port, is_referred, refers}
 use Rattle.gang_ports.specs.Gangs.{ad_at, choice_of, gang_world}
 use Rattle.gang_ports.proofs.AlikeLemmas.{dock-same, rank-same}

@@ -2,6 +2,7 @@ mod AlikeLemmas
 mod CandidateLemmas
 mod CountLemmas
 mod DockLemmas
+mod EmptyLemmas
 mod FreePortLemmas
 pub mod LawLemmas
 pub mod ListLemmas
@@ -17,4 +18,5 @@ pub mod SameLemmas
 mod SearchLemmas
 mod SideLemmas
 mod SmallLemmas
+mod SpentLemmas
 mod WeighLemmas

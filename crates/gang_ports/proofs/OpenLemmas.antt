@@ -6,9 +6,9 @@ use Rattle.ad_tree.specs.Frames.{Frame}
 use Rattle.ad_tree.specs.declared.request.Port.{Port}
 use Rattle.conjunct_plan.specs.Tests.{labels_of}
 use Rattle.eval_scope.specs.World.{PlainWorld, port_frame, with_docked}
-use Rattle.bilateral_match.specs.Docks.{last_ad, last_open}
-use Rattle.bilateral_match.specs.Sides.{open_sides}
-use Rattle.bilateral_match.proofs.DockingLemmas.{last-docked}
+use Rattle.dock_match.specs.Docks.{last_ad, last_open}
+use Rattle.dock_match.specs.Sides.{open_sides}
+use Rattle.dock_match.proofs.DockingLemmas.{last-docked}
 use Rattle.gang_ports.specs.declared.weighing.Resource.{Resource}
 use Rattle.gang_ports.specs.declared.weighing.Side.{Side}
 use Rattle.gang_ports.specs.Search.{HasSides, HasSidesIn, HaveSides}

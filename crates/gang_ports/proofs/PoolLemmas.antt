@@ -6,34 +6,39 @@ use Rattle.std.proofs.lemmas.List.Elements.{All-cons, All-contains, All-filter, 
 use Rattle.ad_tree.specs.Frames.{Frame}
 use Rattle.ad_tree.specs.declared.request.Port.{Port}
 use Rattle.ad_store.specs.Stock.{is_live}
-use Rattle.bilateral_match.specs.Pool.{Pool}
+use Rattle.dock_match.specs.Pool.{Pool}
 use Rattle.eval_scope.specs.World.{PlainWorld, attribute_count, port_frame}
 use Rattle.gang_ports.specs.Choice.{Choice, IsFirstOf, first_of, is_among, over_prefixes, tuples}
 use Rattle.gang_ports.specs.Gangs.{attributes_behind, attributes_open, choice_of, docks_open, evaluations_behind, free_places, gang, gang_world, is_free, is_open, open_docks, open_places}
+use Rattle.gang_ports.specs.declared.searching.Ending.{Ending}
 use Rattle.gang_ports.specs.declared.weighing.Side.{Side}
-use Rattle.gang_ports.specs.Search.{AreSides, IsBehind, Outcome, attributes_from, choice_in, evaluations_from}
+use Rattle.gang_ports.specs.Search.{AreSides, IsBehind, Outcome, attributes_from, choice_in, evaluations_from, is_found}
 use Rattle.gang_ports.proofs.CountLemmas.{over-multiple}
 use Rattle.gang_ports.proofs.LawLemmas.{all-tuples, fewer, filter-turned, first-are, length-fewer, none-fewer, over-fewer, sum-fewer}
 use Rattle.gang_ports.proofs.ListLemmas.{filter-both}
 use Rattle.gang_ports.proofs.OrderLemmas.{first-is, first-none}
 
+pub is-found : (e : Ending) → is_found e ≡ true → e ≡ Ending.Found
+is-found Ending.Found found = refl
+is-found (Ending.NotFound many) found = absurd (cc)
+
 module _ (pool : Pool) (request : List Frame) (ports : List Port) where
   -- ---- from nothing on
 
-  pub gang-found : (n : ℕ) (places : List ℕ) → n ≡ length ports → Outcome (choice_of pool request ports) n [] places true → gang pool request ports ≡ Some places
+  pub gang-found : (n : ℕ) (places : List ℕ) → n ≡ length ports → Outcome (choice_of pool request ports) n [] places Ending.Found → gang pool request ports ≡ Some places
   gang-found n places many o =
       let found : first_of (choice_of pool request ports) (tuples (choice_of pool request ports) n []) ≡ Some o.0 = first-is (choice_of pool request ports) (tuples (choice_of pool request ports) n []) o.0 o.2 in
       ap (λ m. first_of (choice_of pool request ports) (tuples (choice_of pool request ports) m [])) (sym many) ∙ found ∙ ap Some (sym o.1)
 
-  pub gang-none : (n : ℕ) (places : List ℕ) → n ≡ length ports → Outcome (choice_of pool request ports) n [] places false → gang pool request ports ≡ None
-  gang-none n places many o =
-      ap (λ m. first_of (choice_of pool request ports) (tuples (choice_of pool request ports) m [])) (sym many) ∙ first-none (choice_of pool request ports) (tuples (choice_of pool request ports) n []) o.1
+  pub gang-none : (n : ℕ) → n ≡ length ports → tuples (choice_of pool request ports) n [] ≡ [] → gang pool request ports ≡ None
+  gang-none n many none =
+      ap (λ m. first_of (choice_of pool request ports) (tuples (choice_of pool request ports) m [])) (sym many) ∙ first-none (choice_of pool request ports) (tuples (choice_of pool request ports) n []) none
 
   range-below : (k n m : ℕ) → k + n ≤ m → All (λ p. p < m) (range_with_len k n)
   range-below k zero m fits = All-nil (λ p. p < m)
   range-below k (suc n) m fits = All-cons (λ p. p < m) k (range_with_len (k + 1) n) (omega (arith, fits)) (range-below (k + 1) n m (omega (arith, fits)))
 
-  pub gang-within : (n m : ℕ) (places : List ℕ) → length pool.ads ≤ m → Outcome (choice_of pool request ports) n [] places true → All (λ p. p < m) places
+  pub gang-within : (n m : ℕ) (places : List ℕ) → length pool.ads ≤ m → Outcome (choice_of pool request ports) n [] places Ending.Found → All (λ p. p < m) places
   unfolding free_places
   gang-within n m places fits o =
       subst (All (λ p. p < m)) (sym o.1)
@@ -53,19 +58,23 @@ module _ (pool : Pool) (request : List Frame) (ports : List Port) where
         (subst (λ (b : List ℕ). IsBehind pool (gang_world pool request ports []) b sides) (sym none)
         (record { world = refl; sides = subst (AreSides pool request ports 0) (sym is) are }))
 
-    outcome-of : (n : ℕ) (after : List ℕ) (b : Bool) → Outcome (choice_in pool w) n before after b → Outcome (choice_of pool request ports) n [] after b
-    outcome-of n after b o =
-        subst (λ (c : List ℕ). Outcome (choice_of pool request ports) n c after b) none
-        (subst (λ (u : PlainWorld). Outcome (choice_in pool u) n before after b) same o)
+    outcome-of : (n : ℕ) (after : List ℕ) (e : Ending) → Outcome (choice_in pool w) n before after e → Outcome (choice_of pool request ports) n [] after e
+    outcome-of n after e o =
+        subst (λ (c : List ℕ). Outcome (choice_of pool request ports) n c after e) none
+        (subst (λ (u : PlainWorld). Outcome (choice_in pool u) n before after e) same o)
 
-    pub found-whole : (n : ℕ) (after : List ℕ) → n ≡ length ports → Outcome (choice_in pool w) n before after true → gang pool request ports ≡ Some after
-    found-whole n after many o = gang-found n after many (outcome-of n after true o)
+    pub found-whole : (n : ℕ) (after : List ℕ) → n ≡ length ports → Outcome (choice_in pool w) n before after Ending.Found → gang pool request ports ≡ Some after
+    found-whole n after many o = gang-found n after many (outcome-of n after Ending.Found o)
 
-    pub none-whole : (n : ℕ) (after : List ℕ) → n ≡ length ports → Outcome (choice_in pool w) n before after false → gang pool request ports ≡ None
-    none-whole n after many o = gang-none n after many (outcome-of n after false o)
+    pub none-whole : (n : ℕ) (after : List ℕ) (e : Ending) → n ≡ length ports → is_found e ≡ false → Outcome (choice_in pool w) n before after e → gang pool request ports ≡ None
+    none-whole n after e many none o = gang-none n many (by e none (outcome-of n after e o))
+      where
+        by : (e : Ending) → is_found e ≡ false → Outcome (choice_of pool request ports) n [] after e → tuples (choice_of pool request ports) n [] ≡ []
+        by Ending.Found none o = absurd (cc)
+        by (Ending.NotFound many) none o = o.1 [] refl refl
 
-    pub within-whole : (n m : ℕ) (after : List ℕ) → length pool.ads ≤ m → Outcome (choice_in pool w) n before after true → All (λ p. p < m) after
-    within-whole n m after fits o = gang-within n m after fits (outcome-of n after true o)
+    pub within-whole : (n m : ℕ) (after : List ℕ) → length pool.ads ≤ m → Outcome (choice_in pool w) n before after Ending.Found → All (λ p. p < m) after
+    within-whole n m after fits o = gang-within n m after fits (outcome-of n after Ending.Found o)
 
     pub evaluations-whole : (n start tops : ℕ) → n ≡ length ports → tops ≤ start + evaluations_from pool w n before → tops ≤ start + 3 * docks_open pool request ports
     evaluations-whole n start tops many step =

@@ -12,11 +12,11 @@ use Rattle.ad_store.specs.Stock.{Advert}
 use Rattle.conjunct_plan.specs.Decided.{is_dock_decided}
 use Rattle.conjunct_plan.specs.Tests.{labels_of}
 use Rattle.eval_scope.specs.World.{PlainWorld, port_frame}
-use Rattle.bilateral_match.specs.Candidates.{AreCandidatesAt, places_where}
-use Rattle.bilateral_match.specs.Pool.{Pool}
-use Rattle.bilateral_match.specs.Sides.{open_sides}
-use Rattle.bilateral_match.specs.declared.sides.OpenSides.{OpenSides}
-use Rattle.bilateral_match.proofs.MetLemmas.{none-undecided, some-undecided}
+use Rattle.ad_candidates.specs.Candidates.{AreCandidatesAt, places_where}
+use Rattle.dock_match.specs.Pool.{Pool}
+use Rattle.dock_match.specs.Sides.{open_sides}
+use Rattle.dock_match.specs.declared.sides.OpenSides.{OpenSides}
+use Rattle.dock_match.proofs.MetLemmas.{none-undecided, some-undecided}
 use Rattle.gang_ports.specs.declared.weighing.Kept.{Kept}
 use Rattle.gang_ports.specs.declared.weighing.Resource.{Resource}
 use Rattle.gang_ports.specs.declared.weighing.Side.{Side}

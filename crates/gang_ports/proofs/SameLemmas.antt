@@ -5,7 +5,7 @@ use Rattle.std.specs.Option.{option_map_or}
 use Rattle.ad_tree.specs.Frames.{Frame}
 use Rattle.ad_tree.specs.declared.request.Port.{Port}
 use Rattle.ad_store.specs.Stock.{Advert, is_live}
-use Rattle.bilateral_match.specs.Pool.{Hold, Pool}
+use Rattle.dock_match.specs.Pool.{Hold, Pool}
 use Rattle.eval_scope.specs.World.{port_frame}
 use Rattle.gang_ports.specs.Choice.{Choice, first_of, is_among, over_prefixes, tuples}
 use Rattle.gang_ports.specs.FreePorts.{is_free_port}

@@ -1,10 +1,11 @@
 -- A search behind a prefix: what its candidates are, what they take, and what is found behind each.
-use Rattle.std.proofs.Common.{◌≡◌, ◌<◌, ◌≤◌, ◌+◌, ◌-◌, ◌*◌, ℕ, zero, suc, Bool, true, false, not, ◌&&◌, cond, if◌then◌else◌, refl, List, [], ◌∷◌, ◌++◌, length, map, filter, get_or, take, drop, set, sum_by, below_more, None, Some, option_map, All, ap, sym, ◌∙◌, subst, arith, append_assoc, nat_eq, ℤ, IsSorted}
+use Rattle.std.proofs.Common.{◌≡◌, ◌<◌, ◌≤◌, ◌+◌, ◌-◌, ◌*◌, ℕ, zero, suc, Bool, true, false, not, ◌&&◌, cond, if◌then◌else◌, refl, List, [], ◌∷◌, ◌++◌, length, map, filter, get_or, take, drop, set, sum_by, below_more, None, Some, option_map, All, ap, sym, ◌∙◌, subst, arith, append_assoc, nat_eq, nat_lt, ℤ, IsSorted}
 use Rattle.std.specs.List.{cons_option, filter_map}
 use Rattle.std.specs.List.Sorted.{IsPermutation}
 use Rattle.std.specs.Ordering.{int_cmp, is_lt, nat_cmp, ordering_then}
 use Rattle.std.proofs.Math.Seq.{take-append_seam}
 use borrow.Rule.Slice.PartMut.{put_mid}
+use Rattle.std.proofs.lemmas.Bool.Decides.{nat_tests}
 use Rattle.std.proofs.lemmas.List.{append-nil, drop_all, take_all}
 use Rattle.std.proofs.lemmas.List.Elements.{All-cons, All-from_get_or, All-head, All-nil, All-tail}
 use Rattle.std.proofs.lemmas.List.Sums.{sum_by-cons}
@@ -14,18 +15,20 @@ use Rattle.ad_tree.specs.Frames.{Frame}
 use Rattle.ad_tree.specs.declared.request.Port.{Port}
 use Rattle.ad_eval.specs.Dock.{is_docked, rank_by}
 use Rattle.eval_scope.specs.World.{PlainWorld, attribute_count, port_frame, request_side, with_docked}
-use Rattle.bilateral_match.specs.Pool.{Pool}
+use Rattle.dock_match.specs.Pool.{Pool}
+use Rattle.gang_ports.specs.declared.searching.Ending.{Ending}
 use Rattle.gang_ports.specs.declared.weighing.Candidate.{Candidate}
 use Rattle.gang_ports.specs.declared.weighing.Resource.{Resource}
 use Rattle.gang_ports.specs.declared.weighing.Side.{Side}
 use Rattle.gang_ports.specs.Choice.{Choice, fits, is_among, next, over_prefixes, place_order, tuple_order, tuples}
 use Rattle.gang_ports.specs.Gangs.{ad_at, attributes_behind, evaluations_behind, gang_world, open_docks, open_places}
-use Rattle.gang_ports.specs.Search.{AreResources, AreSides, IsBehind, IsSide, IsWorth, Outcome, attributes_from, attributes_of, candidate_in, candidate_of, candidate_order, choice_in, evaluations_anew, evaluations_from, evaluations_in, evaluations_of, evaluations_once, remembered, side_ahead, sides_ahead, weighed, weighed_in}
+use Rattle.gang_ports.specs.Search.{AreResources, AreSides, HasNoTuples, IsBehind, IsSide, IsWorth, Outcome, attributes_from, attributes_of, candidate_in, candidate_of, candidate_order, choice_in, evaluations_anew, evaluations_from, evaluations_in, evaluations_of, evaluations_once, is_over, is_spent, remembered, side_ahead, sides_ahead, weighed, weighed_in}
 use Rattle.gang_ports.proofs.CountLemmas.{at-deeper, at-first, at-next, at-place, behind}
 use Rattle.gang_ports.proofs.DockLemmas.{gang-with, next-open}
 use Rattle.gang_ports.proofs.ListLemmas.{IsPermutation-filter, length-mapped, length-more, mapped-at, sum_by-agree, sum_by-constant, sum_by-map, sum_by-passing}
 use Rattle.gang_ports.proofs.OrderLemmas.{first-behind, none-behind}
 use Rattle.gang_ports.proofs.SideLemmas.{side-once, side-spent, side-weighed}
+use Rattle.gang_ports.proofs.SpentLemmas.{none-whole, spent-above, spent-here}
 use Rattle.gang_ports.proofs.WeighLemmas.{remembered-attributes, remembered-evaluations, remembered-weighed}
 
 abbrev pub place_of : Candidate → ℕ
@@ -190,14 +193,14 @@ module _ (pool : Pool) (w : PlainWorld) (before : List ℕ) (same : w ≡ gang_w
 
 module _ (choice : Choice) (n : ℕ) (before cs : List ℕ) (all : IsPermutation (next choice before) cs) where
   pub outcome-found : IsSorted (place_order choice before) cs → (i : ℕ) → i < length cs → ((j : ℕ) → j < i → tuples choice n (before ++ get_or cs j 0 ∷ []) ≡ [])
-      → (after : List ℕ) → Outcome choice n (before ++ get_or cs i 0 ∷ []) after true → Outcome choice (suc n) before after true
+      → (after : List ℕ) → Outcome choice n (before ++ get_or cs i 0 ∷ []) after Ending.Found → Outcome choice (suc n) before after Ending.Found
   outcome-found ordered i within passed after o =
       (get_or cs i 0 ∷ o.0, o.1 ∙ append_assoc before (get_or cs i 0 ∷ []) o.0, first-behind choice n before cs all ordered i 0 within o.0 passed o.2)
 
-  pub outcome-none : ((j : ℕ) → j < length cs → tuples choice n (before ++ get_or cs j 0 ∷ []) ≡ []) → (after : List ℕ) → after ≡ before → Outcome choice (suc n) before after false
-  outcome-none passed after same = (same, none-behind choice n before cs all (All-from_get_or (λ p. tuples choice n (before ++ p ∷ []) ≡ []) cs 0 passed))
+  outcome-none : ((j : ℕ) → j < length cs → tuples choice n (before ++ get_or cs j 0 ∷ []) ≡ []) → tuples choice (suc n) before ≡ []
+  outcome-none passed = none-behind choice n before cs all (All-from_get_or (λ p. tuples choice n (before ++ p ∷ []) ≡ []) cs 0 passed)
 
-pub outcome-whole : (choice : Choice) (before after : List ℕ) → after ≡ before → Outcome choice 0 before after true
+pub outcome-whole : (choice : Choice) (before after : List ℕ) → after ≡ before → Outcome choice 0 before after Ending.Found
 unfolding tuples tuple_order
 outcome-whole choice before after same = (
   [],
@@ -244,11 +247,15 @@ pub pushed : (longer now before : List ℕ) (p : ℕ) → longer ≡ now ++ p �
 pushed longer now before p added same = added ∙ ap (λ (b : List ℕ). b ++ p ∷ []) same
 
 -- the places before the one that was added last
-pub popped : (xs ys new : List ℕ) (p n : ℕ) → xs ≡ ys ++ p ∷ [] → n ≡ length xs → new ≡ take (n - 1) xs → new ≡ ys
-popped xs ys new p n added many cut =
-    let long : length xs ≡ suc (length ys) = ap length added ∙ length-more ys p in
-    let fewer : n - 1 ≡ length ys = omega (arith, many, long) in
-    cut ∙ ap (λ (k : ℕ). take k xs) fewer ∙ ap (take (length ys)) added ∙ take-append_seam ys (p ∷ [])
+pub popped : (now longer before rest new : List ℕ) (p depth : ℕ) → now ≡ longer ++ rest → longer ≡ before ++ p ∷ [] → depth ≡ length before → new ≡ take depth now → new ≡ before
+popped now longer before rest new p depth more added many cut =
+    cut ∙ ap (λ (k : ℕ). take k now) many ∙ ap (take (length before)) (more ∙ ap (λ (b : List ℕ). b ++ rest) added ∙ append_assoc before (p ∷ []) rest) ∙ take-append_seam before (p ∷ rest)
+
+-- a search that isn't over has found nothing behind these places
+pub not-over : (choice : Choice) (n : ℕ) (before after : List ℕ) (depth : ℕ) (e : Ending) → is_over depth e ≡ false → Outcome choice n before after e
+    → ((rest : List ℕ) × (after ≡ before ++ rest)) × (tuples choice n before ≡ [])
+not-over choice n before after depth Ending.Found over o = absurd (cc)
+not-over choice n before after depth (Ending.NotFound many) over o = (o.0, o.1 before refl refl)
 
 module _ (pool : Pool) (w : PlainWorld) (before : List ℕ) (side : Side) (sides others : List Side) (cut : sides ≡ side ∷ others) (h : IsBehind pool w before sides) where
   next_side : IsSide pool w.request w.ports (length before) side
@@ -406,19 +413,29 @@ module _ (pool : Pool) (w : PlainWorld) (before : List ℕ) (side : Side) (sides
         place-is : c.place ≡ get_or cs i 0
         place-is = ap place_of at ∙ sym (mapped-at place_of tries i 0 c within)
 
-        pub turn-found : (after : List ℕ) → Outcome (choice_in pool deeper) (length left) longer after true → Outcome (choice_in pool w) (length sides) before after true
+        turn-found : (after : List ℕ) → Outcome (choice_in pool deeper) (length left) longer after Ending.Found → Outcome (choice_in pool w) (length sides) before after Ending.Found
         turn-found after o =
             let ranked : IsSorted (place_order (choice_in pool w) before) cs = tries-ordered pool w before h.world tries (tries-are pool w before h.world side.resources.items next_port tries all) ordered in
             let same : longer ≡ before ++ get_or cs i 0 ∷ [] = is ∙ ap (λ p. before ++ p ∷ []) place-is in
-            let behind_it : Outcome (choice_in pool w) (length others) (before ++ get_or cs i 0 ∷ []) after true =
-            subst (λ b. Outcome (choice_in pool w) (length others) b after true) same
-            (subst (λ n. Outcome (choice_in pool w) n longer after true) long (subst (λ k. Outcome k (length left) longer after true) (choice-same pool w before h.world c is-candidate deeper new) o)) in
-            subst (λ n. Outcome (choice_in pool w) n before after true) (sym (ap length cut))
+            let behind_it : Outcome (choice_in pool w) (length others) (before ++ get_or cs i 0 ∷ []) after Ending.Found =
+            subst (λ b. Outcome (choice_in pool w) (length others) b after Ending.Found) same
+            (subst (λ n. Outcome (choice_in pool w) n longer after Ending.Found) long (subst (λ k. Outcome k (length left) longer after Ending.Found) (choice-same pool w before h.world c is-candidate deeper new) o)) in
+            subst (λ n. Outcome (choice_in pool w) n before after Ending.Found) (sym (ap length cut))
             (outcome-found (choice_in pool w) (length others) before cs in-order ranked i (omega (arith, within, length-mapped place_of tries)) passed after behind_it)
 
-        pub turn-passed : (after : List ℕ) → Outcome (choice_in pool deeper) (length left) longer after false
+        pub turn-over : (after : List ℕ) (depth : ℕ) → depth ≡ length before → (e : Ending) → is_over depth e ≡ true → Outcome (choice_in pool deeper) (length left) longer after e → Outcome (choice_in pool w) (length sides) before after e
+        turn-over after depth deep Ending.Found over o = turn-found after o
+        turn-over after depth deep (Ending.NotFound many) over o = (
+          (c.place ∷ o.0.0, o.0.1 ∙ ap (λ (b : List ℕ). b ++ o.0.0) is ∙ append_assoc before (c.place ∷ []) o.0.0),
+          subst (λ (n : ℕ). HasNoTuples (choice_in pool w) n before many) (sym (ap length cut))
+              (spent-above (choice_in pool w) (length others) before many c.place (subst (λ (n : ℕ). many ≤ n) deep (grind (arith, nat_tests)))
+              (subst (λ (b : List ℕ). HasNoTuples (choice_in pool w) (length others) b many) is
+              (subst (λ (n : ℕ). HasNoTuples (choice_in pool w) n longer many) long (subst (λ (k : Choice). HasNoTuples k (length left) longer many) (choice-same pool w before h.world c is-candidate deeper new) o.1)))),
+        )
+
+        pub turn-passed : tuples (choice_in pool deeper) (length left) longer ≡ []
             → (j : ℕ) → j < i + 1 → tuples (choice_in pool w) (length others) (before ++ get_or cs j 0 ∷ []) ≡ []
-        turn-passed after o = below_more (λ j. tuples (choice_in pool w) (length others) (before ++ get_or cs j 0 ∷ []) ≡ []) i passed here
+        turn-passed none = below_more (λ j. tuples (choice_in pool w) (length others) (before ++ get_or cs j 0 ∷ []) ≡ []) i passed here
           where
             here : tuples (choice_in pool w) (length others) (before ++ get_or cs i 0 ∷ []) ≡ []
             here =
@@ -426,10 +443,16 @@ module _ (pool : Pool) (w : PlainWorld) (before : List ℕ) (side : Side) (sides
                 ∙ ap (tuples (choice_in pool w) (length others)) (sym is)
                 ∙ ap (λ n. tuples (choice_in pool w) n longer) (sym long)
                 ∙ ap (λ k. tuples k (length left) longer) (sym (choice-same pool w before h.world c is-candidate deeper new))
-                ∙ o.1
+                ∙ none
 
+    -- where there is none behind this prefix, there may be none behind fewer of its places
     pub turn-none : (i : ℕ) → length tries ≤ i → ((j : ℕ) → j < i → tuples (choice_in pool w) (length others) (before ++ get_or cs j 0 ∷ []) ≡ []) → (after : List ℕ) → after ≡ before
-        → Outcome (choice_in pool w) (length sides) before after false
-    turn-none i past passed after same =
-        subst (λ n. Outcome (choice_in pool w) n before after false) (sym (ap length cut))
-        (outcome-none (choice_in pool w) (length others) before cs in-order (λ j within. passed j (omega (arith, within, past, length-mapped place_of tries))) after same)
+        → (new : Side) → IsSide pool w.request w.ports (length before) new → (many : ℕ) → (many < length before → is_spent (take many before) new ≡ true)
+        → Outcome (choice_in pool w) (length sides) before after (Ending.NotFound many)
+    turn-none i past passed after same new is many spent = (([], same ∙ sym (append-nil before)), subst (λ (n : ℕ). HasNoTuples (choice_in pool w) n before many) (sym (ap length cut)) (by (nat_lt many (length before)) refl))
+      where
+        by : (b : Bool) → nat_lt many (length before) ≡ b → HasNoTuples (choice_in pool w) (suc (length others)) before many
+        by true e = spent-here pool w.request w.ports (length others) before new is many (spent (grind (arith, nat_tests)))
+        by false e =
+            none-whole (choice_in pool w) (suc (length others)) before many (grind (arith, nat_tests))
+            (outcome-none (choice_in pool w) (length others) before cs in-order (λ j within. passed j (omega (arith, within, past, length-mapped place_of tries))))

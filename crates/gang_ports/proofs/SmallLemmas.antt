@@ -13,9 +13,9 @@ use Rattle.ad_tree.specs.declared.request.Port.{Port}
 use Rattle.ad_store.specs.Stock.{Advert}
 use Rattle.eval_scope.specs.World.{PlainWorld, ads, with_docked}
 use Rattle.ad_eval.specs.Small.{AreSmall}
-use Rattle.bilateral_match.specs.Pool.{Pool}
-use Rattle.bilateral_match.specs.Small.{AreSmallAds}
-use Rattle.bilateral_match.proofs.SmallLemmas.{found-small}
+use Rattle.dock_match.specs.Pool.{Pool}
+use Rattle.dock_match.specs.Small.{AreSmallAds}
+use Rattle.dock_match.proofs.SmallLemmas.{found-small}
 use Rattle.gang_ports.specs.declared.weighing.Candidate.{Candidate}
 use Rattle.gang_ports.specs.declared.weighing.Resource.{Resource}
 use Rattle.gang_ports.specs.declared.weighing.Side.{Side}

@@ -8,8 +8,8 @@ use Rattle.ad_store.specs.Stock.{Advert, is_live}
 use Rattle.ad_eval.specs.Dock.{is_docked, rank_by}
 use Rattle.conjunct_plan.specs.Decided.{is_dock_decided}
 use Rattle.conjunct_plan.specs.Tests.{labels_of, tests_of}
-use Rattle.bilateral_match.specs.Counts.{least_left}
-use Rattle.bilateral_match.specs.Pool.{Pool}
+use Rattle.ad_candidates.specs.Counts.{least_left}
+use Rattle.dock_match.specs.Pool.{Pool}
 use Rattle.eval_scope.specs.World.{PlainWorld, attribute_count, port_frame, request_side}
 use Rattle.gang_ports.specs.Choice.{Choice, first_of, is_among, over_prefixes, tuples}
 use Rattle.gang_ports.specs.FreePorts.{is_free_port}

@@ -1,6 +1,6 @@
 -- What a search for a gang goes through, and what it makes of a prefix.
-use Rattle.std.specs.Prelude.{◌≡◌, ℕ, suc, ◌+◌, ◌*◌, ℤ, Bool, true, false, List, [], ◌∷◌, ◌++◌, length, map, sum_by, Option, None, Some, option_map, All, if◌then◌else◌}
-use Rattle.std.specs.List.{filter_map}
+use Rattle.std.specs.Prelude.{◌≡◌, ℕ, suc, ◌+◌, ◌*◌, ℤ, Bool, ◌==◌, ◌&&◌, ◌||◌, nat_le, true, false, List, [], ◌∷◌, ◌++◌, length, map, sum_by, take, Option, None, Some, option_map, All, if◌then◌else◌}
+use Rattle.std.specs.List.{filter_map, list_all, list_any}
 use Rattle.std.specs.List.Sorted.{IsPermutation}
 use Rattle.std.specs.Ordering.{int_cmp, nat_cmp, ordering_then}
 use Rattle.std.specs.declared.cmp.Ordering.{Ordering}
@@ -10,8 +10,9 @@ use Rattle.ad_tree.specs.declared.request.Port.{Port}
 use Rattle.eval_scope.specs.World.{PlainWorld, attribute_count, port_frame, request_side, with_docked}
 use Rattle.ad_eval.specs.Dock.{is_docked, rank_by}
 use Rattle.conjunct_plan.specs.Tests.{labels_of}
-use Rattle.bilateral_match.specs.Pool.{Pool}
-use Rattle.bilateral_match.specs.Sides.{open_sides}
+use Rattle.dock_match.specs.Pool.{Pool}
+use Rattle.dock_match.specs.Sides.{open_sides}
+use Rattle.gang_ports.specs.declared.searching.Ending.{Ending}
 use Rattle.gang_ports.specs.declared.weighing.Candidate.{Candidate}
 use Rattle.gang_ports.specs.declared.weighing.Kept.{Kept}
 use Rattle.gang_ports.specs.declared.weighing.Resource.{Resource}
@@ -134,6 +135,20 @@ abbrev pub AreSides : Pool → List Frame → List Port → ℕ → List Side �
 AreSides pool request ports i [] = Unit {0}
 AreSides pool request ports i (side ∷ sides) = IsSide pool request ports i side × AreSides pool request ports (suc i) sides
 
+-- some port has none
+unfoldable pub has_empty : List Side → Bool
+has_empty sides = list_any (λ side. length side.resources.items == 0) sides
+
+-- a resource was weighed, and doesn't dock
+abbrev pub is_undocked : Kept → Bool
+is_undocked Kept.Unknown = false
+is_undocked (Kept.Weighed None) = true
+is_undocked (Kept.Weighed (Some rank)) = false
+
+-- a port is free, and each of its resources is docked at one of these places, or was weighed and doesn't dock
+abbrev pub is_spent : List ℕ → Side → Bool
+is_spent before side = side.is_free && list_all (λ r. is_undocked r.kept || is_among before r.place) side.resources.items
+
 -- ---- behind a prefix
 
 -- the world is that of a prefix, and the sides are those of the ports behind it
@@ -144,10 +159,24 @@ pub record IsBehind (pool : Pool) (w : PlainWorld) (before : List ℕ) (left : L
 abbrev pub choice_in : Pool → PlainWorld → Choice
 choice_in pool w = choice_of pool w.request w.ports
 
--- the first tuple of n more is added to the places before it, or there is none
-abbrev pub Outcome : Choice → ℕ → List ℕ → List ℕ → Bool → Type 0
-Outcome choice n before after true = (tuple : List ℕ) × (after ≡ before ++ tuple) × IsFirst choice before (tuples choice n before) tuple
-Outcome choice n before after false = (after ≡ before) × (tuples choice n before ≡ [])
+-- a tuple is found
+abbrev pub is_found : Ending → Bool
+is_found Ending.Found = true
+is_found (Ending.NotFound many) = false
+
+-- a tuple is found, or there is none while the places stay up to this depth
+abbrev pub is_over : ℕ → Ending → Bool
+is_over depth Ending.Found = true
+is_over depth (Ending.NotFound many) = nat_le many depth
+
+-- no n more places follow as many places that begin with this many of these
+abbrev pub HasNoTuples : Choice → ℕ → List ℕ → ℕ → Type 0
+HasNoTuples choice n before many = (other : List ℕ) → length other ≡ length before → take many other ≡ take many before → tuples choice n other ≡ []
+
+-- the places before it stay the first, and the first tuple of n more is added to them, or there is none
+abbrev pub Outcome : Choice → ℕ → List ℕ → List ℕ → Ending → Type 0
+Outcome choice n before after Ending.Found = (tuple : List ℕ) × (after ≡ before ++ tuple) × IsFirst choice before (tuples choice n before) tuple
+Outcome choice n before after (Ending.NotFound many) = ((rest : List ℕ) × (after ≡ before ++ rest)) × HasNoTuples choice n before many
 
 -- the evaluations over all prefixes behind one, and the attributes that may be entered in them
 abbrev pub evaluations_from : Pool → PlainWorld → ℕ → List ℕ → ℕ

@@ -1,16 +1,17 @@
 // The gang of a request.
-ghost use Rattle.std.specs.Prelude.{◌≡◌, ◌≤◌, ◌<◌, ◌+◌, ◌*◌, All, length, map, IfOk, Some, option_map};
+ghost use Rattle.std.specs.Prelude.{◌≡◌, ◌≤◌, ◌<◌, ◌+◌, ◌*◌, ℕ, suc, [], All, length, map, IfOk, Some, option_map};
 ghost use Rattle.ad_tree.specs.Ad.{ad_frames};
 ghost use Rattle.ad_tree.specs.Small.{IsSmall};
 ghost use Rattle.ad_store.specs.Store.{stock_of};
 ghost use Rattle.literal_index.specs.Shown.{IsIndex};
-ghost use Rattle.bilateral_match.specs.Pool.{pool_of, slot_at};
-ghost use Rattle.bilateral_match.specs.Rows.{rows_of};
-ghost use Rattle.bilateral_match.specs.Small.{AreSmallAds};
-ghost use Rattle.gang_ports.specs.Gangs.{attributes_open, docks_open, docks_weighed, gang, looks_most};
+ghost use Rattle.ad_candidates.specs.Rows.{rows_of};
+ghost use Rattle.dock_match.specs.Pool.{pool_of, slot_at};
+ghost use Rattle.dock_match.specs.Small.{AreSmallAds};
+ghost use Rattle.eval_scope.specs.World.{port_frame};
+ghost use Rattle.gang_ports.specs.Gangs.{attributes_open, docks_open, docks_weighed, gang, looks_most, open_places};
 ghost use Rattle.gang_ports.specs.Ports.{ports_of};
 
-use crate::reading::read_sides;
+use crate::reading::{has_empty, read_sides};
 use crate::searching::search;
 use ad_store::{Holdings, Store};
 use ad_tree::Request;
@@ -32,7 +33,7 @@ use std::sync::ledger::Ledger;
 /// counts each of them once in `touch`. In `tops` and `entry` it counts what evaluations count: for each port and each way
 /// to dock the ports before it, three at most for another free resource whose dock no test of either side decides. Where no
 /// bare name in the request is the label of a port before it, a port counts each such resource in `tops` once, however many
-/// ways there are.
+/// ways there are. Where tests and what is offered or claimed leave some port no resource, it evaluates nothing.
 pub fn first_gang<H: Holdings, F: Ledger, E: Ledger, T: Ledger>(
     alloc: Global,
     store: &Store,
@@ -55,9 +56,15 @@ pub fn first_gang<H: Holdings, F: Ledger, E: Ledger, T: Ledger>(
     ensures entries { entry.new ≤ entry.old
         + attributes_open (pool_of moment (stock_of store.now) (H.is_offered held.now) (H.holding held.now)) (ad_frames request.now.ad) request.now.ports }
     ensures ratio { IsSmall (ad_frames request.now.ad) → AreSmallAds (stock_of store.now).ads → entry.new + 9216 * tops.old ≤ entry.old + 9216 * tops.new }
+    ensures empty { (i : ℕ) → i < length request.now.ports
+        → open_places (pool_of moment (stock_of store.now) (H.is_offered held.now) (H.holding held.now)) (ad_frames request.now.ad) request.now.ports (port_frame request.now.ports (suc i)) ≡ []
+        → tops.new ≡ tops.old }
     ensures looks { touch.new ≤ touch.old + looks_most (stock_of store.now).ads (ad_frames request.now.ad) request.now.ports }
 {
     let mut sides = read_sides(alloc, store, index, held, request, moment, touch)?;
+    if has_empty(sides.as_slice()) {
+        return Ok(None);
+    }
     let world = World::new(moment, &request.ad, &request.ports);
     let mut places = Vec::new(alloc);
     let searched = search(
@@ -69,8 +76,8 @@ pub fn first_gang<H: Holdings, F: Ledger, E: Ledger, T: Ledger>(
         entry,
     );
     drop(sides);
-    let found = searched?;
-    if !found {
+    let ending = searched?;
+    if !ending.is_found() {
         return Ok(None);
     }
     Ok(Some(slots_at(alloc, store, places.as_slice())?))

@@ -1,7 +1,7 @@
 // Laws of gangs, each on a function that does nothing.
 ghost use Rattle.std.specs.Prelude.{◌≡◌, ◌≤◌, ℕ, [], true, length, List, None, Option, Bool};
 ghost use Rattle.ad_tree.specs.Ad.{ad_frames};
-ghost use Rattle.bilateral_match.specs.Pool.{Pool};
+ghost use Rattle.dock_match.specs.Pool.{Pool};
 ghost use Rattle.gang_ports.specs.Choice.{IsFirstOf, tuples};
 ghost use Rattle.gang_ports.specs.FreePorts.{is_free_port};
 ghost use Rattle.gang_ports.specs.Gangs.{attributes_open, choice_of, docks_open, gang};

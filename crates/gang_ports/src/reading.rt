@@ -5,17 +5,18 @@ ghost use Rattle.ad_tree.specs.Ad.{ad_frames};
 ghost use Rattle.ad_store.specs.Store.{stock_of};
 ghost use Rattle.conjunct_plan.specs.Tests.{labels_of, tests_of};
 ghost use Rattle.literal_index.specs.Shown.{IsIndex};
-ghost use Rattle.bilateral_match.specs.Counts.{least_left};
-ghost use Rattle.bilateral_match.specs.Pool.{pool_of};
-ghost use Rattle.bilateral_match.specs.Rows.{rows_of};
+ghost use Rattle.ad_candidates.specs.Counts.{least_left};
+ghost use Rattle.ad_candidates.specs.Rows.{rows_of};
+ghost use Rattle.dock_match.specs.Pool.{pool_of};
 ghost use Rattle.gang_ports.specs.Gangs.{ad_at, is_free, is_open, looks_most, open_places};
-ghost use Rattle.gang_ports.specs.Search.{AreResources, AreSides, HasSides, HaveSides, is_unknown};
+ghost use Rattle.gang_ports.specs.Search.{AreResources, AreSides, HasSides, HaveSides, has_empty, is_unknown};
 
 use crate::free_ports::is_free_port;
 use crate::weighing::{Kept, Resource, Side};
+use ad_candidates::candidates_at;
 use ad_store::{Holdings, Store};
 use ad_tree::{Ad, Request};
-use bilateral_match::{candidates_at, is_live, open_sides};
+use dock_match::open_sides;
 use literal_index::Index;
 use pool_steps::Steps;
 use pool_text::OutOfMemory;
@@ -49,6 +50,14 @@ pub fn read_sides<'a, H: Holdings, T: Ledger>(
         sides.push(Side { is_free, resources })?;
     }
     Ok(sides)
+}
+
+/// Whether some port has no resource with which its dock may be true: then no tuple fills all ports.
+#[tactic(auto, unfolding(crate::specs::Search::has_empty))]
+pub(crate) fn has_empty(sides: &[Side<'_>]) -> bool
+    ensures { result ≡ has_empty sides.now }
+{
+    sides.iter().any(|side| side.resources.is_empty())
 }
 
 // The resources that the port at a frame may be given, of which nothing is known yet.
@@ -123,7 +132,7 @@ fn is_free<H: Holdings>(store: &Store, held: &H, slot: usize, moment: u64) -> bo
     ensures { (i : ℕ) → slice_get (stock_of store.now).slots i ≡ Some slot
         → result ≡ is_free (pool_of moment (stock_of store.now) (H.is_offered held.now) (H.holding held.now)) i }
 {
-    is_live(store, slot, moment) && !held.offered(slot) && held.holder(slot).is_none()
+    store.is_live(slot, moment) && !held.offered(slot) && held.holder(slot).is_none()
 }
 
 // Adds a resource, if there is one.

@@ -1,20 +1,20 @@
 // What the docks of a port with single resources are worth.
-ghost use Rattle.std.specs.Prelude.{◌≡◌, ◌≤◌, ◌<◌, ◌+◌, ◌*◌, [], All, Some, length, map, option_map, sum_by, IfOk, OnOk, ◌++◌};
-ghost use Rattle.std.specs.List.{cons_option, filter_map};
+ghost use Rattle.std.specs.Prelude.{◌≡◌, ◌≤◌, ◌<◌, ◌+◌, ◌*◌, ◌||◌, [], All, Some, length, map, option_map, sum_by, IfOk, OnOk, ◌++◌};
+ghost use Rattle.std.specs.List.{cons_option, filter_map, list_all};
 ghost use Rattle.std.specs.List.Sorted.{IsPermutation, IsSorted};
 ghost use Rattle.ad_tree.specs.Ad.{ad_frames};
 ghost use Rattle.ad_tree.specs.Small.{IsSmall};
 ghost use Rattle.eval_scope.specs.Shown.{world_of};
 ghost use Rattle.eval_scope.specs.World.{attribute_count};
 ghost use Rattle.ad_eval.specs.Small.{AreSmall};
-ghost use Rattle.bilateral_match.specs.Docks.{last_open};
+ghost use Rattle.dock_match.specs.Docks.{last_open};
 ghost use Rattle.gang_ports.specs.Choice.{is_among};
-ghost use Rattle.gang_ports.specs.Search.{HasSidesIn, attributes_of, candidate_in, candidate_order, evaluations_in, forgotten, remembered, weighed_in, worth};
+ghost use Rattle.gang_ports.specs.Search.{HasSidesIn, attributes_of, candidate_in, candidate_order, evaluations_in, forgotten, is_spent, is_undocked, remembered, weighed_in, worth};
 ghost use Rattle.gang_ports.specs.Small.{AreSmallResources};
 
 use ad_eval::rank;
 use ad_tree::Ad;
-use bilateral_match::OpenSides;
+use dock_match::OpenSides;
 use eval_scope::World;
 use pool_steps::Steps;
 use pool_text::OutOfMemory;
@@ -80,6 +80,28 @@ pub fn candidates<'a, F: Ledger, E: Ledger>(
     let mut tries = weigh_all(alloc, world, before, resources, tops, entry)?;
     arrange(&mut tries);
     Ok(tries)
+}
+
+/// Whether the port is free and has no resource behind these places: each is docked at one of them, or weighed and doesn't
+/// dock.
+pub fn is_spent(before: &[usize], side: &Side<'_>) -> bool
+    ensures { result ≡ is_spent before.now side.now }
+{
+    side.is_free && are_spent(before, side.resources.as_slice())
+}
+
+// Whether each of the resources is docked at one of the places, or weighed and doesn't dock.
+fn are_spent(before: &[usize], resources: &[Resource<'_>]) -> bool
+    ensures { result ≡ list_all (λ r. is_undocked r.kept || is_among before.now r.place) resources.now }
+{
+    resources.iter().all(|resource| is_undocked(resource.kept) || is_among(before, resource.place))
+}
+
+// Whether a resource is weighed and doesn't dock.
+fn is_undocked(kept: Kept) -> bool
+    ensures { result ≡ is_undocked kept }
+{
+    matches!(kept, Kept::Weighed(None))
 }
 
 // Forgets what is known of resources, unless they are those of a free port.

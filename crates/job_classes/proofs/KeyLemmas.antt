@@ -1,5 +1,5 @@
 -- What stands in keys, and that requests with equal keys have the same trees under the names that are reached.
-use Rattle.std.proofs.Common.{◌≡◌, ◌≤◌, ◌<◌, ℕ, zero, suc, ◌+◌, Bool, true, false, cond, true≢false, List, [], ◌∷◌, length, get_or, position, Option, None, Some, slice_get, Contains, Ok, refl, sym, ◌∙◌, ap, subst, arith, ◌⊎◌, inl, inr}
+use Rattle.std.proofs.Common.{◌≡◌, ◌≤◌, ◌<◌, ℕ, zero, suc, ◌+◌, Bool, true, false, cond, true≢false, List, [], ◌∷◌, length, get_or, map, position, Option, None, Some, slice_get, Contains, Ok, refl, sym, ◌∙◌, ap, subst, arith, ◌⊎◌, inl, inr}
 use Rattle.std.specs.Prelude.{◌↔◌}
 use Rattle.std.specs.List.{cons_option, flat_map, position_or_len, filter_map}
 use Rattle.std.specs.Ordering.{is_lt, nat_cmp}
@@ -26,12 +26,14 @@ use Rattle.ad_parser.specs.Limits.{height_limit}
 use Rattle.ad_parser.proofs.KeptLemmas.{ad_answer-made, ad_answer-within}
 use Rattle.ad_printer.specs.Printed.{printed}
 use Rattle.job_classes.specs.Keys.{Entry, IsEntry, arranged, entered, entries, entry_of, key_from, key_of}
+use Rattle.job_classes.specs.Marking.{reached_marks}
 use Rattle.job_classes.specs.Matched.{AreMatchedAlike, docked_to}
 use Rattle.job_classes.specs.Names.{weighed_names, asked_by, needed_in}
 use Rattle.job_classes.specs.Reach.{IsReached, is_first, is_needed, first_names, reached_from}
 use Rattle.job_classes.proofs.ContainLemmas.{contains_at, contains_cases, contains_filter_map, contains_first, contains_later, contains_none, filter_map_contains, has_name-listed, listed-has_name, same_name-folded}
 use Rattle.job_classes.proofs.ReachLemmas.{list_is_least}
-use Rattle.job_classes.proofs.SitsLemmas.{IsDefAt, Origin, both_along, def_at-stands, matched-alike}
+use Rattle.job_classes.proofs.DockedLemmas.{both_along}
+use Rattle.job_classes.proofs.SitsLemmas.{IsDefAt, Origin, def_at-stands, told-alike}
 
 -- ---- entries in order
 
@@ -288,7 +290,7 @@ module _ (first : List (List ℕ)) (ds es : Defs) (one : IsParsed ds) (other : I
     pub told_apart_by_none : (res : List Frame) → ((y : List ℕ) → Contains weighed_names y → Contains first y) → ((y : List ℕ) → Contains (asked_by res) y → Contains first y) → (moment : ℕ)
         → AreMatchedAlike (docked_to moment (frames 0 0 (inner ds)) res) (docked_to moment (frames 0 0 (inner es)) res)
     told_apart_by_none res weighed asked moment =
-        matched-alike (record {
+        told-alike (record {
           fs = frames 0 0 (inner ds);
           gs = frames 0 0 (inner es);
           ds = ds;
@@ -328,7 +330,7 @@ parsed-ad text ad answer =
     }
 
 -- the names of an ad are among those from which it goes on
-flat_map-names : (ads : List (List Frame)) (ad : List Frame) (y : List ℕ) → Contains ads ad → Contains (asked_by ad) y → Contains (flat_map asked_by ads) y
+pub flat_map-names : (ads : List (List Frame)) (ad : List Frame) (y : List ℕ) → Contains ads ad → Contains (asked_by ad) y → Contains (flat_map asked_by ads) y
 flat_map-names [] ad y c h = absurd (contains_none ad c)
 flat_map-names (a ∷ ads) ad y c h = by (flat_map-names ads ad y) (contains_cases a ads ad c)
   where
@@ -378,3 +380,13 @@ entries-along names others request same (a ∷ rest) =
 pub keys-alike : (first other : List (List ℕ)) → ((x : List ℕ) → has_name x first ≡ has_name x other) → (request : List Frame) → key_from first request ≡ key_from other request
 keys-alike first other same request =
     ap (arranged []) (entries-along (reached_from first request) (reached_from other request) request (listed-along first other same request) (attributes_at request 0))
+
+marks-along-of : (names others : List (List ℕ)) → ((x : List ℕ) → has_name x names ≡ has_name x others) → (attributes : List (List ℕ × Tree))
+    → map (λ (a : List ℕ × Tree). has_name a.0 names) attributes ≡ map (λ (a : List ℕ × Tree). has_name a.0 others) attributes
+marks-along-of names others same [] = refl
+marks-along-of names others same (a ∷ rest) =
+    ap (λ b. b ∷ map (λ (c : List ℕ × Tree). has_name c.0 names) rest) (same a.0)
+    ∙ ap (λ bs. has_name a.0 others ∷ bs) (marks-along-of names others same rest)
+
+pub marks-along : (first other : List (List ℕ)) → ((x : List ℕ) → has_name x first ≡ has_name x other) → (request : List Frame) → reached_marks first request ≡ reached_marks other request
+marks-along first other same request = marks-along-of (reached_from first request) (reached_from other request) (listed-along first other same request) (attributes_at request 0)

@@ -1,5 +1,7 @@
 mod AddLemmas
+mod CompareLemmas
 pub mod ContainLemmas
+mod DockedLemmas
 mod EntryLemmas
 mod KeyLemmas
 mod MarkLemmas
@@ -7,3 +9,4 @@ mod ReachLemmas
 mod SetLemmas
 mod SitsLemmas
 mod TwinLemmas
+mod WorldLemmas

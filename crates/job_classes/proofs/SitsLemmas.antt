@@ -1,7 +1,6 @@
 -- Two requests whose roots have the same trees under the names that matter: an ad is docked to both alike.
-use Rattle.std.proofs.Common.{◌≡◌, ◌≤◌, ◌<◌, ℕ, zero, suc, ◌+◌, Bool, true, false, ◌&&◌, eqb, List, [], ◌∷◌, length, get_or, map, position, Option, None, Some, option_map, slice_get, Contains, codes, refl, sym, ◌∙◌, ap, subst, arith}
+use Rattle.std.proofs.Common.{◌≡◌, ◌≤◌, ◌<◌, ℕ, zero, suc, ◌+◌, Bool, true, false, eqb, List, [], length, get_or, position, Option, Some, option_map, slice_get, Contains, refl, sym, ◌∙◌, ap, subst, arith}
 use Rattle.std.specs.Prelude.{bytes_eq}
-use Rattle.std.specs.List.{flat_map}
 use Rattle.std.proofs.lemmas.Bool.Decides.{nat_tests}
 use Rattle.std.proofs.lemmas.List.Elements.{Contains-append_left, Contains-append_right}
 use Rattle.std.proofs.lemmas.List.Quantifiers.{position-Some}
@@ -9,25 +8,21 @@ use Rattle.pool_text.specs.Folding.{folded}
 use Rattle.pool_text.specs.declared.language.AdPlace.{AdPlace}
 use Rattle.pool_text.specs.declared.language.Pos.{Pos}
 use Rattle.builtin_funcs.proofs.AlikeLemmas.{Both, both_none, both_some, IsOneToOne}
-use Rattle.ad_tree.specs.declared.tree.Scope.{Scope}
-use Rattle.ad_tree.specs.Enclosing.{enclosing_frames}
-use Rattle.ad_tree.specs.Frames.{Frame, attributes_at, attributes_in, names_in, names_of, expr_at, parent_of}
+use Rattle.ad_tree.specs.Frames.{Frame, attributes_at, attributes_in, names_in, names_of, parent_of}
 use Rattle.ad_tree.specs.Inline.{Inline, shape, inner, Inlines, end, next, Defs, no_defs, def, count, count_all, count_defs, number, number_all, attributes_from, frames, frames_all, frames_in, def_names}
 use Rattle.ad_tree.specs.Names.{same_name}
 use Rattle.ad_tree.specs.Special.{attribute_named}
-use Rattle.ad_tree.specs.Tree.{Label, literal, name, unary, binary, all, any, choice, select, subscript, call, Tree, node, frame, Trees, none, more}
-use Rattle.ad_tree.specs.Tree.{list as list_node}
+use Rattle.ad_tree.specs.Tree.{Tree, frame}
 use Rattle.ad_tree.proofs.InlineLemmas.{length-frames, names-attributes_from}
 use Rattle.ad_tree.proofs.NameLemmas.{same_folded_form}
 use Rattle.ad_tree.proofs.SpellingLemmas.{Stand, Stand-left, Stand-right, as_it_is}
-use Rattle.eval_scope.specs.declared.found.Found.{Found}
-use Rattle.eval_scope.specs.Look.{attribute_in, enclosing, first_found, found_attribute, in_frame, or_else}
+use Rattle.eval_scope.specs.Look.{attribute_in, enclosing, first_found, found_attribute}
 use Rattle.eval_scope.specs.World.{PlainWorld, expr_of, frame_of_attribute, size_at}
-use Rattle.eval_scope.proofs.LookLemmas.{AreLower, enclosing-next, first_found-append, from_frame}
-use Rattle.ad_eval.specs.Dock.{meets_requirement}
+use Rattle.eval_scope.proofs.LookLemmas.{AreLower}
 use Rattle.job_classes.specs.Matched.{AreMatchedAlike, docked_to}
-use Rattle.job_classes.specs.Names.{weighed_names, asked_at, asked_in, asked_in_all, asked_in_attributes, asked_by, needed_at, needed_in, needed_in_all, needed_in_defs}
-use Rattle.job_classes.proofs.TwinLemmas.{AreTwins, Finds, finds_nothing, finds_places, finds_attributes, FindsAt, TreeAlike, nodes, frames_alike, TreesAlike, no_trees, more_trees, meets-same, rank-same}
+use Rattle.job_classes.specs.Names.{weighed_names, asked_by, needed_at, needed_in, needed_in_all, needed_in_defs}
+use Rattle.job_classes.proofs.DockedLemmas.{AreBeside, both_along, both_equal, both_weaker, expr-itself, finds-resource, first-root, label-request, matched-alike, upwards}
+use Rattle.job_classes.proofs.WorldLemmas.{AreTwinWorlds, Finds, finds_along, finds_both, finds_else, TreeAlike, nodes, frames_alike, TreesAlike, no_trees, more_trees}
 
 -- ---- the definitions of a root, each with the number from which its frames are numbered
 
@@ -169,21 +164,7 @@ data TwinAttribute (S : Setting) : Pos → Pos → Type 0 where
   frame_attributes : {b c : ℕ} → IsNested S b c → (k : ℕ) → TwinAttribute S (record { ad = 0; frame = b; attr = k }) (record { ad = 0; frame = c; attr = k })
   same_attribute : (f k : ℕ) → TwinAttribute S (record { ad = 1; frame = f; attr = k }) (record { ad = 1; frame = f; attr = k })
 
--- ---- related options
-
-both_equal : {A : Type 0} {Rel : A → A → Type 0} {o p m : Option A} → ((a : A) → Rel a a) → o ≡ m → p ≡ m → Both Rel o p
-both_equal {A} {Rel} {o} {p} {m} diagonal one other = rw (one, other) (by m)
-  where
-    by : (n : Option A) → Both Rel n n
-    by None = both_none
-    by (Some a) = both_some (diagonal a)
-
-pub both_along : {A B : Type 0} {Rel : A → B → Type 0} {o o2 : Option A} {p p2 : Option B} → o2 ≡ o → p2 ≡ p → Both Rel o p → Both Rel o2 p2
-both_along one other h = rw (one, other) h
-
-both_weaker : {A B : Type 0} {Rel Sel : A → B → Type 0} {o : Option A} {p : Option B} → ((a : A) (b : B) → Rel a b → Sel a b) → Both Rel o p → Both Sel o p
-both_weaker f both_none = both_none
-both_weaker f (both_some {a = a} {b = b} r) = both_some (f a b r)
+-- ---- numbers
 
 -- tests of equal numbers say the same
 same_tests : (a b c d : ℕ) → (a ≡ b → c ≡ d) → (c ≡ d → a ≡ b) → eqb a b ≡ eqb c d
@@ -198,25 +179,6 @@ same_tests a b c d there back = by (eqb a b) refl (eqb c d) refl
 length-attributes_from : (b c : ℕ) (ds : Defs) → length (attributes_from b ds) ≡ length (attributes_from c ds)
 length-attributes_from b c no_defs = refl
 length-attributes_from b c (def text i ds) = ap suc (length-attributes_from (b + count i) (c + count i) ds)
-
--- what stands in an expression of an ad is asked for by the ad
-flat_map-contains : {A : Type 0} (f : A → List (List ℕ)) (xs : List A) (k : ℕ) (x : A) (y : List ℕ) → slice_get xs k ≡ Some x → Contains (f x) y → Contains (flat_map f xs) y
-flat_map-contains f [] k x y at h = absurd (cc)
-flat_map-contains f (z ∷ xs) zero x y at h = let same : z ≡ x = cc in Contains-append_left (f z) (flat_map f xs) y (subst (λ v. Contains (f v) y) (sym same) h)
-flat_map-contains f (z ∷ xs) (suc k) x y at h = Contains-append_right (f z) (flat_map f xs) y (flat_map-contains f xs k x y at h)
-
-expr-asked : (fs : List Frame) (f k : ℕ) (t : Tree) (y : List ℕ) → expr_at fs f k ≡ Some t → Contains (asked_in t) y → Contains (asked_by fs) y
-expr-asked fs f k t y is h = by_frame (slice_get fs f) refl
-  where
-    by_attribute : (g : Frame) (o : Option (List ℕ × Tree)) → slice_get g.attributes k ≡ o → option_map (λ a. a.1) o ≡ Some t → Contains (asked_in_attributes g.attributes) y
-    by_attribute g None at e = absurd (cc)
-    by_attribute g (Some a) at e = let same : a.1 ≡ t = cc in flat_map-contains (λ a. asked_in a.1) g.attributes k a y at (subst (λ v. Contains (asked_in v) y) (sym same) h)
-
-    by_frame : (o : Option Frame) → slice_get fs f ≡ o → Contains (asked_by fs) y
-    by_frame None at = absurd (cc (is, ap (λ o. option_map (λ a. a.1) (slice_get (attributes_in o) k)) at))
-    by_frame (Some g) at =
-        flat_map-contains (λ g. asked_in_attributes g.attributes) fs f g y at
-        (by_attribute g (slice_get g.attributes k) refl (sym (ap (λ o. option_map (λ a. a.1) (slice_get (attributes_in o) k)) at) ∙ is))
 
 -- ---- distances
 
@@ -300,6 +262,16 @@ module _ (S : Setting) where
   one_to_one p q r s (same_frame f) (twin_frames m) = refl
   one_to_one p q r s (same_frame f) (same_frame g) = refl
 
+  -- ---- beside the ad
+
+  named-root : (x : List ℕ) → S.R x → Both (λ k l. TwinAttribute S (record { ad = 0; frame = 0; attr = k }) (record { ad = 0; frame = 0; attr = l })) (attribute_named S.fs 0 x) (attribute_named S.gs 0 x)
+  named-root x r =
+      both_along (ap (position (same_name x)) (frame-names S.fs 0 0 S.ds S.here)) (ap (position (same_name x)) (frame-names S.gs 0 0 S.es S.there))
+      (both_weaker (λ k l o. root_attributes o) (S.shared x r))
+
+  beside : AreBeside S.fs S.gs S.res S.R (TwinPlace S) (TwinAttribute S)
+  beside = record { frames = same_frame; attributes = same_attribute; roots = named-root; weighed = S.weighed; asked = S.asked }
+
 -- ---- the two worlds
 
 module _ (S : Setting) (moment : ℕ) where
@@ -309,21 +281,6 @@ module _ (S : Setting) (moment : ℕ) where
   abbrev v : PlainWorld
   v = docked_to moment S.gs S.res
 
-  abbrev Met : Found → Found → Type 0
-  Met = Finds (TwinPlace S) (TwinAttribute S)
-
-  finds_along : {a b c d : Found} → c ≡ a → d ≡ b → Met a b → Met c d
-  finds_along one other h = rw (one, other) h
-
-  finds_both : (P Q : ℕ → Pos) {o p : Option ℕ} → Both (λ k l. TwinAttribute S (P k) (Q l)) o p → Met (found_attribute (option_map P o)) (found_attribute (option_map Q p))
-  finds_both P Q both_none = finds_nothing
-  finds_both P Q (both_some h) = finds_attributes h
-
-  finds_else : {a b c d : Found} → Met a b → Met c d → Met (or_else a c) (or_else b d)
-  finds_else finds_nothing k = k
-  finds_else (finds_places m) k = finds_places m
-  finds_else (finds_attributes n) k = finds_attributes n
-
   -- ---- what names find in one frame
 
   named-nested : {b c : ℕ} (n : IsNested S b c) (x : List ℕ)
@@ -331,31 +288,10 @@ module _ (S : Setting) (moment : ℕ) where
   named-nested {b} {c} n x =
       both_equal (λ k. frame_attributes n k) (ap (position (same_name x)) (frame-names S.fs n.p b n.inside n.sits.here)) (ap (position (same_name x)) (frame-names S.gs n.q c n.inside n.sits.there))
 
-  named-root : (x : List ℕ) → S.R x → Both (λ k l. TwinAttribute S (record { ad = 0; frame = 0; attr = k }) (record { ad = 0; frame = 0; attr = l })) (attribute_named S.fs 0 x) (attribute_named S.gs 0 x)
-  named-root x r =
-      both_along (ap (position (same_name x)) (frame-names S.fs 0 0 S.ds S.here)) (ap (position (same_name x)) (frame-names S.gs 0 0 S.es S.there))
-      (both_weaker (λ k l o. root_attributes o) (S.shared x r))
-
-  named-resource : (f : ℕ) (x : List ℕ) → Both (λ k l. TwinAttribute S (record { ad = 1; frame = f; attr = k }) (record { ad = 1; frame = f; attr = l })) (attribute_named S.res f x) (attribute_named S.res f x)
-  named-resource f x = both_equal {m = attribute_named S.res f x} (λ k. same_attribute f k) refl refl
-
-  finds-nested : {b c : ℕ} → IsNested S b c → (x : List ℕ) → Met (found_attribute (attribute_in w (record { ad = 0; frame = b }) x)) (found_attribute (attribute_in v (record { ad = 0; frame = c }) x))
+  finds-nested : {b c : ℕ} → IsNested S b c → (x : List ℕ) → Finds (TwinPlace S) (TwinAttribute S) (found_attribute (attribute_in w (record { ad = 0; frame = b }) x)) (found_attribute (attribute_in v (record { ad = 0; frame = c }) x))
   finds-nested {b} {c} n x = finds_both (λ k. record { ad = 0; frame = b; attr = k }) (λ k. record { ad = 0; frame = c; attr = k }) (named-nested n x)
 
-  finds-root : (x : List ℕ) → S.R x → Met (found_attribute (attribute_in w (record { ad = 0; frame = 0 }) x)) (found_attribute (attribute_in v (record { ad = 0; frame = 0 }) x))
-  finds-root x r = finds_both (λ k. record { ad = 0; frame = 0; attr = k }) (λ k. record { ad = 0; frame = 0; attr = k }) (named-root x r)
-
-  finds-resource : (f : ℕ) (x : List ℕ) → Met (found_attribute (attribute_in w (record { ad = 1; frame = f }) x)) (found_attribute (attribute_in v (record { ad = 1; frame = f }) x))
-  finds-resource f x = finds_both (λ k. record { ad = 1; frame = f; attr = k }) (λ k. record { ad = 1; frame = f; attr = k }) (named-resource f x)
-
   -- ---- and in frames one after another
-
-  first-root : (x : List ℕ) → S.R x → Met (first_found w x (in_frame (record { ad = 0; frame = 0 }) ∷ [])) (first_found v x (in_frame (record { ad = 0; frame = 0 }) ∷ []))
-  first-root x r = finds_else (finds-root x r) finds_nothing
-
-  first-resource : (fs : List ℕ) (x : List ℕ) → Met (first_found w x (map (λ f. in_frame (record { ad = 1; frame = f })) fs)) (first_found v x (map (λ f. in_frame (record { ad = 1; frame = f })) fs))
-  first-resource [] x = finds_nothing
-  first-resource (f ∷ fs) x = finds_else (finds-resource f x) (first-resource fs x)
 
   above_root : {b c n : ℕ} → IsTwin S b c n → (0 < b) × (0 < c)
   above_root t =
@@ -363,40 +299,14 @@ module _ (S : Setting) (moment : ℕ) where
       let other = t.c_far in
       (omega (arith, one, def_at-above 1 S.ds t.k t.origin.s t.origin.body t.origin.here), omega (arith, other, def_at-above 1 S.es t.l t.origin.t t.origin.body t.origin.there))
 
-  upwards : {p : ℕ} (b : ℕ) (u : PlainWorld) (x : List ℕ) (lower : AreLower u.request) → parent_of u.request b ≡ Some p
-      → first_found u x (enclosing u (record { ad = 0; frame = b }))
-      ≡ or_else (found_attribute (attribute_in u (record { ad = 0; frame = b }) x)) (first_found u x (enclosing u (record { ad = 0; frame = p })))
-  upwards {p} b u x lower parent =
-      ap (first_found u x) (enclosing-next u 0 b lower)
-      ∙ ap (λ o. or_else (found_attribute (attribute_in u (record { ad = 0; frame = b }) x)) (first_found u x (from_frame u 0 o))) parent
-
-  first-enclosing : {p q : ℕ} → Standing S p q → (x : List ℕ) → S.R x → Met (first_found w x (enclosing w (record { ad = 0; frame = p }))) (first_found v x (enclosing v (record { ad = 0; frame = q })))
-  first-enclosing at_root x r = first-root x r
+  first-enclosing : {p q : ℕ} → Standing S p q → (x : List ℕ) → S.R x → Finds (TwinPlace S) (TwinAttribute S) (first_found w x (enclosing w (record { ad = 0; frame = p }))) (first_found v x (enclosing v (record { ad = 0; frame = q })))
+  first-enclosing at_root x r = first-root S.fs S.gs S.res S.R (TwinPlace S) (TwinAttribute S) (beside S) moment x r
   first-enclosing (at_literal {p = p} {q = q} {b = b} {c = c} {inside = inside} outside sits twin) x r =
       let low = above_root twin in
       finds_along (upwards b w x S.here_lower (frame-parent S.fs p b inside low.0 sits.here)) (upwards c v x S.there_lower (frame-parent S.gs q c inside low.1 sits.there))
       (finds_else (finds-nested (record { p = p; q = q; inside = inside; outside = outside; sits = sits; twin = twin }) x) (first-enclosing outside x r))
 
-  -- ---- names in expressions of the requests
-
-  label-twin : {p q : ℕ} → Standing S p q → (label : Label) → ((y : List ℕ) → Contains (needed_at label) y → S.R y)
-      → FindsAt (TwinPlace S) (TwinAttribute S) w v (record { ad = 0; frame = p }) (record { ad = 0; frame = q }) label
-  label-twin {p} {q} standing (name Scope.Bare x) names =
-      finds_along (first_found-append w x (enclosing w (record { ad = 0; frame = p })) (in_frame (record { ad = 1; frame = 0 }) ∷ []))
-      (first_found-append v x (enclosing v (record { ad = 0; frame = q })) (in_frame (record { ad = 1; frame = 0 }) ∷ []))
-      (finds_else (first-enclosing standing x (names x (0, omega arith, refl))) (first-resource (0 ∷ []) x))
-  label-twin standing (name Scope.My x) names = first-root x (names x (0, omega arith, refl))
-  label-twin standing (name Scope.Target x) names = first-resource (0 ∷ []) x
-  label-twin standing (literal lit) names = tt
-  label-twin standing (unary op) names = tt
-  label-twin standing (binary op) names = tt
-  label-twin standing all names = tt
-  label-twin standing any names = tt
-  label-twin standing choice names = tt
-  label-twin standing (select x) names = tt
-  label-twin standing subscript names = tt
-  label-twin standing (call x) names = tt
-  label-twin standing list_node names = tt
+  -- ---- expressions of the requests
 
   abbrev TwinTree : ℕ → ℕ → Tree → Tree → Type 0
   TwinTree p q = TreeAlike (TwinPlace S) (TwinAttribute S) w v (record { ad = 0; frame = p }) (record { ad = 0; frame = q })
@@ -405,7 +315,7 @@ module _ (S : Setting) (moment : ℕ) where
     tree-twin : (p q b c : ℕ) (i : Inline) → Standing S p q → Stand as_it_is S.fs b (frames p b i) → Stand as_it_is S.gs c (frames q c i) → ((y : List ℕ) → Contains (needed_in i) y → S.R y)
         → IsTwin S b c (count i) → TwinTree p q (number b i) (number c i)
     tree-twin p q b c (shape label is) standing here there names twin =
-        nodes (label-twin standing label (λ y h. names y (Contains-append_left (needed_at label) (needed_in_all is) y h)))
+        nodes (label-request S.fs S.gs S.res S.R (TwinPlace S) (TwinAttribute S) (beside S) moment p q (first-enclosing standing) label (λ y h. names y (Contains-append_left (needed_at label) (needed_in_all is) y h)))
         (trees-twin p q b c is standing here there (λ y h. names y (Contains-append_right (needed_at label) (needed_in_all is) y h)) twin)
     tree-twin p q b c (inner inside) standing here there names twin =
         frames_alike (twin_frames (record { p = p; q = q; inside = inside; outside = standing; sits = record { here = here; there = there; names = names }; twin = twin }))
@@ -429,40 +339,6 @@ module _ (S : Setting) (moment : ℕ) where
       attributes-twin p q (b + count i) (c + count i) ds k standing (rest_stands-in S.fs p b text i ds here) (rest_stands-in S.gs q c text i ds there)
       (λ y h. names y (Contains-append_right (needed_in i) (needed_in_defs ds) y h)) (twin-right S (count i) (count_defs ds) twin)
 
-  -- ---- names in expressions of the ad
-
-  label-itself : (f : ℕ) (label : Label) → ((y : List ℕ) → Contains (asked_at label) y → S.R y)
-      → FindsAt (TwinPlace S) (TwinAttribute S) w v (record { ad = 1; frame = f }) (record { ad = 1; frame = f }) label
-  label-itself f (name Scope.Bare x) names =
-      finds_along (first_found-append w x (enclosing w (record { ad = 1; frame = f })) (in_frame (record { ad = 0; frame = 0 }) ∷ []))
-      (first_found-append v x (enclosing v (record { ad = 1; frame = f })) (in_frame (record { ad = 0; frame = 0 }) ∷ []))
-      (finds_else (first-resource (enclosing_frames S.res f) x) (first-root x (names x (0, omega arith, refl))))
-  label-itself f (name Scope.My x) names = first-resource (0 ∷ []) x
-  label-itself f (name Scope.Target x) names = first-root x (names x (0, omega arith, refl))
-  label-itself f (literal lit) names = tt
-  label-itself f (unary op) names = tt
-  label-itself f (binary op) names = tt
-  label-itself f all names = tt
-  label-itself f any names = tt
-  label-itself f choice names = tt
-  label-itself f (select x) names = tt
-  label-itself f subscript names = tt
-  label-itself f (call x) names = tt
-  label-itself f list_node names = tt
-
-  mutual
-    tree-itself : (f : ℕ) (t : Tree) → ((y : List ℕ) → Contains (asked_in t) y → S.R y) → TreeAlike (TwinPlace S) (TwinAttribute S) w v (record { ad = 1; frame = f }) (record { ad = 1; frame = f }) t t
-    tree-itself f (node label ts) names =
-        nodes (label-itself f label (λ y h. names y (Contains-append_left (asked_at label) (asked_in_all ts) y h)))
-        (trees-itself f ts (λ y h. names y (Contains-append_right (asked_at label) (asked_in_all ts) y h)))
-    tree-itself f (frame g) names = frames_alike (same_frame g)
-
-    trees-itself : (f : ℕ) (ts : Trees) → ((y : List ℕ) → Contains (asked_in_all ts) y → S.R y) → TreesAlike (TwinPlace S) (TwinAttribute S) w v (record { ad = 1; frame = f }) (record { ad = 1; frame = f }) ts ts
-    trees-itself f none names = no_trees
-    trees-itself f (more t ts) names =
-        more_trees (tree-itself f t (λ y h. names y (Contains-append_left (asked_in t) (asked_in_all ts) y h)))
-        (trees-itself f ts (λ y h. names y (Contains-append_right (asked_in t) (asked_in_all ts) y h)))
-
   -- ---- the worlds are twins
 
   sizes : (p q : AdPlace) → TwinPlace S p q → size_at w p ≡ size_at v q
@@ -470,9 +346,9 @@ module _ (S : Setting) (moment : ℕ) where
       ap (λ l. length l) (frame-attributes S.fs n.p b n.inside n.sits.here) ∙ length-attributes_from (suc b) (suc c) n.inside ∙ ap (λ l. length l) (sym (frame-attributes S.gs n.q c n.inside n.sits.there))
   sizes p q (same_frame f) = refl
 
-  within : (p q : AdPlace) → TwinPlace S p q → (x : List ℕ) → Met (found_attribute (attribute_in w p x)) (found_attribute (attribute_in v q x))
+  within : (p q : AdPlace) → TwinPlace S p q → (x : List ℕ) → Finds (TwinPlace S) (TwinAttribute S) (found_attribute (attribute_in w p x)) (found_attribute (attribute_in v q x))
   within p q (twin_frames n) x = finds-nested n x
-  within p q (same_frame f) x = finds-resource f x
+  within p q (same_frame f) x = finds-resource S.fs S.gs S.res S.R (TwinPlace S) (TwinAttribute S) (beside S) moment f x
 
   exprs : (s t : Pos) → TwinAttribute S s t
       → Both (TreeAlike (TwinPlace S) (TwinAttribute S) w v (frame_of_attribute s) (frame_of_attribute t)) (expr_of w s) (expr_of v t)
@@ -487,26 +363,11 @@ module _ (S : Setting) (moment : ℕ) where
       (ap (λ l. option_map (λ a. a.1) (slice_get l k)) (frame-attributes S.fs n.p b n.inside n.sits.here))
       (ap (λ l. option_map (λ a. a.1) (slice_get l k)) (frame-attributes S.gs n.q c n.inside n.sits.there))
       (attributes-twin b c (suc b) (suc c) n.inside k (at_literal n.outside n.sits n.twin) n.sits.here.1 n.sits.there.1 n.sits.names (twin-inner S (count_defs n.inside) n.twin))
-  exprs s t (same_attribute f k) = by (expr_at S.res f k) refl
-    where
-      by : (o : Option Tree) → expr_at S.res f k ≡ o → Both (TreeAlike (TwinPlace S) (TwinAttribute S) w v (record { ad = 1; frame = f }) (record { ad = 1; frame = f })) o o
-      by None is = both_none
-      by (Some t) is = both_some (tree-itself f t (λ y h. S.asked y (expr-asked S.res f k t y is h)))
+  exprs s t (same_attribute f k) = expr-itself S.fs S.gs S.res S.R (TwinPlace S) (TwinAttribute S) (beside S) moment f k
 
-  twins : AreTwins w v (TwinPlace S) (TwinAttribute S)
+  twins : AreTwinWorlds w v (TwinPlace S) (TwinAttribute S)
   twins = record { moments = refl; one_to_one = one_to_one S; sizes = sizes; within = within; exprs = exprs }
 
   -- so the ad is docked to both alike
-  pub matched-alike : AreMatchedAlike (docked_to moment S.fs S.res) (docked_to moment S.gs S.res)
-  matched-alike = record {
-    docks = ap (λ b. b && meets_requirement w (record { ad = 1; frame = 0 })) requests ∙ ap (λ b. meets_requirement v (record { ad = 0; frame = 0 }) && b) resources;
-    rank = rank-same w v (TwinPlace S) (TwinAttribute S) twins (record { ad = 0; frame = 0 }) (record { ad = 0; frame = 0 }) (named-root (codes "Rank") (S.weighed (codes "Rank") (2, omega arith, refl)));
-    regard = rank-same w v (TwinPlace S) (TwinAttribute S) twins (record { ad = 1; frame = 0 }) (record { ad = 1; frame = 0 }) (named-resource 0 (codes "Rank"));
-  }
-    where
-      requests : meets_requirement w (record { ad = 0; frame = 0 }) ≡ meets_requirement v (record { ad = 0; frame = 0 })
-      requests = meets-same w v (TwinPlace S) (TwinAttribute S) twins (record { ad = 0; frame = 0 }) (record { ad = 0; frame = 0 })
-          (named-root (codes "Requirements") (S.weighed (codes "Requirements") (0, omega arith, refl))) (named-root (codes "Constraint") (S.weighed (codes "Constraint") (1, omega arith, refl)))
-
-      resources : meets_requirement w (record { ad = 1; frame = 0 }) ≡ meets_requirement v (record { ad = 1; frame = 0 })
-      resources = meets-same w v (TwinPlace S) (TwinAttribute S) twins (record { ad = 1; frame = 0 }) (record { ad = 1; frame = 0 }) (named-resource 0 (codes "Requirements")) (named-resource 0 (codes "Constraint"))
+  pub told-alike : AreMatchedAlike w v
+  told-alike = matched-alike S.fs S.gs S.res S.R (TwinPlace S) (TwinAttribute S) (beside S) moment twins

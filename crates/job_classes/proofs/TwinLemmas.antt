@@ -1,201 +1,227 @@
--- Two worlds in which expressions have values that are the same up to the places of ads.
-use Rattle.std.proofs.Common.{◌≡◌, ℕ, zero, suc, Bool, true, false, cond, pos, List, length, Option, None, Some, option_map, codes, refl, ap}
-use Rattle.std.specs.Option.{option_and_then, option_map_or, option_or}
+-- Twins: an ad is docked to both alike, since it comes to nothing in which they differ.
+use Rattle.std.proofs.Common.{◌≡◌, ◌≤◌, ◌<◌, ℕ, zero, suc, ◌+◌, Bool, List, [], ◌∷◌, length, get_or, position, Option, None, Some, option_map, slice_get, Contains, refl, sym, ◌∙◌, ap, subst, arith}
+use Rattle.std.proofs.lemmas.List.Elements.{Contains-append_left, Contains-append_right}
+use Rattle.std.proofs.lemmas.List.Quantifiers.{position-Some}
+use Rattle.std.proofs.lemmas.Option.{slice_get-get_or, slice_get-map}
+use Rattle.pool_text.specs.Folding.{folded}
 use Rattle.pool_text.specs.declared.language.AdPlace.{AdPlace}
-use Rattle.pool_text.specs.declared.language.Lit.{Lit}
 use Rattle.pool_text.specs.declared.language.Pos.{Pos}
-use Rattle.ad_value.specs.Plain.{Plain, error, integer, plain_of_lit}
-use Rattle.ad_value.specs.Logic.{is_true}
-use Rattle.ad_value.specs.Operators.{binary_value, unary_value}
-use Rattle.ad_value.specs.Demands.{all_demanded, chosen, list_value, selected, subscripted}
-use Rattle.builtin_funcs.specs.Calls.{call_value, is_known}
-use Rattle.builtin_funcs.proofs.AlikeLemmas.{Both, both_none, both_some, Both-map, Both-then, Both-unwrap, Each, no_items, more_items, Each-length, Alike, undefineds, errors, booleans, lists, places, IsOneToOne, LookAlike, is_flat, flat-alike, binary_value-alike, chosen-alike, conjunction-alike, demanded-alike, disjunction-alike, list_value-alike, selected-alike, subscripted-alike, unary_value-alike}
-use Rattle.builtin_funcs.proofs.AlikeRowLemmas.{call-alike}
-use Rattle.ad_tree.specs.Names.{same_name}
+use Rattle.builtin_funcs.proofs.AlikeLemmas.{Both, both_none, both_some, IsOneToOne}
+use Rattle.ad_tree.specs.Frames.{Frame, IsAd, attributes_at, cited_in, expr_at, names_of, parent_of}
+use Rattle.ad_tree.specs.Inline.{Defs, defs_of, inlined, inlined_all, inside}
+use Rattle.ad_tree.specs.Names.{has_name, same_name}
 use Rattle.ad_tree.specs.Special.{attribute_named}
-use Rattle.ad_tree.specs.Tree.{Label, literal, name, unary, binary, all, any, choice, select, subscript, call, Tree, node, frame, Trees, none, more}
-use Rattle.ad_tree.specs.Tree.{list as list_node}
-use Rattle.eval_scope.specs.declared.found.Found.{Found}
-use Rattle.eval_scope.specs.Look.{attribute_in, find, found_attribute}
-use Rattle.eval_scope.specs.World.{PlainWorld, expr_of, frame_of_attribute, frames_of_ad, size_at}
-use Rattle.ad_eval.specs.Dock.{attribute_of, meets_requirement, rank_by, rank_number}
-use Rattle.ad_eval.specs.Node.{attribute_value, called, conditional, function_value, named, node_value, only_ad}
-use Rattle.ad_eval.specs.Value.{evaluation_at, references, results_by, value_at, value_by}
+use Rattle.ad_tree.specs.Tree.{Tree, node, frame, Trees, none, more, cited, cited_all}
+use Rattle.ad_tree.proofs.AdLemmas.{above-cited, cited_within}
+use Rattle.ad_tree.proofs.NameLemmas.{same_folded_form}
+use Rattle.eval_scope.specs.Look.{attribute_in, enclosing, first_found, found_attribute}
+use Rattle.eval_scope.specs.World.{PlainWorld, expr_of, frame_of_attribute, size_at}
+use Rattle.eval_scope.proofs.LookLemmas.{AreLower}
+use Rattle.job_classes.specs.Matched.{AreMatchedAlike, docked_to}
+use Rattle.job_classes.specs.Names.{weighed_names, needed_at, needed_in, needed_in_all, needed_in_defs}
+use Rattle.job_classes.specs.Reach.{IsReached, is_first, is_needed, first_names, reached_from}
+use Rattle.job_classes.specs.Twins.{AreAllMarked, AreTwins}
+use Rattle.job_classes.proofs.ContainLemmas.{contains_at}
+use Rattle.job_classes.proofs.DockedLemmas.{AreBeside, both_along, both_equal, expr-itself, finds-resource, first-root, label-request, matched-alike, upwards}
+use Rattle.job_classes.proofs.KeyLemmas.{flat_map-names}
+use Rattle.job_classes.proofs.ReachLemmas.{list_is_least}
+use Rattle.job_classes.proofs.WorldLemmas.{Finds, finds_along, finds_both, finds_else, TreeAlike, nodes, frames_alike, TreesAlike, no_trees, more_trees}
 
--- ---- what is related; M relates places and N attributes of the two worlds
+-- ---- what the matching comes to; R tells of a name whether it does
 
-pub data Finds (M : AdPlace → AdPlace → Type 0) (N : Pos → Pos → Type 0) : Found → Found → Type 0 where
-  finds_nothing : Finds M N Found.Nothing Found.Nothing
-  finds_places : {p q : AdPlace} → M p q → Finds M N (Found.Place p) (Found.Place q)
-  finds_attributes : {s t : Pos} → N s t → Finds M N (Found.Attr s) (Found.Attr t)
+-- frame b is an ad literal in an expression of frame p, and what is needed in it is come to; m levels of frames are opened below it, which is enough
+record IsOpened (fs : List Frame) (R : List ℕ → Type 0) (p b m : ℕ) : Type 0 where
+  cited : Contains (cited_in (attributes_at fs p)) b
+  deep : length fs < m + b
+  names : (y : List ℕ) → Contains (needed_in_defs (inside fs m b)) y → R y
 
--- a name finds related things from p and from q
-abbrev pub FindsAt : (AdPlace → AdPlace → Type 0) → (Pos → Pos → Type 0) → PlainWorld → PlainWorld → AdPlace → AdPlace → Label → Type 0
-FindsAt M N w v p q (name scope x) = Finds M N (find w p scope x) (find v q scope x)
-FindsAt M N w v p q label = Unit {0}
+-- the root, and each ad literal that stands in one of these
+data IsStanding (fs : List Frame) (R : List ℕ → Type 0) : ℕ → Type 0 where
+  at_root : IsStanding fs R 0
+  at_literal : {p b m : ℕ} → IsStanding fs R p → IsOpened fs R p b m → IsStanding fs R b
 
--- trees that stand at p and at q differ in the numbers of frames alone, which are related, and their names find related things
-mutual
-  pub data TreeAlike (M : AdPlace → AdPlace → Type 0) (N : Pos → Pos → Type 0) (w v : PlainWorld) (p q : AdPlace) : Tree → Tree → Type 0 where
-    nodes : {label : Label} {ts us : Trees} → FindsAt M N w v p q label → TreesAlike M N w v p q ts us → TreeAlike M N w v p q (node label ts) (node label us)
-    frames_alike : {f g : ℕ} → M (record { ad = p.ad; frame = f }) (record { ad = q.ad; frame = g }) → TreeAlike M N w v p q (frame f) (frame g)
+record IsNested (fs : List Frame) (R : List ℕ → Type 0) (b : ℕ) : Type 0 where
+  p : ℕ
+  m : ℕ
+  outside : IsStanding fs R p
+  opened : IsOpened fs R p b m
 
-  pub data TreesAlike (M : AdPlace → AdPlace → Type 0) (N : Pos → Pos → Type 0) (w v : PlainWorld) (p q : AdPlace) : Trees → Trees → Type 0 where
-    no_trees : TreesAlike M N w v p q none none
-    more_trees : {t u : Tree} {ts us : Trees} → TreeAlike M N w v p q t u → TreesAlike M N w v p q ts us → TreesAlike M N w v p q (more t ts) (more u us)
+-- places and attributes that matching comes to, each related to itself
+data SamePlace (fs : List Frame) (R : List ℕ → Type 0) : AdPlace → AdPlace → Type 0 where
+  nested_frame : {b : ℕ} → IsNested fs R b → SamePlace fs R (record { ad = 0; frame = b }) (record { ad = 0; frame = b })
+  same_frame : (f : ℕ) → SamePlace fs R (record { ad = 1; frame = f }) (record { ad = 1; frame = f })
 
-pub record AreTwins (w v : PlainWorld) (M : AdPlace → AdPlace → Type 0) (N : Pos → Pos → Type 0) : Type 0 where
-  pub moments : w.moment ≡ v.moment
-  pub one_to_one : IsOneToOne M
-  pub sizes : (p q : AdPlace) → M p q → size_at w p ≡ size_at v q
-  pub within : (p q : AdPlace) → M p q → (x : List ℕ) → Finds M N (found_attribute (attribute_in w p x)) (found_attribute (attribute_in v q x))
-  pub exprs : (s t : Pos) → N s t → Both (TreeAlike M N w v (frame_of_attribute s) (frame_of_attribute t)) (expr_of w s) (expr_of v t)
+data SameAttribute (fs : List Frame) (R : List ℕ → Type 0) : Pos → Pos → Type 0 where
+  root_attribute : {k : ℕ} (a : List ℕ × Tree) → slice_get (attributes_at fs 0) k ≡ Some a → R a.0 → SameAttribute fs R (record { ad = 0; frame = 0; attr = k }) (record { ad = 0; frame = 0; attr = k })
+  nested_attribute : {b : ℕ} → IsNested fs R b → (k : ℕ) → SameAttribute fs R (record { ad = 0; frame = b; attr = k }) (record { ad = 0; frame = b; attr = k })
+  same_attribute : (f k : ℕ) → SameAttribute fs R (record { ad = 1; frame = f; attr = k }) (record { ad = 1; frame = f; attr = k })
 
--- ---- values
+one_to_one : (fs : List Frame) (R : List ℕ → Type 0) → IsOneToOne (SamePlace fs R)
+one_to_one fs R p q r s (nested_frame m) (nested_frame n) = refl
+one_to_one fs R p q r s (nested_frame m) (same_frame f) = refl
+one_to_one fs R p q r s (same_frame f) (nested_frame m) = refl
+one_to_one fs R p q r s (same_frame f) (same_frame g) = refl
 
-literal-flat : (lit : Lit) → is_flat (plain_of_lit lit) ≡ true
-literal-flat Lit.Undefined = refl
-literal-flat Lit.Error = refl
-literal-flat (Lit.Boolean b) = refl
-literal-flat (Lit.Integer n) = refl
-literal-flat (Lit.Decimal m) = refl
-literal-flat (Lit.Str bytes) = refl
+-- ---- lists of attributes
 
-only_ad-alike : {M : AdPlace → AdPlace → Type 0} {vs ws : List Plain} → Each (Alike M) vs ws → Both M (only_ad vs) (only_ad ws)
-only_ad-alike no_items = both_none
-only_ad-alike (more_items (places h) no_items) = both_some h
-only_ad-alike (more_items h no_items) = both_none
-only_ad-alike (more_items (places h) (more_items k ks)) = both_none
-only_ad-alike (more_items h (more_items k ks)) = both_none
+needed-defs : (k : ℕ → Defs) (attributes : List (List ℕ × Tree)) (j : ℕ) (a : List ℕ × Tree) (y : List ℕ) → slice_get attributes j ≡ Some a
+    → Contains (needed_in (inlined k a.1)) y → Contains (needed_in_defs (defs_of k attributes)) y
+needed-defs k [] j a y at h = absurd (cc)
+needed-defs k (b ∷ rest) zero a y at h =
+    let same : b ≡ a = cc in
+    Contains-append_left (needed_in (inlined k b.1)) (needed_in_defs (defs_of k rest)) y (subst (λ (c : List ℕ × Tree). Contains (needed_in (inlined k c.1)) y) (sym same) h)
+needed-defs k (b ∷ rest) (suc j) a y at h = Contains-append_right (needed_in (inlined k b.1)) (needed_in_defs (defs_of k rest)) y (needed-defs k rest j a y at h)
 
-conditional-alike : {M : AdPlace → AdPlace → Type 0} {rs qs : List (Option Plain)} → Each (Both (Alike M)) rs qs → Both (Alike M) (conditional rs) (conditional qs)
-conditional-alike no_items = both_some errors
-conditional-alike (more_items h no_items) = both_some errors
-conditional-alike (more_items h (more_items k no_items)) = both_some errors
-conditional-alike {M} (more_items h (more_items {a = a} {b = b} k (more_items {a = c} {b = d} l no_items))) =
-    Both-then (Alike M) (chosen a c) (chosen b d) (λ v w m. chosen-alike k l m) h
-conditional-alike (more_items h (more_items k (more_items l (more_items m others)))) = both_some errors
+cited-attribute : (attributes : List (List ℕ × Tree)) (j : ℕ) (a : List ℕ × Tree) (g : ℕ) → slice_get attributes j ≡ Some a → Contains (cited a.1) g → Contains (cited_in attributes) g
+cited-attribute [] j a g at h = absurd (cc)
+cited-attribute (b ∷ rest) zero a g at h =
+    let same : b ≡ a = cc in
+    Contains-append_left (cited b.1) (cited_in rest) g (subst (λ (c : List ℕ × Tree). Contains (cited c.1) g) (sym same) h)
+cited-attribute (b ∷ rest) (suc j) a g at h = Contains-append_right (cited b.1) (cited_in rest) g (cited-attribute rest j a g at h)
 
--- the same sum for both where the same was found
-either-alike : {M : AdPlace → AdPlace → Type 0} {o p : Option AdPlace} {v w : Plain} (f g : AdPlace → Plain) → ((a b : AdPlace) → M a b → Alike M (f a) (g b)) → Both M o p → Alike M v w
-    → Alike M (option_map_or f o v) (option_map_or g p w)
-either-alike f g h both_none k = k
-either-alike f g h (both_some {a = a} {b = b} m) k = h a b m
+-- the attribute at the place of a name has that name
+named-at : (attributes : List (List ℕ × Tree)) (x : List ℕ) (k : ℕ) → position (same_name x) (names_of attributes) ≡ Some k → (a : List ℕ × Tree) × (slice_get attributes k ≡ Some a) × (folded x ≡ folded a.0)
+named-at attributes x k at = by (slice_get attributes k) refl
+  where
+    named : option_map (λ (a : List ℕ × Tree). a.0) (slice_get attributes k) ≡ Some (get_or (names_of attributes) k [])
+    named =
+        sym (slice_get-map (λ (a : List ℕ × Tree). a.0) attributes k)
+        ∙ slice_get-get_or (names_of attributes) k [] (position-Some (same_name x) (names_of attributes) k [] at).0
 
-module _ (w v : PlainWorld) (M : AdPlace → AdPlace → Type 0) (N : Pos → Pos → Type 0) (twins : AreTwins w v M N) where
-  function_value-alike : (x : List ℕ) {vs ws : List Plain} → Each (Alike M) vs ws → Alike M (function_value w x vs) (function_value v x ws)
-  function_value-alike x {vs} {ws} hs = by (same_name x (codes "size"))
+    by : (o : Option (List ℕ × Tree)) → slice_get attributes k ≡ o → (a : List ℕ × Tree) × (slice_get attributes k ≡ Some a) × (folded x ≡ folded a.0)
+    by None is = absurd (cc (named, ap (option_map (λ (a : List ℕ × Tree). a.0)) is))
+    by (Some a) is =
+        let same : a.0 ≡ get_or (names_of attributes) k [] = cc (named, ap (option_map (λ (a : List ℕ × Tree). a.0)) is) in
+        (a, is, same_folded_form x (get_or (names_of attributes) k []) (position-Some (same_name x) (names_of attributes) k [] at).1 ∙ ap folded (sym same))
+
+-- ---- two requests beside one of the ads
+
+module _ (ads : List (List Frame)) (fs gs res : List Frame) (marks : List Bool) (ad : IsAd fs) (twins : AreTwins marks fs gs) (marked : AreAllMarked ads fs marks) (stands : Contains ads res) (moment : ℕ) where
+  abbrev R : List ℕ → Type 0
+  R x = IsReached (first_names ads) fs (folded x)
+
+  abbrev M : AdPlace → AdPlace → Type 0
+  M = SamePlace fs R
+
+  abbrev N : Pos → Pos → Type 0
+  N = SameAttribute fs R
+
+  -- ---- the same in both
+
+  attributes-nested : (b p : ℕ) → parent_of fs b ≡ Some p → attributes_at fs b ≡ attributes_at gs b
+  attributes-nested zero p parent = absurd (cc)
+  attributes-nested (suc f) p parent = twins.nested (suc f) (omega arith)
+
+  lower : AreLower gs
+  lower f parent is = ad.lower f parent (twins.parents f ∙ is)
+
+  -- an attribute of a name that is reached has its mark
+  expr-same : (k : ℕ) (a : List ℕ × Tree) → slice_get (attributes_at fs 0) k ≡ Some a → R a.0 → expr_at fs 0 k ≡ expr_at gs 0 k
+  expr-same k a at r =
+      twins.exprs k (marked k (slice_get-map (λ (b : List ℕ × Tree). has_name b.0 (reached_from (first_names ads) fs)) (attributes_at fs 0) k
+      ∙ ap (option_map (λ (b : List ℕ × Tree). has_name b.0 (reached_from (first_names ads) fs))) at
+      ∙ ap Option.Some ((list_is_least (first_names ads) fs a.0).1 r)))
+
+  -- ---- names
+
+  named-nested : {b : ℕ} (n : IsNested fs R b) (x : List ℕ)
+      → Both (λ k l. N (record { ad = 0; frame = b; attr = k }) (record { ad = 0; frame = b; attr = l })) (attribute_named fs b x) (attribute_named gs b x)
+  named-nested {b} n x =
+      both_equal {m = attribute_named fs b x} (λ k. nested_attribute n k) refl
+      (ap (λ l. position (same_name x) (names_of l)) (sym (attributes-nested b n.p (ad.nested n.p b n.opened.cited))))
+
+  named-root : (x : List ℕ) → R x → Both (λ k l. N (record { ad = 0; frame = 0; attr = k }) (record { ad = 0; frame = 0; attr = l })) (attribute_named fs 0 x) (attribute_named gs 0 x)
+  named-root x r = both_along refl (ap (position (same_name x)) (sym twins.names)) (by (attribute_named fs 0 x) refl)
     where
-      moments-alike : Alike M (call_value x vs w.moment) (call_value x ws v.moment)
-      moments-alike = rw twins.moments (call-alike twins.one_to_one x v.moment hs)
+      by : (o : Option ℕ) → attribute_named fs 0 x ≡ o → Both (λ k l. N (record { ad = 0; frame = 0; attr = k }) (record { ad = 0; frame = 0; attr = l })) o o
+      by None at = both_none
+      by (Some k) at = let found = named-at (attributes_at fs 0) x k at in both_some (root_attribute found.0 found.1 (subst (IsReached (first_names ads) fs) found.2 r))
 
-      chosen_ad : (b : Bool) → Both M (cond b (only_ad vs) None) (cond b (only_ad ws) None)
-      chosen_ad true = only_ad-alike hs
-      chosen_ad false = both_none
+  asked : (y : List ℕ) → Contains (first_names ads) y → R y
+  asked y c = is_first y c
 
-      by : (b : Bool) → Alike M (option_map_or (λ p. integer (pos (size_at w p))) (cond b (only_ad vs) None) (call_value x vs w.moment))
-          (option_map_or (λ q. integer (pos (size_at v q))) (cond b (only_ad ws) None) (call_value x ws v.moment))
-      by b = either-alike (λ p. integer (pos (size_at w p))) (λ q. integer (pos (size_at v q)))
-          (λ p q m. flat-alike (integer (pos (size_at w p))) (integer (pos (size_at v q))) refl (ap (λ n. integer (pos n)) (twins.sizes p q m))) (chosen_ad b) moments-alike
+  beside : AreBeside fs gs res R M N
+  beside = record {
+    frames = same_frame;
+    attributes = same_attribute;
+    roots = named-root;
+    weighed = λ y c. asked y (Contains-append_left weighed_names _ y c);
+    asked = λ y c. asked y (Contains-append_right weighed_names _ y (flat_map-names ads res y stands c));
+  }
 
-  called-alike : (x : List ℕ) {rs qs : List (Option Plain)} → Each (Both (Alike M)) rs qs → Both (Alike M) (called w x rs) (called v x qs)
-  called-alike x {rs} {qs} hs = by (is_known x (length rs)) (is_known x (length qs)) (ap (is_known x) (Each-length hs)) (same_name x (codes "ifThenElse"))
+  abbrev w : PlainWorld
+  w = docked_to moment fs res
+
+  abbrev v : PlainWorld
+  v = docked_to moment gs res
+
+  first-enclosing : {p : ℕ} → IsStanding fs R p → (x : List ℕ) → R x → Finds M N (first_found w x (enclosing w (record { ad = 0; frame = p }))) (first_found v x (enclosing v (record { ad = 0; frame = p })))
+  first-enclosing at_root x r = first-root fs gs res R M N beside moment x r
+  first-enclosing (at_literal {p = p} {b = b} {m = m} outside opened) x r =
+      finds_along (upwards b w x ad.lower (ad.nested p b opened.cited)) (upwards b v x lower (sym (twins.parents b) ∙ ad.nested p b opened.cited))
+      (finds_else (finds_both (λ k. record { ad = 0; frame = b; attr = k }) (λ k. record { ad = 0; frame = b; attr = k }) (named-nested (record { p = p; m = m; outside = outside; opened = opened }) x))
+      (first-enclosing outside x r))
+
+  -- ---- expressions of the requests, which stand in frame p with m levels opened below
+
+  abbrev TwinTree : ℕ → Tree → Tree → Type 0
+  TwinTree p = TreeAlike M N w v (record { ad = 0; frame = p }) (record { ad = 0; frame = p })
+
+  mutual
+    tree-twin : (p m : ℕ) (t : Tree) → IsStanding fs R p → length fs ≤ m + p → ((g : ℕ) → Contains (cited t) g → Contains (cited_in (attributes_at fs p)) g) → ((y : List ℕ) → Contains (needed_in (inlined (inside fs m) t)) y → R y)
+        → TwinTree p t t
+    tree-twin p m (node label ts) standing deep within names =
+        nodes (label-request fs gs res R M N beside moment p p (first-enclosing standing) label (λ y h. names y (Contains-append_left (needed_at label) (needed_in_all (inlined_all (inside fs m) ts)) y h)))
+        (trees-twin p m ts standing deep within (λ y h. names y (Contains-append_right (needed_at label) (needed_in_all (inlined_all (inside fs m) ts)) y h)))
+    tree-twin p m (frame g) standing deep within names =
+        let at : Contains (cited_in (attributes_at fs p)) g = within g (0, omega arith, refl) in
+        let above = above-cited fs ad p g at in
+        frames_alike (nested_frame (record { p = p; m = m; outside = standing; opened = record { cited = at; deep = omega (arith, deep, above); names = names } }))
+
+    trees-twin : (p m : ℕ) (ts : Trees) → IsStanding fs R p → length fs ≤ m + p → ((g : ℕ) → Contains (cited_all ts) g → Contains (cited_in (attributes_at fs p)) g) → ((y : List ℕ) → Contains (needed_in_all (inlined_all (inside fs m) ts)) y → R y)
+        → TreesAlike M N w v (record { ad = 0; frame = p }) (record { ad = 0; frame = p }) ts ts
+    trees-twin p m none standing deep within names = no_trees
+    trees-twin p m (more t ts) standing deep within names =
+        more_trees
+        (tree-twin p m t standing deep (λ g h. within g (Contains-append_left (cited t) (cited_all ts) g h))
+        (λ y h. names y (Contains-append_left (needed_in (inlined (inside fs m) t)) (needed_in_all (inlined_all (inside fs m) ts)) y h)))
+        (trees-twin p m ts standing deep (λ g h. within g (Contains-append_right (cited t) (cited_all ts) g h))
+        (λ y h. names y (Contains-append_right (needed_in (inlined (inside fs m) t)) (needed_in_all (inlined_all (inside fs m) ts)) y h)))
+
+  -- an attribute of frame p, all of whose needs are named
+  attribute-twin : (p m k : ℕ) (a : List ℕ × Tree) → IsStanding fs R p → length fs ≤ m + p → slice_get (attributes_at fs p) k ≡ Some a → ((y : List ℕ) → Contains (needed_in (inlined (inside fs m) a.1)) y → R y)
+      → TwinTree p a.1 a.1
+  attribute-twin p m k a standing deep at names = tree-twin p m a.1 standing deep (λ g h. cited-attribute (attributes_at fs p) k a g at h) names
+
+  nested-twin : (b : ℕ) (n : IsNested fs R b) (k : ℕ) → Both (TwinTree b) (expr_at fs b k) (expr_at fs b k)
+  nested-twin b n k = by n.m n.opened (slice_get (attributes_at fs b) k) refl
     where
-      by : (a b : Bool) → a ≡ b → (c : Bool) → Both (Alike M) (cond a (cond c (conditional rs) (option_map (function_value w x) (all_demanded rs))) (Some error))
-          (cond b (cond c (conditional qs) (option_map (function_value v x) (all_demanded qs))) (Some error))
-      by true true same true = conditional-alike hs
-      by true true same false = Both-map (Alike M) (function_value w x) (function_value v x) (λ vs ws k. function_value-alike x k) (demanded-alike hs)
-      by true false same c = absurd (cc)
-      by false true same c = absurd (cc)
-      by false false same c = both_some errors
+      by : (m : ℕ) → IsOpened fs R n.p b m → (o : Option (List ℕ × Tree)) → slice_get (attributes_at fs b) k ≡ o → Both (TwinTree b) (option_map (λ (a : List ℕ × Tree). a.1) o) (option_map (λ (a : List ℕ × Tree). a.1) o)
+      by m opened None at = both_none
+      by zero opened (Some a) at =
+          let deep = opened.deep in
+          absurd (omega (arith, deep, cited_within fs ad n.p b opened.cited))
+      by (suc m) opened (Some a) at =
+          let deep = opened.deep in
+          both_some (attribute-twin b m k a (at_literal n.outside opened) (omega (arith, deep)) at (λ y h. opened.names y (needed-defs (inside fs m) (attributes_at fs b) k a y at h)))
 
-  module _ (at later : Pos → Option Plain) (values : (s t : Pos) → N s t → Both (Alike M) (at s) (later t)) where
-    named-alike : {f g : Found} → Finds M N f g → Both (Alike M) (named at f) (named later g)
-    named-alike finds_nothing = both_some undefineds
-    named-alike (finds_places m) = both_some (places m)
-    named-alike (finds_attributes {s = s} {t = t} n) = values s t n
+  -- ---- the worlds are twins
 
-    look-alike : LookAlike M (attribute_value at w) (attribute_value later v)
-    look-alike p q m x = named-alike (twins.within p q m x)
+  sizes : (p q : AdPlace) → M p q → size_at w p ≡ size_at v q
+  sizes p q (nested_frame {b = b} n) = ap (λ l. length l) (attributes-nested b n.p (ad.nested n.p b n.opened.cited))
+  sizes p q (same_frame f) = refl
 
-    node-alike : (p q : AdPlace) (label : Label) → FindsAt M N w v p q label → {rs qs : List (Option Plain)} → Each (Both (Alike M)) rs qs
-        → Both (Alike M) (node_value at w p label rs) (node_value later v q label qs)
-    node-alike p q (literal lit) f h = both_some (flat-alike (plain_of_lit lit) (plain_of_lit lit) (literal-flat lit) refl)
-    node-alike p q (name scope x) f h = named-alike f
-    node-alike p q (unary op) f no_items = both_some errors
-    node-alike p q (unary op) f (more_items h no_items) = Both-map (Alike M) (unary_value op) (unary_value op) (λ a b k. unary_value-alike op k) h
-    node-alike p q (unary op) f (more_items h (more_items k others)) = both_some errors
-    node-alike p q (binary op) f no_items = both_some errors
-    node-alike p q (binary op) f (more_items h no_items) = both_some errors
-    node-alike p q (binary op) f (more_items h (more_items {a = r} {b = s} k no_items)) =
-        Both-then (Alike M) (λ x. option_map (binary_value op x) r) (λ x. option_map (binary_value op x) s)
-        (λ a b l. Both-map (Alike M) (binary_value op a) (binary_value op b) (λ c d m. binary_value-alike twins.one_to_one op l m) k) h
-    node-alike p q (binary op) f (more_items h (more_items k (more_items l others))) = both_some errors
-    node-alike p q all f h = conjunction-alike (booleans true) h
-    node-alike p q any f h = disjunction-alike (booleans false) h
-    node-alike p q choice f h = conditional-alike h
-    node-alike p q (select x) f no_items = both_some errors
-    node-alike p q (select x) f (more_items h no_items) =
-        Both-then (Alike M) (selected (attribute_value at w) x) (selected (attribute_value later v) x) (λ a b k. selected-alike (attribute_value at w) (attribute_value later v) look-alike x k) h
-    node-alike p q (select x) f (more_items h (more_items k others)) = both_some errors
-    node-alike p q subscript f no_items = both_some errors
-    node-alike p q subscript f (more_items h no_items) = both_some errors
-    node-alike p q subscript f (more_items h (more_items {a = r} {b = s} k no_items)) =
-        Both-then (Alike M) (λ x. option_and_then (subscripted (attribute_value at w) x) r) (λ x. option_and_then (subscripted (attribute_value later v) x) s)
-        (λ a b l. Both-then (Alike M) (subscripted (attribute_value at w) a) (subscripted (attribute_value later v) b)
-        (λ c d m. subscripted-alike (attribute_value at w) (attribute_value later v) look-alike l m) k) h
-    node-alike p q subscript f (more_items h (more_items k (more_items l others))) = both_some errors
-    node-alike p q (call x) f h = called-alike x h
-    node-alike p q list_node f h = Both-map (Alike M) list_value list_value (λ vs ws k. list_value-alike k) (demanded-alike h)
+  within : (p q : AdPlace) → M p q → (x : List ℕ) → Finds M N (found_attribute (attribute_in w p x)) (found_attribute (attribute_in v q x))
+  within p q (nested_frame {b = b} n) x = finds_both (λ k. record { ad = 0; frame = b; attr = k }) (λ k. record { ad = 0; frame = b; attr = k }) (named-nested n x)
+  within p q (same_frame f) x = finds-resource fs gs res R M N beside moment f x
 
-    mutual
-      tree-alike : {p q : AdPlace} {t u : Tree} → TreeAlike M N w v p q t u → Both (Alike M) (value_by at w p t) (value_by later v q u)
-      tree-alike {p} {q} (nodes {label = label} f hs) = node-alike p q label f (trees-alike hs)
-      tree-alike (frames_alike m) = both_some (places m)
+  exprs : (s t : Pos) → N s t → Both (TreeAlike M N w v (frame_of_attribute s) (frame_of_attribute t)) (expr_of w s) (expr_of v t)
+  exprs s t (root_attribute {k = k} a at r) =
+      both_along (ap (option_map (λ (b : List ℕ × Tree). b.1)) at) (sym (expr-same k a at r) ∙ ap (option_map (λ (b : List ℕ × Tree). b.1)) at)
+      (both_some (attribute-twin 0 (length fs) k a at_root (omega arith) at (λ y h. is_needed a y (contains_at (attributes_at fs 0) k a at) r h)))
+  exprs s t (nested_attribute {b = b} n k) =
+      both_along refl (ap (λ l. option_map (λ (a : List ℕ × Tree). a.1) (slice_get l k)) (sym (attributes-nested b n.p (ad.nested n.p b n.opened.cited)))) (nested-twin b n k)
+  exprs s t (same_attribute f k) = expr-itself fs gs res R M N beside moment f k
 
-      trees-alike : {p q : AdPlace} {ts us : Trees} → TreesAlike M N w v p q ts us → Each (Both (Alike M)) (results_by at w p ts) (results_by later v q us)
-      trees-alike no_trees = no_items
-      trees-alike (more_trees h hs) = more_items (tree-alike h) (trees-alike hs)
-
-  -- related attributes have values that are alike, with any number of references
-  value_at-alike : (n : ℕ) (s t : Pos) → N s t → Both (Alike M) (value_at n w s) (value_at n v t)
-  unfolding value_at
-  value_at-alike zero s t h = both_none
-  value_at-alike (suc n) s t h =
-      Both-then (Alike M) (value_by (value_at n w) w (frame_of_attribute s)) (value_by (value_at n v) v (frame_of_attribute t))
-      (λ a b k. tree-alike (value_at n w) (value_at n v) (value_at-alike n) k) (twins.exprs s t h)
-
-  evaluation-alike : (s t : Pos) → N s t → Alike M (evaluation_at w s) (evaluation_at v t)
-  evaluation-alike s t h = Both-unwrap error error errors (value_at-alike references s t h)
-
-  -- ---- requirements and ranks, where the special attributes of two frames are related
-
-  truth-same : {a b : Plain} → Alike M a b → is_true a ≡ is_true b
-  truth-same (lists hs) = refl
-  truth-same (places h) = refl
-  truth-same h = refl
-
-  number-same : {a b : Plain} → Alike M a b → rank_number a ≡ rank_number b
-  number-same (lists hs) = refl
-  number-same (places h) = refl
-  number-same h = refl
-
-  either-both : {R : ℕ → ℕ → Type 0} {a b c d : Option ℕ} → Both R a b → Both R c d → Both R (option_or a c) (option_or b d)
-  either-both both_none k = k
-  either-both (both_some r) k = both_some r
-
-  by_attribute : {A : Type 0} {p q : AdPlace} {k l : Option ℕ} (f : Plain → A) (d : A) → ((a b : Plain) → Alike M a b → f a ≡ f b)
-      → Both (λ k l. N (attribute_of p k) (attribute_of q l)) k l
-      → option_map_or (λ k. f (evaluation_at w (attribute_of p k))) k d ≡ option_map_or (λ l. f (evaluation_at v (attribute_of q l))) l d
-  by_attribute f d same both_none = refl
-  by_attribute {p = p} {q = q} f d same (both_some {a = k} {b = l} n) = same _ _ (evaluation-alike (attribute_of p k) (attribute_of q l) n)
-
-  -- a name has related attributes in the frames at p and q
-  abbrev pub AreNamed : AdPlace → AdPlace → List ℕ → Type 0
-  AreNamed p q x = Both (λ k l. N (attribute_of p k) (attribute_of q l)) (attribute_named (frames_of_ad w p.ad) p.frame x) (attribute_named (frames_of_ad v q.ad) q.frame x)
-
-  pub meets-same : (p q : AdPlace) → AreNamed p q (codes "Requirements") → AreNamed p q (codes "Constraint") → meets_requirement w p ≡ meets_requirement v q
-  meets-same p q h k = by_attribute is_true false (λ a b h. truth-same h) (either-both h k)
-
-  pub rank-same : (p q : AdPlace) → AreNamed p q (codes "Rank") → rank_by w p ≡ rank_by v q
-  rank-same p q h = by_attribute rank_number (pos 0) (λ a b k. number-same k) h
+  pub twins-alike : AreMatchedAlike (docked_to moment fs res) (docked_to moment gs res)
+  twins-alike = matched-alike fs gs res R M N beside moment (record { moments = refl; one_to_one = one_to_one fs R; sizes = sizes; within = within; exprs = exprs })

@@ -5,3 +5,4 @@ pub mod Matched
 pub mod Names
 pub mod Reach
 pub mod Shown
+pub mod Twins

@@ -1,5 +1,5 @@
 // Laws of the definitions, each on a function that does nothing.
-ghost use Rattle.std.specs.Prelude.{◌≡◌, ◌↔◌, ℕ, true, List, Ok, Contains};
+ghost use Rattle.std.specs.Prelude.{◌≡◌, ◌↔◌, ℕ, Bool, true, List, Ok, Contains};
 ghost use Rattle.pool_text.specs.Folding.{folded};
 ghost use Rattle.ad_tree.specs.Ad.{ad_frames};
 ghost use Rattle.ad_tree.specs.Frames.{Frame};
@@ -8,6 +8,7 @@ ghost use Rattle.ad_parser.specs.Answers.{AnswersAd};
 ghost use Rattle.job_classes.specs.Keys.{Entry, IsEntry, key_from, key_of};
 ghost use Rattle.job_classes.specs.Matched.{AreMatchedAlike, docked_to};
 ghost use Rattle.job_classes.specs.Reach.{IsReached, reached_from};
+ghost use Rattle.job_classes.specs.Twins.{AreAllMarked, AreTwins};
 
 use ad_printer::printing_is_one_to_one;
 use ad_tree::Ad;
@@ -41,3 +42,11 @@ pub fn equal_keys_are_told_apart_by_no_ad(one: &Ad, other: &Ad)
 {
     printing_is_one_to_one();
 }
+
+/// Two single requests that are the same but for attributes that the matching with some ads can't come to: each of these ads docks
+/// at every moment with both or with neither, and the ranks on either side are equal.
+pub fn twins_are_told_apart_by_no_ad(one: &Ad, other: &Ad)
+    ensures { (marks : List Bool) (ads : List (List Frame)) (ad : List Frame) (moment : ℕ)
+        → AreAllMarked ads (ad_frames one.now) marks → AreTwins marks (ad_frames one.now) (ad_frames other.now) → Contains ads ad
+        → AreMatchedAlike (docked_to moment (ad_frames one.now) ad) (docked_to moment (ad_frames other.now) ad) }
+{}

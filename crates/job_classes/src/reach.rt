@@ -5,6 +5,7 @@ ghost use Rattle.ad_store.specs.Store.{stock_of};
 ghost use Rattle.ad_tree.specs.Ad.{ad_frames};
 ghost use Rattle.ad_tree.specs.Names.{has_name};
 ghost use Rattle.job_classes.specs.Keys.{key_from, key_of};
+ghost use Rattle.job_classes.specs.Marking.{reached_marks};
 ghost use Rattle.job_classes.specs.Names.{weighed_names};
 ghost use Rattle.job_classes.specs.Reach.{first_names};
 ghost use Rattle.job_classes.specs.Shown.{HasReadAds, ads_in, names_in};
@@ -66,6 +67,13 @@ impl Reach {
     {
         let marks = marks_of(self.alloc, self, &request.ad)?;
         Key::of(self.alloc, &request.ad, &marks)
+    }
+
+    /// A mark for each attribute of the root of a request, whether the matching can come to it.
+    pub fn marks(&self, request: &Request) -> Result<Vec<bool>, OutOfMemory>
+        ensures { IfOk result (λ marks. (ads : List Advert) → HasReadAds self.now ads → marks.items ≡ reached_marks (first_names (ads_in ads)) (ad_frames request.now.ad)) }
+    {
+        marks_of(self.alloc, self, &request.ad)
     }
 }
 

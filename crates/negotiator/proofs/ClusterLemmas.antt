@@ -1,34 +1,34 @@
--- What is known of clusters: the first resource that isn't offered is best, and stays so through an offer.
-use Rattle.std.proofs.Common.{◌≡◌, ◌<◌, ◌≤◌, ◌++◌, ℕ, zero, suc, Bool, true, false, not, cond, All, List, [], ◌∷◌, length, get_or, map, set, slice_get, take, Option, None, Some, is_some, refl, ap, sym, ◌∙◌, subst, arith}
+-- What is known of classes: the first resource that isn't offered is best, and stays so through an offer.
+use Rattle.std.proofs.Common.{◌≡◌, ◌<◌, ◌≤◌, ◌+◌, ℕ, zero, suc, Bool, true, false, not, cond, All, List, [], ◌∷◌, ◌++◌, length, get_or, set, slice_get, take, Option, None, Some, is_some, refl, ap, sym, ◌∙◌, subst, arith}
 use Rattle.std.specs.Prelude.{IfSome, option_map}
-use Rattle.std.specs.Option.{option_map_or}
 use Rattle.std.proofs.Math.Path.{fun_ext}
 use Rattle.std.proofs.lemmas.List.{take_all}
-use Rattle.std.proofs.lemmas.Option.{none-some, same_Some, slice_get_within}
+use Rattle.std.proofs.lemmas.Option.{IfSome_then}
 use Rattle.std.proofs.lemmas.List.Elements.{All-head, All-nil, All-push, All-set, All-tail}
 use Rattle.ad_tree.specs.Ad.{ad_frames}
 use Rattle.ad_tree.specs.Frames.{Frame}
-use Rattle.ad_tree.specs.declared.request.Request.{Request}
 use Rattle.ad_store.specs.Stock.{Stock}
-use Rattle.bilateral_match.specs.Alike.{AreAlike}
+use Rattle.dock_match.specs.Pool.{Pool, pool_of, slot_at}
 use Rattle.bilateral_match.specs.Known.{AreKnown}
-use Rattle.bilateral_match.specs.Members.{best_slot}
-use Rattle.bilateral_match.specs.Pool.{pool_of}
+use Rattle.bilateral_match.specs.Members.{best, best_slot}
 use Rattle.bilateral_match.specs.Shortlists.{IsShortlist, first_left}
-use Rattle.bilateral_match.proofs.AlikeLemmas.{best-same}
 use Rattle.claim_table.specs.declared.job.Job.{Job}
 use Rattle.claim_table.specs.declared.job.Stage.{Stage}
 use Rattle.claim_table.specs.Holders.{holder_of}
 use Rattle.claim_table.specs.Jobs.{offered_to, with_standing}
 use Rattle.claim_table.specs.Priorities.{Setting}
-use Rattle.negotiator.specs.declared.clusters.Cluster.{Cluster}
+use Rattle.job_classes.specs.declared.reach.Reach.{Reach}
+use Rattle.job_classes.specs.Shown.{HasReadAds, ads_in}
+use Rattle.job_classes.specs.Twins.{AreAllMarked, AreTwins}
+use Rattle.negotiator.specs.declared.class.Class.{Class}
+use Rattle.negotiator.specs.declared.class.Ranked.{Ranked}
 use Rattle.negotiator.specs.declared.clusters.Clusters.{Clusters}
 use Rattle.negotiator.specs.declared.scene.Scene.{Scene}
 use Rattle.negotiator.specs.Budget.{is_idle_at}
-use Rattle.negotiator.specs.Clusters.{AreClusters, IsCluster, ad_at, is_offered}
+use Rattle.negotiator.specs.Clusters.{AreClusters, IsClass, IsRanked, is_offered}
 use Rattle.negotiator.specs.Markets.{pool_for}
 use Rattle.negotiator.specs.Scenes.{settings_in, stock_in}
-use Rattle.negotiator.proofs.JobLemmas.{get-map, holder-later, length-later, offered-later, requests-later}
+use Rattle.negotiator.proofs.JobLemmas.{holder-later, offered-later}
 
 -- ---- the first that isn't offered
 
@@ -68,87 +68,91 @@ module _ (offered : ℕ → Bool) where
 pub is-taken : (jobs : List Job) (slot : ℕ) (o : Option ℕ) (none b : Bool) → o ≡ offered_to slot jobs → is_some o ≡ not none → none ≡ b → is_offered jobs slot ≡ not b
 is-taken jobs slot o none b is shown same = ap is_some (sym is) ∙ shown ∙ ap not same
 
--- ---- the ad of a job
-
-pub job-within : (jobs : List Job) (i : ℕ) (request : Request) → option_map (λ (job : Job). job.request) (slice_get jobs i) ≡ Some request → i < length jobs
-job-within jobs i request at = by (slice_get jobs i) refl at
-  where
-    by : (o : Option Job) → slice_get jobs i ≡ o → option_map (λ (job : Job). job.request) o ≡ Some request → i < length jobs
-    by None is e = absurd (none-some request e)
-    by (Some job) is e = slice_get_within jobs i job is
-
-pub ad-is : (jobs : List Job) (i : ℕ) (request : Request) → option_map (λ (job : Job). job.request) (slice_get jobs i) ≡ Some request → ad_at jobs i ≡ ad_frames request.ad
-ad-is jobs i request at = by (slice_get jobs i) at
-  where
-    by : (o : Option Job) → option_map (λ (job : Job). job.request) o ≡ Some request → option_map_or (λ (job : Job). ad_frames job.request.ad) o [] ≡ ad_frames request.ad
-    by None e = absurd (none-some request e)
-    by (Some job) e = ap (λ (r : Request). ad_frames r.ad) (same_Some job.request request e)
-
-ad-by : (jobs : List Job) (i : ℕ) → ad_at jobs i ≡ option_map_or (λ (r : Request). ad_frames r.ad) (slice_get (map (λ (job : Job). job.request) jobs) i) []
-ad-by jobs i = by (slice_get jobs i) ∙ sym (ap (λ o. option_map_or (λ (r : Request). ad_frames r.ad) o []) (get-map (λ (job : Job). job.request) jobs i))
-  where
-    by : (o : Option Job) → option_map_or (λ (job : Job). ad_frames job.request.ad) o [] ≡ option_map_or (λ (r : Request). ad_frames r.ad) (option_map (λ (job : Job). job.request) o) []
-    by None = refl
-    by (Some job) = refl
-
--- ---- a cluster
+-- ---- lists of resources
 
 module _ (moment : ℕ) (stock : Stock) (settings : List Setting) (jobs : List Job) where
-  module _ (cluster : Cluster) (is : IsCluster moment stock settings jobs cluster) where
-    pub left-best : (slot : Option ℕ) → slot ≡ first_left (is_offered jobs) cluster.slots → slot ≡ best_slot stock (pool_for moment stock settings jobs) (ad_at jobs cluster.place) cluster.number
-    left-best slot first = first ∙ sym (is.list (is_offered jobs) (λ s e. e))
+  -- the pool once more is offered
+  abbrev pub pool_with : (ℕ → Bool) → Pool
+  pool_with more = pool_of moment stock more (holder_of settings jobs)
 
-    pub further : (n : ℕ) → All (λ slot. is_offered jobs slot ≡ true) (take n cluster.slots) → IsCluster moment stock settings jobs (record { place = cluster.place; number = cluster.number; slots = cluster.slots; passed = n })
-    further n passed = record { place = is.place; list = is.list; passed = passed }
+  pub ranked-first : (request : List Frame) (number : ℕ) (slots : List ℕ) → IsShortlist moment stock (is_offered jobs) (holder_of settings jobs) request number slots → IsRanked moment stock settings jobs request number (record { slots = slots; passed = 0 })
+  ranked-first request number slots list = record { list = list; passed = All-nil (λ slot. is_offered jobs slot ≡ true) }
 
-  pub first-cluster : (i : ℕ) (request : Request) (number : ℕ) (slots : List ℕ) → option_map (λ (job : Job). job.request) (slice_get jobs i) ≡ Some request → IsShortlist moment stock (is_offered jobs) (holder_of settings jobs) (ad_frames request.ad) number slots → IsCluster moment stock settings jobs (record { place = i; number = number; slots = slots; passed = 0 })
-  first-cluster i request number slots at list = record {
-    place = job-within jobs i request at;
-    list = subst (λ (frames : List Frame). IsShortlist moment stock (is_offered jobs) (holder_of settings jobs) frames number slots) (sym (ad-is jobs i request at)) list;
-    passed = All-nil (λ slot. is_offered jobs slot ≡ true);
+  module _ (request : List Frame) (number : ℕ) (ranked : Ranked) (is : IsRanked moment stock settings jobs request number ranked) where
+    pub ranked-best : (slot : Option ℕ) → slot ≡ first_left (is_offered jobs) ranked.slots → slot ≡ best_slot stock (pool_for moment stock settings jobs) request number
+    ranked-best slot first = first ∙ sym (is.list (is_offered jobs) (λ s e. e))
+
+    pub ranked-further : (after : Ranked) → after.slots ≡ ranked.slots → All (λ slot. is_offered jobs slot ≡ true) (take after.passed after.slots) → IsRanked moment stock settings jobs request number after
+    ranked-further after same passed = record {
+      list = subst (λ (slots : List ℕ). IsShortlist moment stock (is_offered jobs) (holder_of settings jobs) request number slots) (sym same) is.list;
+      passed = passed;
+    }
+
+    -- a list for a request is one for another with the same best members
+    pub ranked-along : (other : List Frame) → ((more : ℕ → Bool) → best (pool_with more) other number ≡ best (pool_with more) request number) → IsRanked moment stock settings jobs other number ranked
+    ranked-along other same = record {
+      list = λ more grows. ap (option_map (λ m. slot_at stock m.place)) (same more) ∙ is.list more grows;
+      passed = is.passed;
+    }
+
+  -- ---- classes
+
+  -- what is best for a class's ad is best for its twins
+  pub twins-best : (class : Class) (other : List Frame) → IsClass moment stock settings jobs class → AreTwins class.marks.items (ad_frames class.ad) other
+      → ((marks : List Bool) (pool : Pool) (number : ℕ) → AreAllMarked (ads_in pool.ads) (ad_frames class.ad) marks
+      → AreTwins marks (ad_frames class.ad) other → best pool (ad_frames class.ad) number ≡ best pool other number)
+      → (more : ℕ → Bool) → best (pool_with more) (ad_frames class.ad) class.number ≡ best (pool_with more) other class.number
+  twins-best class other is twins law more = law class.marks.items (pool_with more) class.number is.marked twins
+
+  pub new-class : (class : Class) (request : List Frame) → ad_frames class.ad ≡ request → class.ranked ≡ None
+      → AreAllMarked (ads_in stock.ads) request class.marks.items → IsClass moment stock settings jobs class
+  new-class class request same none all = record {
+    marked = subst (λ (frames : List Frame). AreAllMarked (ads_in stock.ads) frames class.marks.items) (sym same) all;
+    ranked = subst (λ (o : Option Ranked). IfSome o (IsRanked moment stock settings jobs (ad_frames class.ad) class.number)) (sym none) tt;
   }
 
-  -- what is best for the jobs of a cluster is best for a job of the same ad, of a user with the same number
-  pub best-alike : (slot : Option ℕ) (a b : List Frame) (n m : ℕ) → slot ≡ best_slot stock (pool_for moment stock settings jobs) a n → AreAlike a b → n ≡ m → slot ≡ best_slot stock (pool_for moment stock settings jobs) b m
-  best-alike slot a b n m best alike same = best ∙ best-same (pool_for moment stock settings jobs) n a b alike stock ∙ ap (best_slot stock (pool_for moment stock settings jobs) b) same
+  pub class-list : (class : Class) (ranked : Ranked) → class.ranked ≡ Some ranked → IsClass moment stock settings jobs class
+      → IsRanked moment stock settings jobs (ad_frames class.ad) class.number ranked
+  class-list class ranked some is =
+      subst (λ (o : Option Ranked). IfSome o (IsRanked moment stock settings jobs (ad_frames class.ad) class.number)) some is.ranked
 
-  pub best-here : (slot : Option ℕ) (place i n m : ℕ) (request : Request) → slot ≡ best_slot stock (pool_for moment stock settings jobs) (ad_at jobs place) n → place ≡ i → n ≡ m
-      → option_map (λ (job : Job). job.request) (slice_get jobs i) ≡ Some request → slot ≡ best_slot stock (pool_for moment stock settings jobs) (ad_frames request.ad) m
-  best-here slot place i n m request best same mine at =
-      best
-      ∙ ap (λ (k : ℕ). best_slot stock (pool_for moment stock settings jobs) (ad_at jobs k) n) same
-      ∙ ap (best_slot stock (pool_for moment stock settings jobs) (ad_at jobs i)) mine
-      ∙ ap (λ (frames : List Frame). best_slot stock (pool_for moment stock settings jobs) frames m) (ad-is jobs i request at)
+  pub class-ranked : (class : Class) (list : Option Ranked) → IsClass moment stock settings jobs class
+      → IfSome list (IsRanked moment stock settings jobs (ad_frames class.ad) class.number) → IsClass moment stock settings jobs (record class { ranked = list })
+  class-ranked class list is ranked = record { marked = is.marked; ranked = ranked }
 
-  pub no-clusters : (clusters : Clusters) → clusters.seen.items ≡ [] → clusters.ranked.items ≡ [] → AreKnown moment stock.ads clusters.known → AreClusters moment stock settings jobs clusters
-  no-clusters clusters seen ranked known = record {
-    seen = subst (All (λ place. place < length jobs)) (sym seen) (All-nil (λ place. place < length jobs));
-    ranked = subst (All (IsCluster moment stock settings jobs)) (sym ranked) (All-nil (IsCluster moment stock settings jobs));
+  pub no-clusters : (clusters : Clusters) → clusters.reach ≡ None → clusters.classes.items ≡ [] → AreKnown moment stock.ads clusters.known
+      → AreClusters moment stock settings jobs clusters
+  no-clusters clusters reach classes known = record {
+    reach = subst (λ (o : Option Reach). IfSome o (λ r. HasReadAds r stock.ads)) (sym reach) tt;
+    classes = subst (All (IsClass moment stock settings jobs)) (sym classes) (All-nil (IsClass moment stock settings jobs));
     known = known;
   }
 
--- ---- clusters that change
+  module _ (clusters : Clusters) (are : AreClusters moment stock settings jobs clusters) where
+    pub one-changed : (after : Clusters) (k : ℕ) (class : Class) → after.reach ≡ clusters.reach → after.classes.items ≡ set clusters.classes.items k class
+        → AreKnown moment stock.ads after.known → IsClass moment stock settings jobs class → AreClusters moment stock settings jobs after
+    one-changed after k class reach classes known is = record {
+      reach = subst (λ (o : Option Reach). IfSome o (λ r. HasReadAds r stock.ads)) (sym reach) are.reach;
+      classes = subst (All (IsClass moment stock settings jobs)) (sym classes)
+          (All-set (IsClass moment stock settings jobs) clusters.classes.items k class is are.classes);
+      known = known;
+    }
 
-module _ (moment : ℕ) (stock : Stock) (settings : List Setting) (jobs : List Job) (clusters : Clusters) (are : AreClusters moment stock settings jobs clusters) where
-  pub one-changed : (after : Clusters) (k : ℕ) (cluster : Cluster) → after.seen.items ≡ clusters.seen.items → after.ranked.items ≡ set clusters.ranked.items k cluster → after.known ≡ clusters.known → IsCluster moment stock settings jobs cluster → AreClusters moment stock settings jobs after
-  one-changed after k cluster seen ranked known is = record {
-    seen = subst (All (λ place. place < length jobs)) (sym seen) are.seen;
-    ranked = subst (All (IsCluster moment stock settings jobs)) (sym ranked) (All-set (IsCluster moment stock settings jobs) clusters.ranked.items k cluster is are.ranked);
-    known = subst (AreKnown moment stock.ads) (sym known) are.known;
-  }
-
-  pub one-ranked : (after : Clusters) (cluster : Cluster) → after.seen.items ≡ clusters.seen.items → after.ranked.items ≡ clusters.ranked.items ++ cluster ∷ [] → after.known ≡ clusters.known → IsCluster moment stock settings jobs cluster → AreClusters moment stock settings jobs after
-  one-ranked after cluster seen ranked known is = record {
-    seen = subst (All (λ place. place < length jobs)) (sym seen) are.seen;
-    ranked = subst (All (IsCluster moment stock settings jobs)) (sym ranked) (All-push (IsCluster moment stock settings jobs) clusters.ranked.items cluster are.ranked is);
-    known = subst (AreKnown moment stock.ads) (sym known) are.known;
-  }
-
-  pub one-seen : (after : Clusters) → All (λ place. place < length jobs) after.seen.items → after.ranked.items ≡ clusters.ranked.items → AreKnown moment stock.ads after.known → AreClusters moment stock settings jobs after
-  one-seen after seen ranked known = record { seen = seen; ranked = subst (All (IsCluster moment stock settings jobs)) (sym ranked) are.ranked; known = known }
+    pub one-more : (after : Clusters) (class : Class) → after.reach ≡ clusters.reach → after.classes.items ≡ clusters.classes.items ++ class ∷ []
+        → after.known ≡ clusters.known → IsClass moment stock settings jobs class → AreClusters moment stock settings jobs after
+    one-more after class reach classes known is = record {
+      reach = subst (λ (o : Option Reach). IfSome o (λ r. HasReadAds r stock.ads)) (sym reach) are.reach;
+      classes = subst (All (IsClass moment stock settings jobs)) (sym classes)
+          (All-push (IsClass moment stock settings jobs) clusters.classes.items class are.classes is);
+      known = subst (AreKnown moment stock.ads) (sym known) are.known;
+    }
 
 pub same-clusters : (scene : Scene) {jobs later : List Job} {clusters after : Clusters} → later ≡ jobs → after ≡ clusters → AreClusters scene.moment (stock_in scene) (settings_in scene) jobs clusters → AreClusters scene.moment (stock_in scene) (settings_in scene) later after
 same-clusters scene jobs_are clusters_are are = rw (jobs_are, clusters_are) are
+
+-- looks that were made, with those that are saved
+pub with-saved : {made made2 saved saved2 : ℕ} → made2 ≡ made → saved2 ≡ saved → made2 + saved2 ≡ made + saved
+with-saved made_is saved_is = rw (made_is, saved_is) refl
 
 -- ---- one more offer
 
@@ -156,25 +160,20 @@ module _ (moment : ℕ) (stock : Stock) (settings : List Setting) (jobs : List J
   abbrev later : List Job
   later = with_standing jobs i (Stage.Matched slots)
 
-  ad-later : (place : ℕ) → ad_at later place ≡ ad_at jobs place
-  ad-later place =
-      ad-by later place
-      ∙ ap (λ rs. option_map_or (λ (r : Request). ad_frames r.ad) (slice_get rs place) []) (requests-later jobs i slots idle)
-      ∙ sym (ad-by jobs place)
-
-  cluster-later : (cluster : Cluster) → IsCluster moment stock settings jobs cluster → IsCluster moment stock settings later cluster
-  cluster-later cluster is = record {
-    place = subst (λ (n : ℕ). cluster.place < n) (sym (length-later jobs i slots idle)) is.place;
+  ranked-later : (request : List Frame) (number : ℕ) (ranked : Ranked) → IsRanked moment stock settings jobs request number ranked → IsRanked moment stock settings later request number ranked
+  ranked-later request number ranked is = record {
     list = λ more grows.
-        ap (λ holding. best_slot stock (pool_of moment stock more holding) (ad_at later cluster.place) cluster.number) (fun_ext (holder-later jobs i slots idle settings))
-        ∙ ap (λ (frames : List Frame). best_slot stock (pool_of moment stock more (holder_of settings jobs)) frames cluster.number) (ad-later cluster.place)
+        ap (λ holding. best_slot stock (pool_of moment stock more holding) request number) (fun_ext (holder-later jobs i slots idle settings))
         ∙ is.list more (λ slot some. grows slot (offered-later jobs i slots idle slot some));
-    passed = λ k d within. offered-later jobs i slots idle (get_or (take cluster.passed cluster.slots) k d) (is.passed k d within);
+    passed = λ k d within. offered-later jobs i slots idle (get_or (take ranked.passed ranked.slots) k d) (is.passed k d within);
   }
+
+  class-later : (class : Class) → IsClass moment stock settings jobs class → IsClass moment stock settings later class
+  class-later class is = record { marked = is.marked; ranked = IfSome_then class.ranked is.ranked (ranked-later (ad_frames class.ad) class.number) }
 
   pub clusters-later : (clusters : Clusters) → AreClusters moment stock settings jobs clusters → AreClusters moment stock settings later clusters
   clusters-later clusters are = record {
-    seen = λ k d within. subst (λ (n : ℕ). get_or clusters.seen.items k d < n) (sym (length-later jobs i slots idle)) (are.seen k d within);
-    ranked = λ k d within. cluster-later (get_or clusters.ranked.items k d) (are.ranked k d within);
+    reach = are.reach;
+    classes = λ k d within. class-later (get_or clusters.classes.items k d) (are.classes k d within);
     known = are.known;
   }

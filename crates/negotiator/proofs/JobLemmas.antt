@@ -13,8 +13,8 @@ use Rattle.ad_tree.specs.declared.request.Port.{Port}
 use Rattle.ad_tree.specs.declared.request.Request.{Request}
 use Rattle.ad_store.specs.Holdings.{Holding}
 use Rattle.ad_store.specs.Stock.{Stock}
+use Rattle.dock_match.specs.Pool.{AreStored, Pool, pool_of, slot_at}
 use Rattle.bilateral_match.specs.Members.{best}
-use Rattle.bilateral_match.specs.Pool.{AreStored, Pool, pool_of, slot_at}
 use Rattle.bilateral_match.specs.declared.member.Member.{Member}
 use Rattle.bilateral_match.proofs.OfferLemmas.{fewer-entered, fewer-open, none-later}
 use Rattle.claim_table.specs.declared.job.Job.{Job}

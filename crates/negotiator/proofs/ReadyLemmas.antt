@@ -4,8 +4,8 @@ use Rattle.std.proofs.lemmas.Bool.{cases_eq}
 use Rattle.std.proofs.lemmas.List.{length-replicate, length-set}
 use Rattle.ad_tree.specs.Ad.{ad_frames}
 use Rattle.ad_tree.specs.declared.request.Request.{Request}
-use Rattle.bilateral_match.specs.Pool.{AreStored}
-use Rattle.bilateral_match.specs.Rows.{rows_of}
+use Rattle.ad_candidates.specs.Rows.{rows_of}
+use Rattle.dock_match.specs.Pool.{AreStored}
 use Rattle.claim_table.specs.declared.job.Job.{Job}
 use Rattle.claim_table.specs.declared.job.Stage.{Stage}
 use Rattle.claim_table.specs.Holders.{holder_of}

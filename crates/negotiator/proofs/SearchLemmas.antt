@@ -10,13 +10,14 @@ use Rattle.ad_tree.specs.Frames.{Frame}
 use Rattle.ad_tree.specs.declared.request.Port.{Port}
 use Rattle.ad_tree.specs.declared.request.Request.{Request}
 use Rattle.ad_store.specs.Stock.{Stock}
-use Rattle.bilateral_match.specs.Counts.{entered_for, least_left, open_count}
+use Rattle.ad_candidates.specs.Counts.{least_left}
+use Rattle.dock_match.specs.Pool.{Pool, slot_at}
+use Rattle.bilateral_match.specs.Counts.{entered_for, open_count}
 use Rattle.bilateral_match.specs.Members.{best_slot}
-use Rattle.bilateral_match.specs.Pool.{Pool, slot_at}
 use Rattle.claim_table.specs.declared.answers.JobState.{JobState}
 use Rattle.claim_table.specs.declared.job.Job.{Job}
 use Rattle.claim_table.specs.declared.job.Stage.{Stage}
-use Rattle.claim_table.specs.Jobs.{AreFree, AreNamedApart, job_named, numbered, offered_to, state_of, wanted}
+use Rattle.claim_table.specs.Jobs.{AreFree, offered_to, state_of, wanted}
 use Rattle.claim_table.specs.Priorities.{Setting, priority_of}
 use Rattle.conjunct_plan.specs.Tests.{tests_of}
 use Rattle.gang_ports.specs.Gangs.{attributes_open, docks_open, gang, looks_most}
@@ -25,37 +26,23 @@ use Rattle.negotiator.specs.Budget.{entries_by, entries_for, evaluations_by, eva
 use Rattle.negotiator.specs.Markets.{found, found_by, found_for, is_idle, name_at, offer_named, pool_for}
 use Rattle.negotiator.proofs.GangLemmas.{not-some}
 
-abbrev pub state_at : List Job → ℕ → Option JobState
-state_at jobs i = option_map (λ (job : Job). state_of job.standing) (slice_get jobs i)
+abbrev pub is_idle_state : JobState → Bool
+is_idle_state JobState.Idle = true
+is_idle_state other = false
 
--- the job of the name of the job at a place is that job
-pub state-by-name : (jobs : List Job) (i : ℕ) (name : List ℕ) → AreNamedApart jobs → option_map (λ (job : Job). job.name) (slice_get jobs i) ≡ Some name
-    → option_map (λ (job : Job). state_of job.standing) (job_named name jobs) ≡ state_at jobs i
-state-by-name jobs i name apart named = by (slice_get jobs i) refl named
+-- the job at a place is idle where its state says so
+pub idle-is : (jobs : List Job) (i : ℕ) (stage : Stage) (state : JobState) → option_map (λ (job : Job). job.standing) (slice_get jobs i) ≡ Some stage → state ≡ state_of stage
+    → is_idle_state state ≡ is_idle_at jobs i
+idle-is jobs i stage state at is = by (slice_get jobs i) at
   where
-    by : (o : Option Job) → slice_get jobs i ≡ o → option_map (λ (job : Job). job.name) o ≡ Some name → option_map (λ (job : Job). state_of job.standing) (job_named name jobs) ≡ option_map (λ (job : Job). state_of job.standing) (slice_get jobs i)
-    by None at e = absurd (none-some name e)
-    by (Some job) at e =
-        let same = same_Some job.name name e in
-        let number : numbered name jobs ≡ Some i = ap (λ n. numbered n jobs) (sym same) ∙ apart i job at in
-        ap (λ o. option_map (λ (job : Job). state_of job.standing) (option_and_then (λ k. slice_get jobs k) o)) number
-
-abbrev pub is_idle_state : Option JobState → Bool
-is_idle_state None = false
-is_idle_state (Some JobState.Idle) = true
-is_idle_state (Some other) = false
-
-pub idle-state : (jobs : List Job) (i : ℕ) → is_idle_at jobs i ≡ is_idle_state (state_at jobs i)
-idle-state jobs i = by (slice_get jobs i)
-  where
-    standing : (s : Stage) → is_idle s ≡ is_idle_state (Some (state_of s))
+    standing : (s : Stage) → is_idle s ≡ is_idle_state (state_of s)
     standing Stage.Idle = refl
     standing (Stage.Matched slots) = refl
     standing (Stage.Claimed slots) = refl
 
-    by : (o : Option Job) → option_map_or (λ (job : Job). is_idle job.standing) o false ≡ is_idle_state (option_map (λ (job : Job). state_of job.standing) o)
-    by None = refl
-    by (Some job) = standing job.standing
+    by : (o : Option Job) → option_map (λ (job : Job). job.standing) o ≡ Some stage → is_idle_state state ≡ option_map_or (λ (job : Job). is_idle job.standing) o false
+    by None e = absurd (none-some stage e)
+    by (Some job) e = ap is_idle_state (is ∙ ap state_of (sym (same_Some job.standing stage e))) ∙ sym (standing job.standing)
 
 -- ---- without ports
 

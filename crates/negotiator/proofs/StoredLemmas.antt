@@ -12,9 +12,9 @@ use Rattle.ad_tree.specs.declared.request.Port.{Port}
 use Rattle.ad_store.specs.declared.store.Store.{Store}
 use Rattle.ad_store.specs.Stock.{Advert, Stock}
 use Rattle.ad_store.specs.Store.{stock_of}
+use Rattle.dock_match.specs.Pool.{Pool, slot_at}
 use Rattle.bilateral_match.specs.declared.member.Member.{Member}
 use Rattle.bilateral_match.specs.Members.{as_member, best, earlier, first_of, is_member, member_order, members, members_from}
-use Rattle.bilateral_match.specs.Pool.{Pool, slot_at}
 use Rattle.claim_table.specs.declared.job.Job.{Job}
 use Rattle.negotiator.specs.Cycle.{Market, Offer, cycle_of, is_empty, offers_in, offers_of, places, shares_of, spin, spins_within, turn, turns, users_of, waiting_count}
 use Rattle.negotiator.specs.Markets.{found, found_by, found_for, market_of, pool_for, with_offers}

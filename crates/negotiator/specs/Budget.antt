@@ -7,8 +7,9 @@ use Rattle.ad_tree.specs.Frames.{Frame}
 use Rattle.ad_tree.specs.declared.request.Port.{Port}
 use Rattle.ad_tree.specs.declared.request.Request.{Request}
 use Rattle.ad_store.specs.Stock.{Advert, Stock}
-use Rattle.bilateral_match.specs.Counts.{entered_for, least_left, open_count}
-use Rattle.bilateral_match.specs.Pool.{Pool}
+use Rattle.ad_candidates.specs.Counts.{least_left}
+use Rattle.dock_match.specs.Pool.{Pool}
+use Rattle.bilateral_match.specs.Counts.{entered_for, open_count}
 use Rattle.claim_table.specs.declared.job.Job.{Job}
 use Rattle.claim_table.specs.Priorities.{Setting}
 use Rattle.conjunct_plan.specs.Tests.{tests_of}

@@ -1,6 +1,5 @@
--- What is known of the resources of a cluster of jobs, and stays known while more are offered.
-use Rattle.std.specs.Prelude.{◌≡◌, ◌<◌, ℕ, Bool, true, List, [], All, is_some, length, slice_get, take}
-use Rattle.std.specs.Option.{option_map_or}
+-- What is known of the classes of jobs in a cycle, and stays known while more is offered.
+use Rattle.std.specs.Prelude.{◌≡◌, ℕ, Bool, true, List, All, IfSome, is_some, take}
 use Rattle.ad_tree.specs.Ad.{ad_frames}
 use Rattle.ad_tree.specs.Frames.{Frame}
 use Rattle.ad_store.specs.Stock.{Stock}
@@ -10,24 +9,27 @@ use Rattle.claim_table.specs.declared.job.Job.{Job}
 use Rattle.claim_table.specs.Holders.{holder_of}
 use Rattle.claim_table.specs.Jobs.{offered_to}
 use Rattle.claim_table.specs.Priorities.{Setting}
-use Rattle.negotiator.specs.declared.clusters.Cluster.{Cluster}
+use Rattle.job_classes.specs.Shown.{HasReadAds, ads_in}
+use Rattle.job_classes.specs.Twins.{AreAllMarked}
+use Rattle.negotiator.specs.declared.class.Class.{Class}
+use Rattle.negotiator.specs.declared.class.Ranked.{Ranked}
 use Rattle.negotiator.specs.declared.clusters.Clusters.{Clusters}
-
--- the ad of the job at a place
-abbrev pub ad_at : List Job → ℕ → List Frame
-ad_at jobs i = option_map_or (λ job. ad_frames job.request.ad) (slice_get jobs i) []
 
 abbrev pub is_offered : List Job → ℕ → Bool
 is_offered jobs slot = is_some (offered_to slot jobs)
 
--- the slots are a shortlist for the ad of the job at the cluster's place and for the cluster's number, and those that were passed are offered
-pub record IsCluster (moment : ℕ) (stock : Stock) (settings : List Setting) (jobs : List Job) (cluster : Cluster) : Type 0 where
-  pub place : cluster.place < length jobs
-  pub list : IsShortlist moment stock (is_offered jobs) (holder_of settings jobs) (ad_at jobs cluster.place) cluster.number cluster.slots
-  pub passed : All (λ slot. is_offered jobs slot ≡ true) (take cluster.passed cluster.slots)
+-- the slots are a shortlist for a request and a user with this number, and those that were passed are offered
+pub record IsRanked (moment : ℕ) (stock : Stock) (settings : List Setting) (jobs : List Job) (request : List Frame) (number : ℕ) (ranked : Ranked) : Type 0 where
+  pub list : IsShortlist moment stock (is_offered jobs) (holder_of settings jobs) request number ranked.slots
+  pub passed : All (λ slot. is_offered jobs slot ≡ true) (take ranked.passed ranked.slots)
 
--- so is each cluster, the ads that were seen are those of jobs, and the ranks that are kept are those by their expressions
+-- each attribute of the class's ad that the matching can come to is marked, and its list is one for that ad
+pub record IsClass (moment : ℕ) (stock : Stock) (settings : List Setting) (jobs : List Job) (class : Class) : Type 0 where
+  pub marked : AreAllMarked (ads_in stock.ads) (ad_frames class.ad) class.marks.items
+  pub ranked : IfSome class.ranked (IsRanked moment stock settings jobs (ad_frames class.ad) class.number)
+
+-- so is each class, the names that are read are those of the ads, and the ranks that are kept are those by their expressions
 pub record AreClusters (moment : ℕ) (stock : Stock) (settings : List Setting) (jobs : List Job) (clusters : Clusters) : Type 0 where
-  pub seen : All (λ place. place < length jobs) clusters.seen.items
-  pub ranked : All (IsCluster moment stock settings jobs) clusters.ranked.items
+  pub reach : IfSome clusters.reach (λ reach. HasReadAds reach stock.ads)
+  pub classes : All (IsClass moment stock settings jobs) clusters.classes.items
   pub known : AreKnown moment stock.ads clusters.known

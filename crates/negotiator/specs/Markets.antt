@@ -6,8 +6,8 @@ use Rattle.ad_tree.specs.Frames.{Frame}
 use Rattle.ad_tree.specs.declared.request.Port.{Port}
 use Rattle.ad_tree.specs.declared.request.Request.{Request}
 use Rattle.ad_store.specs.Stock.{Stock}
+use Rattle.dock_match.specs.Pool.{Pool, pool_of, slot_at}
 use Rattle.bilateral_match.specs.Members.{best_slot}
-use Rattle.bilateral_match.specs.Pool.{Pool, pool_of, slot_at}
 use Rattle.claim_table.specs.declared.job.Job.{Job}
 use Rattle.claim_table.specs.declared.job.Stage.{Stage}
 use Rattle.claim_table.specs.Holders.{holder_of}

@@ -4,8 +4,8 @@ use Rattle.std.specs.Option.{option_map_or}
 use Rattle.ad_tree.specs.Ad.{ad_frames}
 use Rattle.ad_store.specs.Stock.{Stock}
 use Rattle.ad_store.specs.Store.{stock_of}
-use Rattle.bilateral_match.specs.Pool.{AreStored}
-use Rattle.bilateral_match.specs.Rows.{rows_of}
+use Rattle.ad_candidates.specs.Rows.{rows_of}
+use Rattle.dock_match.specs.Pool.{AreStored}
 use Rattle.claim_table.specs.declared.job.Job.{Job}
 use Rattle.claim_table.specs.Holders.{holder_of}
 use Rattle.claim_table.specs.Jobs.{jobs_limit}

@@ -3,6 +3,7 @@
 #![tactic(auto)]
 
 mod answers;
+mod class;
 mod clusters;
 mod laws;
 mod queues;
@@ -13,7 +14,8 @@ mod turns;
 
 pub use answers::{Cycle, Offered, OfferedList, Spin, Turn, Turns};
 pub use claim_table::{Priorities, PriorityFault};
-pub use clusters::{Cluster, Clusters};
+pub use class::{Class, Ranked};
+pub use clusters::Clusters;
 pub use laws::{
     a_cycle_ends_with_the_first_spin_without_an_offer, users_with_a_waiting_job_take_turns_in_order,
 };

@@ -3,9 +3,9 @@ ghost use Rattle.std.specs.Prelude.{◌≡◌, ◌≢◌, ◌<◌, ◌≤◌, �
 ghost use Rattle.std.specs.Option.{option_map_or};
 ghost use Rattle.ad_tree.specs.Ad.{ad_frames};
 ghost use Rattle.ad_tree.specs.Small.{IsSmall};
-ghost use Rattle.bilateral_match.specs.Pool.{AreStored};
-ghost use Rattle.bilateral_match.specs.Rows.{rows_of};
-ghost use Rattle.bilateral_match.specs.Small.{AreSmallAds};
+ghost use Rattle.ad_candidates.specs.Rows.{rows_of};
+ghost use Rattle.dock_match.specs.Pool.{AreStored};
+ghost use Rattle.dock_match.specs.Small.{AreSmallAds};
 ghost use Rattle.claim_table.specs.declared.job.Stage.{Stage};
 ghost use Rattle.claim_table.specs.Holders.{holder_of};
 ghost use Rattle.claim_table.specs.Jobs.{AreFree, wanted, with_standing};
@@ -34,11 +34,7 @@ pub(crate) fn is_idle(claims: &ClaimTable, i: usize) -> bool
     requires { i < length (jobs_of claims.now) }
     ensures { result ≡ is_idle_at (jobs_of claims.now) i }
 {
-    claims.names_are_apart();
-    let Some(state) = claims.state(claims.job(i).bytes()) else {
-        return false;
-    };
-    match state {
+    match claims.standing(i).state() {
         JobState::Idle => true,
         JobState::Matched => false,
         JobState::Claimed => false,
@@ -73,7 +69,7 @@ fn search<F: Ledger, E: Ledger, T: Ledger>(
     ensures distinct { IfOk result (λ slots. IfSome slots (AllPairs (λ a b. a ≢ b))) }
     ensures enough { IfOk result (λ slots. IfSome slots (λ list. option_map (λ job. wanted job.request) (slice_get (jobs_of claims.now) i) ≡ Some (length list))) }
     ensures clusters { AreClusters scene.now.moment (stock_in scene.now) (settings_in scene.now) (jobs_of claims.now) clusters.new }
-    ensures counted { IsSearched scene.now.moment (stock_in scene.now) (settings_in scene.now) (jobs_of claims.now) i (counts tops.old entry.old touch.old) (counts tops.new entry.new touch.new) }
+    ensures counted { IsSearched scene.now.moment (stock_in scene.now) (settings_in scene.now) (jobs_of claims.now) i (counts tops.old entry.old (touch.old + clusters.old.looks.saved)) (counts tops.new entry.new (touch.new + clusters.new.looks.saved)) }
     ensures ratio { AreSmallAds (stock_in scene.now).ads → AreSmallJobs (jobs_of claims.now) → entry.new + 9216 * tops.old ≤ entry.old + 9216 * tops.new }
 {
     let request = claims.request(i);
@@ -112,7 +108,7 @@ fn search_one<F: Ledger, E: Ledger, T: Ledger>(
     ensures evaluations { tops.new ≤ tops.old + evaluations_for scene.now.moment (stock_in scene.now) (settings_in scene.now) (jobs_of claims.now) request.now }
     ensures entries { entry.new ≤ entry.old + entries_for scene.now.moment (stock_in scene.now) (settings_in scene.now) (jobs_of claims.now) request.now }
     ensures ratio { AreSmallAds (stock_in scene.now).ads → AreSmallJobs (jobs_of claims.now) → entry.new + 9216 * tops.old ≤ entry.old + 9216 * tops.new }
-    ensures looks { touch.new ≤ touch.old + looks_for (stock_in scene.now) (jobs_of claims.now) request.now }
+    ensures looks { touch.new + clusters.new.looks.saved ≤ touch.old + clusters.old.looks.saved + looks_for (stock_in scene.now) (jobs_of claims.now) request.now }
 {
     let slot = choose(
         scene, claims, i, request, number, clusters, tops, entry, touch,
@@ -223,8 +219,8 @@ pub(crate) fn try_job<F: Ledger, E: Ledger, T: Ledger>(
     ensures err { OnErr result (jobs_of claims.new ≡ jobs_of claims.old) }
     ensures ready { IsReady scene.now (jobs_of claims.new) failed.new }
     ensures clusters { AreClusters scene.now.moment (stock_in scene.now) (settings_in scene.now) (jobs_of claims.new) clusters.new }
-    ensures paid { OnOk result (ArePaid scene.now.moment (stock_in scene.now) (settings_in scene.now) (jobs_of claims.old) (jobs_of claims.new) failed.old failed.new (counts tops.old entry.old touch.old) (counts tops.new entry.new touch.new)) }
-    ensures within { AreWithin scene.now.moment (stock_in scene.now) (settings_in scene.now) (jobs_of claims.old) failed.old (counts tops.old entry.old touch.old) (counts tops.new entry.new touch.new) }
+    ensures paid { OnOk result (ArePaid scene.now.moment (stock_in scene.now) (settings_in scene.now) (jobs_of claims.old) (jobs_of claims.new) failed.old failed.new (counts tops.old entry.old (touch.old + clusters.old.looks.saved)) (counts tops.new entry.new (touch.new + clusters.new.looks.saved))) }
+    ensures within { AreWithin scene.now.moment (stock_in scene.now) (settings_in scene.now) (jobs_of claims.old) failed.old (counts tops.old entry.old (touch.old + clusters.old.looks.saved)) (counts tops.new entry.new (touch.new + clusters.new.looks.saved)) }
     ensures ratio { AreSmallAds (stock_in scene.now).ads → AreSmallJobs (jobs_of claims.old) → entry.new + 9216 * tops.old ≤ entry.old + 9216 * tops.new }
 {
     if failed[i] {

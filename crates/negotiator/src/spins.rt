@@ -3,9 +3,9 @@ ghost use Rattle.std.specs.Prelude.{◌≡◌, ◌≤◌, ◌<◌, ◌+◌, ◌*
 ghost use Rattle.std.specs.List.{list_any};
 ghost use Rattle.ad_tree.specs.Ad.{ad_frames};
 ghost use Rattle.ad_store.specs.Store.{stock_of};
-ghost use Rattle.bilateral_match.specs.Pool.{AreStored};
-ghost use Rattle.bilateral_match.specs.Rows.{rows_of};
-ghost use Rattle.bilateral_match.specs.Small.{AreSmallAds};
+ghost use Rattle.ad_candidates.specs.Rows.{rows_of};
+ghost use Rattle.dock_match.specs.Pool.{AreStored};
+ghost use Rattle.dock_match.specs.Small.{AreSmallAds};
 ghost use Rattle.claim_table.specs.Holders.{holder_of};
 ghost use Rattle.claim_table.specs.Small.{AreSmallJobs};
 ghost use Rattle.claim_table.specs.Table.{jobs_of};
@@ -120,7 +120,7 @@ fn run_spins<F: Ledger, E: Ledger, T: Ledger>(
     ensures cycle { IfOk result (λ spins. spins ≡ map (spin_named (jobs_of claims.old)) (cycle_of (market_in scene.now (jobs_of claims.old)))) }
     ensures table { OnOk result (jobs_of claims.new ≡ with_offers (offers_of (cycle_of (market_in scene.now (jobs_of claims.old)))) (jobs_of claims.old)) }
     ensures part { OnErr result (IsPart (offers_of (cycle_of (market_in scene.now (jobs_of claims.old)))) (jobs_of claims.old) (jobs_of claims.new)) }
-    ensures within { AreWithin scene.now.moment (stock_in scene.now) (settings_in scene.now) (jobs_of claims.old) failed.old (counts tops.old entry.old touch.old) (counts tops.new entry.new touch.new) }
+    ensures within { AreWithin scene.now.moment (stock_in scene.now) (settings_in scene.now) (jobs_of claims.old) failed.old (counts tops.old entry.old (touch.old + clusters.old.looks.saved)) (counts tops.new entry.new (touch.new + clusters.new.looks.saved)) }
     ensures ratio { AreSmallAds (stock_in scene.now).ads → AreSmallJobs (jobs_of claims.old) → entry.new + 9216 * tops.old ≤ entry.old + 9216 * tops.new }
 {
     let mut spins = Cycle::new(scene.alloc);
@@ -153,8 +153,8 @@ fn run_spin<F: Ledger, E: Ledger, T: Ledger>(
     ensures part { OnErr result (IsPart (offers_in (spin (market_in scene.now (jobs_of claims.old)) []).turns) (jobs_of claims.old) (jobs_of claims.new)) }
     ensures ready { IsReady scene.now (jobs_of claims.new) failed.new }
     ensures clusters { AreClusters scene.now.moment (stock_in scene.now) (settings_in scene.now) (jobs_of claims.new) clusters.new }
-    ensures paid { OnOk result (ArePaid scene.now.moment (stock_in scene.now) (settings_in scene.now) (jobs_of claims.old) (jobs_of claims.new) failed.old failed.new (counts tops.old entry.old touch.old) (counts tops.new entry.new touch.new)) }
-    ensures within { AreWithin scene.now.moment (stock_in scene.now) (settings_in scene.now) (jobs_of claims.old) failed.old (counts tops.old entry.old touch.old) (counts tops.new entry.new touch.new) }
+    ensures paid { OnOk result (ArePaid scene.now.moment (stock_in scene.now) (settings_in scene.now) (jobs_of claims.old) (jobs_of claims.new) failed.old failed.new (counts tops.old entry.old (touch.old + clusters.old.looks.saved)) (counts tops.new entry.new (touch.new + clusters.new.looks.saved))) }
+    ensures within { AreWithin scene.now.moment (stock_in scene.now) (settings_in scene.now) (jobs_of claims.old) failed.old (counts tops.old entry.old (touch.old + clusters.old.looks.saved)) (counts tops.new entry.new (touch.new + clusters.new.looks.saved)) }
     ensures ratio { AreSmallAds (stock_in scene.now).ads → AreSmallJobs (jobs_of claims.old) → entry.new + 9216 * tops.old ≤ entry.old + 9216 * tops.new }
 {
     let free = free_count(scene.store, claims);

@@ -7,8 +7,8 @@ use Rattle.ad_tree.specs.Frames.{Frame}
 use Rattle.ad_tree.specs.declared.request.Port.{Port}
 use Rattle.ad_eval.specs.Dock.{is_docked}
 use Rattle.ad_store.specs.Stock.{Stock}
-use Rattle.bilateral_match.specs.Members.{is_yielded}
-use Rattle.bilateral_match.specs.Pool.{ad_in, regard_in}
+use Rattle.dock_match.specs.Preemption.{is_yielded}
+use Rattle.dock_match.specs.Pool.{ad_in, regard_in}
 use Rattle.claim_table.specs.Claims as claims
 use Rattle.claim_table.specs.Jobs.{lists}
 use Rattle.claim_table.specs.Priorities.{Setting}

@@ -11,7 +11,7 @@ use Rattle.ad_tree.specs.declared.request.Port.{Port}
 use Rattle.ad_store.specs.Holdings.{Holding}
 use Rattle.ad_store.specs.Stock.{Advert, Stock, is_named}
 use Rattle.ad_store.proofs.HeldLemmas.{both}
-use Rattle.bilateral_match.specs.Pool.{AreStored, Hold, ad_in, hold_of, holder_world}
+use Rattle.dock_match.specs.Pool.{AreStored, Hold, ad_in, hold_of, holder_world}
 use Rattle.claim_table.specs.declared.job.Job.{Job}
 use Rattle.claim_table.specs.declared.job.Stage.{Stage}
 use Rattle.claim_table.specs.Holders.{holder_of, holding_in}

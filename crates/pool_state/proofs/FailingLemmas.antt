@@ -6,7 +6,7 @@ use Rattle.std.specs.Option.{option_map_or}
 use Rattle.std.proofs.lemmas.List.Elements.{All-head, All-tail}
 use Rattle.ad_store.specs.Stock.{Stock}
 use Rattle.ad_store.proofs.HeldLemmas.{both}
-use Rattle.bilateral_match.specs.Docks.{is_last_decided}
+use Rattle.dock_match.specs.Docks.{is_last_decided}
 use Rattle.claim_table.specs.Claims as claims
 use Rattle.claim_table.specs.Jobs.{is_named, lists, offer_of, slots_of}
 use Rattle.claim_table.specs.declared.job.Job.{Job}

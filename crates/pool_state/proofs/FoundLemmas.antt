@@ -9,9 +9,9 @@ use Rattle.ad_tree.specs.Ad.{ad_frames}
 use Rattle.ad_tree.specs.Frames.{Frame}
 use Rattle.ad_tree.specs.declared.request.Port.{Port}
 use Rattle.ad_store.specs.Stock.{Advert, Stock}
+use Rattle.dock_match.specs.Pool.{Pool, slot_at}
 use Rattle.bilateral_match.specs.declared.member.Member.{Member}
 use Rattle.bilateral_match.specs.Members.{as_member, best, earlier, first_of, is_member, member_order, members_from}
-use Rattle.bilateral_match.specs.Pool.{Pool, slot_at}
 use Rattle.claim_table.specs.declared.job.Job.{Job}
 use Rattle.claim_table.specs.Priorities.{Setting, priority_of}
 use Rattle.claim_table.proofs.HolderLemmas.{All-found}

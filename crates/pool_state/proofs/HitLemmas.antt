@@ -6,8 +6,8 @@ use Rattle.std.proofs.lemmas.List.Elements.{All-cons, All-head, All-nil, All-tai
 use Rattle.std.proofs.lemmas.List.Sorted.{All-permutation}
 use Rattle.ad_store.specs.Stock.{Advert}
 use Rattle.ad_tree.specs.Frames.{Frame}
+use Rattle.dock_match.specs.Docks.{ranked}
 use Rattle.bilateral_match.specs.Answers.{AreAnswers, hit_of, matches_from}
-use Rattle.bilateral_match.specs.Docks.{ranked}
 use Rattle.bilateral_match.specs.declared.hit.Hit.{Hit}
 use Rattle.bilateral_match.specs.declared.hit.Match.{Match}
 use Rattle.pool_replies.specs.declared.rows.HitRow.{HitRow}

@@ -9,7 +9,7 @@ use Rattle.ad_tree.specs.Frames.{Frame}
 use Rattle.literal_index.specs.Rows.{row_of}
 use Rattle.literal_index.specs.Shown.{IsKept}
 use Rattle.literal_index.specs.declared.index.Index.{Index}
-use Rattle.bilateral_match.specs.Rows.{rows_beside, rows_of}
+use Rattle.ad_candidates.specs.Rows.{rows_beside, rows_of}
 use Rattle.pool_state.specs.Stocks.{stock_without}
 use Rattle.pool_state.proofs.AdLemmas.{is_own_name}
 use Rattle.pool_state.proofs.StepLemmas.{not_false, not_true}

@@ -8,9 +8,9 @@ use Rattle.std.proofs.lemmas.Option.{get_or_from_slice_get}
 use Rattle.ad_tree.specs.Frames.{Frame}
 use Rattle.ad_tree.specs.declared.request.Port.{Port}
 use Rattle.ad_store.specs.Stock.{Advert, Stock}
+use Rattle.dock_match.specs.Pool.{Hold, hold_of, slot_at}
 use Rattle.bilateral_match.specs.Counts.{open_count}
 use Rattle.bilateral_match.specs.Members.{best}
-use Rattle.bilateral_match.specs.Pool.{Hold, hold_of, slot_at}
 use Rattle.bilateral_match.proofs.PoolLemmas.{best-same, open-same}
 use Rattle.claim_table.specs.declared.job.Job.{Job}
 use Rattle.claim_table.specs.Holders.{holder_of}

@@ -9,7 +9,7 @@ use Rattle.ad_tree.specs.declared.request.Request.{Request}
 use Rattle.ad_store.specs.Stock.{Advert, Stock, is_named, placed, without}
 use Rattle.eval_scope.specs.World.{PlainWorld, ads, with_docked}
 use Rattle.ad_eval.specs.Small.{AreSmall}
-use Rattle.bilateral_match.specs.Small.{AreSmallAds}
+use Rattle.dock_match.specs.Small.{AreSmallAds}
 
 -- the ad of the request is small
 abbrev pub IsSmallRequest : Request → Type 0

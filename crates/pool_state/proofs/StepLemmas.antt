@@ -20,8 +20,9 @@ use Rattle.ad_printer.specs.Values.{printed_frame}
 use Rattle.ad_store.specs.Stock.{Advert, has, lack, placed, without}
 use Rattle.ad_store.specs.declared.answers.PutFault.{PutFault}
 use Rattle.ad_store.proofs.HeldLemmas.{without-absent}
+use Rattle.ad_candidates.specs.Counts.{least_left}
 use Rattle.bilateral_match.specs.Answers.{answers}
-use Rattle.bilateral_match.specs.Counts.{least_left, undecided_count}
+use Rattle.bilateral_match.specs.Counts.{undecided_count}
 use Rattle.conjunct_plan.specs.Tests.{tests_of}
 use Rattle.pool_state.specs.Queue.{without_resources}
 use Rattle.pool_state.specs.State.{QueuedJob, State}

@@ -5,9 +5,9 @@ use Rattle.std.specs.Option.{option_map_or}
 use Rattle.ad_store.specs.Stock.{Advert}
 use Rattle.eval_scope.specs.World.{PlainWorld}
 use Rattle.ad_eval.specs.Dock.{is_docked}
-use Rattle.bilateral_match.specs.Docks.{is_last_decided}
-use Rattle.bilateral_match.specs.Members.{is_yielded}
-use Rattle.bilateral_match.specs.Pool.{regard_in}
+use Rattle.dock_match.specs.Docks.{is_last_decided}
+use Rattle.dock_match.specs.Preemption.{is_yielded}
+use Rattle.dock_match.specs.Pool.{regard_in}
 use Rattle.claim_table.specs.declared.answers.JobState.{JobState}
 use Rattle.claim_table.specs.Priorities.{Setting, priority_of}
 use Rattle.pool_replies.specs.declared.refusal.Refusal.TheVariants as why

@@ -6,7 +6,7 @@ use Rattle.ad_tree.specs.declared.request.Port.{Port}
 use Rattle.ad_tree.specs.Inline.{Inline, ad_of}
 use Rattle.ad_parser.specs.declared.fault.ParseFault.{ParseFault}
 use Rattle.ad_store.specs.Stock.{Advert}
-use Rattle.bilateral_match.specs.Pool.{Pool}
+use Rattle.dock_match.specs.Pool.{Pool}
 use Rattle.claim_table.specs.Priorities.{Setting}
 use Rattle.gang_ports.specs.Gangs.{docks_open, docks_weighed, gang as gang_in, looks_most}
 use Rattle.gang_ports.specs.Ports.{ports_of}

@@ -6,8 +6,8 @@ use Rattle.ad_tree.specs.Frames.{Frame}
 use Rattle.ad_tree.specs.declared.request.Port.{Port}
 use Rattle.ad_store.specs.Stock.{Advert, is_named}
 use Rattle.eval_scope.specs.World.{PlainWorld}
+use Rattle.dock_match.specs.Pool.{Hold, Pool}
 use Rattle.bilateral_match.specs.Members.{best}
-use Rattle.bilateral_match.specs.Pool.{Hold, Pool}
 use Rattle.gang_ports.specs.Gangs.{gang}
 use Rattle.negotiator.specs.Budget.{narrowed_by, open_by}
 use Rattle.negotiator.specs.Cycle.{Market, Offer, PlainSpin, PlainTurn, Waiting, cycle_of, offers_of}

@@ -10,8 +10,9 @@ use Rattle.ad_parser.specs.Outcomes.{ad_outcome, expr_outcome}
 use Rattle.pool_text.specs.declared.language.AdPlace.{AdPlace}
 use Rattle.eval_scope.specs.World.{PlainWorld}
 use Rattle.ad_eval.specs.Value.{evaluation}
+use Rattle.ad_candidates.specs.Counts.{least_left}
 use Rattle.bilateral_match.specs.Answers.{answers}
-use Rattle.bilateral_match.specs.Counts.{least_left, undecided_count}
+use Rattle.bilateral_match.specs.Counts.{undecided_count}
 use Rattle.bilateral_match.specs.declared.hit.Match.{Match}
 use Rattle.conjunct_plan.specs.Tests.{tests_of}
 use Rattle.ad_printer.specs.Values.{printed_frame, printed_value}

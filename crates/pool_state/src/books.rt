@@ -5,7 +5,7 @@ ghost use Rattle.ad_store.specs.Stock.{first_expired, has, lack, placed, without
 ghost use Rattle.ad_store.specs.Store.{stock_of};
 ghost use Rattle.ad_tree.specs.Ad.{ad_frames};
 ghost use Rattle.ad_tree.specs.Small.{IsSmall};
-ghost use Rattle.bilateral_match.specs.Rows.{rows_of};
+ghost use Rattle.ad_candidates.specs.Rows.{rows_of};
 ghost use Rattle.claim_table.specs.Small.{AreSmallJobs};
 ghost use Rattle.claim_table.specs.Table.{jobs_of};
 ghost use Rattle.literal_index.specs.Shown.{IsIndex};
@@ -151,6 +151,7 @@ impl Books {
         while let Some(slot) = self.ads.store.next_expired(now) {
             self.take_out(now, slot, touch)?;
         }
+        self.ads.note_soonest(now);
         Ok((before - self.ads.store.len()) as u64)
     }
 

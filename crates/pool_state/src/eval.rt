@@ -5,7 +5,7 @@ ghost use Rattle.ad_store.specs.Store.{stock_of};
 ghost use Rattle.ad_tree.specs.Ad.{ad_frames};
 ghost use Rattle.ad_tree.specs.Small.{IsSmall};
 ghost use Rattle.ad_tree.specs.Tree.{tree};
-ghost use Rattle.bilateral_match.specs.Small.{AreSmallAds};
+ghost use Rattle.dock_match.specs.Small.{AreSmallAds};
 ghost use Rattle.pool_script.specs.Form.{is_expr};
 ghost use Rattle.pool_replies.specs.Replies.{is_printable};
 ghost use Rattle.pool_state.specs.Step as steps;

@@ -5,7 +5,7 @@ ghost use Rattle.ad_store.specs.Store.{stock_of};
 ghost use Rattle.ad_tree.specs.Ad.{ad_frames};
 ghost use Rattle.ad_tree.specs.Requests.{ArePorts};
 ghost use Rattle.ad_tree.specs.Small.{IsSmall};
-ghost use Rattle.bilateral_match.specs.Rows.{rows_of};
+ghost use Rattle.ad_candidates.specs.Rows.{rows_of};
 ghost use Rattle.claim_table.specs.Settings.{settings_of};
 ghost use Rattle.gang_ports.specs.Gangs.{looks_most};
 ghost use Rattle.gang_ports.specs.Ports.{ports_of};

@@ -6,8 +6,8 @@ ghost use Rattle.ad_store.specs.Store.{stock_of};
 ghost use Rattle.ad_tree.specs.Ad.{ad_frames};
 ghost use Rattle.ad_tree.specs.Small.{IsSmall};
 ghost use Rattle.literal_index.specs.Shown.{IsIndex, IsKept};
-ghost use Rattle.bilateral_match.specs.Rows.{rows_of};
-ghost use Rattle.bilateral_match.specs.Small.{AreSmallAds};
+ghost use Rattle.ad_candidates.specs.Rows.{rows_of};
+ghost use Rattle.dock_match.specs.Small.{AreSmallAds};
 ghost use Rattle.pool_state.specs.Stocks.{stock_without};
 
 use ad_store::{NoName, Put, PutFault, Store};
@@ -67,6 +67,13 @@ impl IndexedStore {
             return Err(PutFault::OutOfMemory);
         };
         put
+    }
+
+    /// Takes note of when the next ad expires, for a moment at which none is left to expire.
+    pub(crate) fn note_soonest(&mut self, now: u64)
+        ensures { stock_of self.new.store ≡ stock_of self.old.store }
+    {
+        self.store.note_soonest(now);
     }
 
     /// Takes out the ad of a name, as the store does, and counts at most one in `touch`.

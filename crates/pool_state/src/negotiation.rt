@@ -1,7 +1,7 @@
 // Negotiation: a cycle that offers resources to idle jobs, and its rows.
 ghost use Rattle.std.specs.Prelude.{◌≡◌, ◌+◌, ◌*◌, ◌≤◌, map, All, Contains, IfOk, IsTrue};
 ghost use Rattle.ad_store.specs.Store.{stock_of};
-ghost use Rattle.bilateral_match.specs.Rows.{rows_of};
+ghost use Rattle.ad_candidates.specs.Rows.{rows_of};
 ghost use Rattle.literal_index.specs.Shown.{IsIndex};
 ghost use Rattle.claim_table.specs.Settings.{settings_of};
 ghost use Rattle.pool_replies.specs.Replies.{is_printable};

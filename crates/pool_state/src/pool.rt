@@ -2,7 +2,7 @@
 ghost use Rattle.std.specs.Prelude.{◌≡◌, ◌+◌, ◌*◌, ◌++◌, ◌≤◌, filter, true, false, IfOk, IsErr, IsTrue, OnErr, OnOk};
 ghost use Rattle.std.specs.List.{AllZip};
 ghost use Rattle.ad_store.specs.Store.{stock_of};
-ghost use Rattle.bilateral_match.specs.Rows.{rows_of};
+ghost use Rattle.ad_candidates.specs.Rows.{rows_of};
 ghost use Rattle.literal_index.specs.Shown.{IsIndex};
 ghost use Rattle.notice_desk.specs.Desk.{leaves_with, without};
 ghost use Rattle.pool_script.specs.Form.{is_within_form};

@@ -1,7 +1,7 @@
 use Rattle.std.proofs.Common.{ap, option_map, length, arith, ◌∙◌}
 use Rattle.ad_tree.specs.Ad.{ad_frames}
 use Rattle.ad_store.specs.Store.{stock_of}
-use Rattle.bilateral_match.specs.Pool.{pool_of, slot_at}
+use Rattle.dock_match.specs.Pool.{pool_of, slot_at}
 use Rattle.bilateral_match.proofs.MemberScanLemmas.{entered-sum, first-free, first-within, found-best, open-sum, slot-free}
 use Rattle.bilateral_match.proofs.choosing.best_knowing.Goals as goal
 

@@ -1,7 +1,7 @@
 use Rattle.std.proofs.Common.{◌<◌, ◌∙◌, All, List, ℕ, ap, get_or, length, refl, sym, subst, arith}
 use Rattle.ad_tree.specs.Ad.{ad_frames}
 use Rattle.ad_store.specs.Store.{stock_of}
-use Rattle.bilateral_match.specs.Pool.{pool_of}
+use Rattle.dock_match.specs.Pool.{pool_of}
 use Rattle.bilateral_match.specs.Members.{earlier}
 use Rattle.bilateral_match.specs.Scan.{attributes_for, evaluations_for, member_above, member_at}
 use Rattle.bilateral_match.proofs.BarLemmas.{earlier-above}
@@ -42,6 +42,7 @@ loop-place-preserved g c =
           c.loop-place.place-index c.args.entry.now c.loop-place.entry c.next_at.new.entry c.loop-place.invariant.entries c.loop-place-test.true c.next_at.ensures.entries;
       ratio = λ small ads holders. omega (arith, c.loop-place.invariant.ratio small ads holders, c.next_at.ensures.ratio small ads holders);
       looks = omega (arith, c.loop-place.invariant.looks, c.next_at.ensures.looks);
+      saved = omega (arith, c.loop-place.invariant.saved, c.next_at.ensures.saved);
       ranks = c.next_at.ensures.ranks;
     }
 

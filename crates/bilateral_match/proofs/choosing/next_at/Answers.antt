@@ -1,8 +1,8 @@
 use Rattle.std.proofs.Common.{ap, sym, ◌∙◌}
 use Rattle.ad_tree.specs.Ad.{ad_frames}
 use Rattle.ad_store.specs.Store.{stock_of}
+use Rattle.dock_match.specs.Pool.{pool_of}
 use Rattle.bilateral_match.specs.Known.{is_known_below}
-use Rattle.bilateral_match.specs.Pool.{pool_of}
 use Rattle.bilateral_match.proofs.KnownLemmas.{below-known}
 use Rattle.bilateral_match.proofs.choosing.next_at.Goals as goal
 

@@ -7,14 +7,16 @@ use Rattle.ad_tree.specs.Ad.{ad_frames}
 use Rattle.ad_store.specs.Holdings.{holding_of}
 use Rattle.ad_store.specs.Store.{stock_of}
 use Rattle.eval_scope.specs.World.{attribute_count}
+use Rattle.dock_match.specs.declared.preemption.Preemption.{Preemption}
+use Rattle.dock_match.specs.Pool.{hold_of, holder_world, pool_of}
+use Rattle.dock_match.specs.Preemption.{won_from}
+use Rattle.dock_match.proofs.PreemptionLemmas.{holder-stands, holder-stored}
+use Rattle.dock_match.proofs.SmallLemmas.{found-small, holder-small}
 use Rattle.bilateral_match.specs.declared.member.Member.{Member}
-use Rattle.bilateral_match.specs.declared.member.Preemption.{Preemption}
-use Rattle.bilateral_match.specs.Pool.{hold_of, holder_world, pool_of}
-use Rattle.bilateral_match.specs.Scan.{member_above, ranks_of_dock, where_won, won_from}
+use Rattle.bilateral_match.specs.Scan.{member_above, ranks_of_dock, where_won}
 use Rattle.bilateral_match.proofs.BarLemmas.{none-above, ranks-there, won-above}
 use Rattle.bilateral_match.proofs.KnownLemmas.{known-is}
-use Rattle.bilateral_match.proofs.MemberWeighLemmas.{are-ranks, attributes-in-all, attributes-of-dock, five-in-all, four-of-five, holder-stands, holder-stored, none-dead, none-offered, won-by, won-or-lost}
-use Rattle.bilateral_match.proofs.SmallLemmas.{found-small, holder-small}
+use Rattle.bilateral_match.proofs.MemberWeighLemmas.{are-ranks, attributes-in-all, attributes-of-dock, five-in-all, four-of-five, none-dead, none-offered, won-by, won-or-lost}
 use Rattle.bilateral_match.proofs.members.member_at.Goals as goal
 
 pub returns-then-offered-clause-member : goal.returns-then-offered-clause-member

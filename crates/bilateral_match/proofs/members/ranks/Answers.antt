@@ -4,12 +4,12 @@ use Rattle.conjunct_plan.specs.Decided.{is_dock_decided}
 use Rattle.conjunct_plan.specs.Tests.{labels_of}
 use Rattle.eval_scope.specs.Shown.{world_of}
 use Rattle.eval_scope.specs.World.{PlainWorld, attribute_count}
-use Rattle.bilateral_match.specs.Docks.{pair_world}
+use Rattle.dock_match.specs.Docks.{pair_world}
+use Rattle.dock_match.specs.Sides.{open_sides}
+use Rattle.dock_match.proofs.MetLemmas.{none-undecided, some-undecided}
 use Rattle.bilateral_match.specs.Scan.{ranks_above}
-use Rattle.bilateral_match.specs.Sides.{open_sides}
 use Rattle.bilateral_match.proofs.MemberWeighLemmas.{ranks-decided}
-use Rattle.bilateral_match.proofs.MetLemmas.{most-left, none-undecided, some-undecided}
-use Rattle.bilateral_match.proofs.WeighLemmas.{world-is}
+use Rattle.bilateral_match.proofs.WeighLemmas.{most-left, world-is}
 use Rattle.bilateral_match.proofs.members.ranks.Goals as goal
 
 pub returns-in_default-clause-ranks : goal.returns-in_default-clause-ranks

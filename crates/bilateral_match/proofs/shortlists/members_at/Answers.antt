@@ -1,7 +1,7 @@
 use Rattle.std.proofs.Common.{◌<◌, ◌∙◌, All, List, ℕ, get_or, length, sym, subst, arith}
 use Rattle.ad_tree.specs.Ad.{ad_frames}
 use Rattle.ad_store.specs.Store.{stock_of}
-use Rattle.bilateral_match.specs.Pool.{pool_of}
+use Rattle.dock_match.specs.Pool.{pool_of}
 use Rattle.bilateral_match.specs.Scan.{attributes_for, evaluations_for, member_at}
 use Rattle.bilateral_match.proofs.BarLemmas.{no-bar}
 use Rattle.bilateral_match.proofs.LoopLemmas.{ends, finds-all, finds-next, grows, stays}

@@ -3,10 +3,10 @@ use Rattle.std.specs.List.{filter_map}
 use Rattle.ad_tree.specs.Ad.{ad_frames}
 use Rattle.ad_tree.specs.Small.{IsSmall}
 use Rattle.ad_store.specs.Store.{stock_of}
+use Rattle.dock_match.specs.Pool.{pool_of}
+use Rattle.dock_match.specs.Small.{AreSmallAds, AreSmallHolders}
 use Rattle.bilateral_match.specs.Known.{AreRanks, rank_expr}
-use Rattle.bilateral_match.specs.Pool.{pool_of}
 use Rattle.bilateral_match.specs.Scan.{attributes_for, evaluations_for, member_at}
-use Rattle.bilateral_match.specs.Small.{AreSmallAds, AreSmallHolders}
 use Rattle.bilateral_match.proofs.shortlists.members_at.Given as goal
 
 abbrev pub invariant-loop-place : goal.invariant-loop-place

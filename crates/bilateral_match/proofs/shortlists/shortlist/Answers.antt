@@ -3,8 +3,8 @@ use Rattle.std.proofs.lemmas.Result.{IfOk-weaker}
 use Rattle.std.specs.List.Sorted.{IsPermutation}
 use Rattle.ad_tree.specs.Ad.{ad_frames}
 use Rattle.ad_store.specs.Store.{stock_of}
+use Rattle.dock_match.specs.Pool.{pool_of}
 use Rattle.bilateral_match.specs.declared.member.Member.{Member}
-use Rattle.bilateral_match.specs.Pool.{pool_of}
 use Rattle.bilateral_match.specs.Shortlists.{AreInOrder, IsShortlist}
 use Rattle.bilateral_match.proofs.MemberScanLemmas.{entered-sum, open-sum}
 use Rattle.bilateral_match.proofs.ShortlistLemmas.{found-within, shortlisted}

@@ -1,8 +1,8 @@
 use Rattle.std.proofs.Common.{◌<◌, All, List, ap, length, map, subst, sym, ◌∙◌}
 use Rattle.std.proofs.lemmas.List.Sorted.{All-permutation}
 use Rattle.ad_store.specs.Store.{stock_of}
+use Rattle.dock_match.specs.Pool.{slot_at}
 use Rattle.bilateral_match.specs.declared.member.Member.{Member}
-use Rattle.bilateral_match.specs.Pool.{slot_at}
 use Rattle.bilateral_match.proofs.shortlists.slots_in_order.Goals as goal
 
 pub slots_of-requires : goal.slots_of-requires

@@ -1,8 +1,8 @@
 use Rattle.std.proofs.Common.{Contains, All, subst, sym}
 use Rattle.std.proofs.lemmas.List.Elements.{All-push}
 use Rattle.ad_store.specs.Store.{stock_of}
+use Rattle.dock_match.specs.Pool.{slot_at}
 use Rattle.bilateral_match.specs.declared.member.Member.{Member}
-use Rattle.bilateral_match.specs.Pool.{slot_at}
 use Rattle.bilateral_match.proofs.ShortlistLemmas.{slots-more}
 use Rattle.bilateral_match.proofs.shortlists.slots_of.Goals as goal
 

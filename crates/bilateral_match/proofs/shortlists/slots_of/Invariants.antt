@@ -1,6 +1,6 @@
 use Rattle.std.proofs.Common.{◌≡◌, All, Contains, map, take}
 use Rattle.ad_store.specs.Store.{stock_of}
-use Rattle.bilateral_match.specs.Pool.{slot_at}
+use Rattle.dock_match.specs.Pool.{slot_at}
 use Rattle.bilateral_match.proofs.shortlists.slots_of.Given as goal
 
 abbrev pub invariant-loop-member : goal.invariant-loop-member

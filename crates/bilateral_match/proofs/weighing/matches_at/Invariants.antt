@@ -3,8 +3,8 @@ use Rattle.std.specs.List.{filter_map}
 use Rattle.ad_tree.specs.Ad.{ad_frames}
 use Rattle.ad_tree.specs.Small.{IsSmall}
 use Rattle.ad_store.specs.Store.{stock_of}
+use Rattle.dock_match.specs.Small.{AreSmallAds}
 use Rattle.bilateral_match.specs.Scan.{attributes_at, evaluations_at, match_at}
-use Rattle.bilateral_match.specs.Small.{AreSmallAds}
 use Rattle.bilateral_match.proofs.weighing.matches_at.Given as goal
 
 abbrev pub invariant-loop-place : goal.invariant-loop-place

@@ -3,10 +3,10 @@ use Rattle.ad_tree.specs.Ad.{ad_frames}
 use Rattle.conjunct_plan.specs.Tests.{labels_of}
 use Rattle.eval_scope.specs.Shown.{world_of}
 use Rattle.eval_scope.specs.World.{PlainWorld}
-use Rattle.bilateral_match.specs.Docks.{ranked_in}
-use Rattle.bilateral_match.specs.Sides.{open_sides}
-use Rattle.bilateral_match.proofs.MetLemmas.{none-undecided, some-undecided}
-use Rattle.bilateral_match.proofs.SmallLemmas.{pair-small}
+use Rattle.dock_match.specs.Docks.{ranked_in}
+use Rattle.dock_match.specs.Sides.{open_sides}
+use Rattle.dock_match.proofs.MetLemmas.{none-undecided, some-undecided}
+use Rattle.dock_match.proofs.SmallLemmas.{pair-small}
 use Rattle.bilateral_match.proofs.WeighLemmas.{ranked-decided, three-evaluations, three-worlds, world-is}
 use Rattle.bilateral_match.proofs.weighing.ranked.Goals as goal
 

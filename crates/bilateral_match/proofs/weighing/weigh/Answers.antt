@@ -4,8 +4,8 @@ use Rattle.std.specs.Int.{w128}
 use mir.Val.{SFits, of_z, to_z}
 use Rattle.ad_tree.specs.Ad.{ad_frames}
 use Rattle.ad_store.specs.Store.{stock_of}
+use Rattle.dock_match.proofs.SmallLemmas.{found-small}
 use Rattle.bilateral_match.specs.Counts.{attributes_most, evaluations_most}
-use Rattle.bilateral_match.proofs.SmallLemmas.{found-small}
 use Rattle.bilateral_match.proofs.WeighLemmas.{found-none, found-some, number-there}
 use Rattle.bilateral_match.proofs.weighing.weigh.Goals as goal
 

@@ -2,7 +2,7 @@ use Rattle.std.proofs.Common.{◌≡◌, ◌∷◌, ◌++◌, [], ℕ, List, get
 use Rattle.std.proofs.lemmas.List.{map_more}
 use Rattle.std.proofs.lemmas.Option.{get_or_from_slice_get}
 use Rattle.ad_store.specs.Store.{stock_of}
-use Rattle.bilateral_match.specs.Pool.{slot_at}
+use Rattle.dock_match.specs.Pool.{slot_at}
 use Rattle.gang_ports.proofs.gangs.slots_at.Goals as goal
 
 pub loop-place-preserved : goal.loop-place-preserved

@@ -1,6 +1,6 @@
 use Rattle.std.proofs.Common.{◌≡◌, map, take}
 use Rattle.ad_store.specs.Store.{stock_of}
-use Rattle.bilateral_match.specs.Pool.{slot_at}
+use Rattle.dock_match.specs.Pool.{slot_at}
 use Rattle.gang_ports.proofs.gangs.slots_at.Given as goal
 
 abbrev pub invariant-loop-place : goal.invariant-loop-place

@@ -2,7 +2,7 @@ use Rattle.std.proofs.Common.{◌≡◌, true, filter, ap, ◌∙◌, arith}
 use Rattle.std.proofs.lemmas.List.{take_all}
 use Rattle.ad_tree.specs.Ad.{ad_frames}
 use Rattle.ad_store.specs.Store.{stock_of}
-use Rattle.bilateral_match.specs.Pool.{Pool, pool_of}
+use Rattle.dock_match.specs.Pool.{Pool, pool_of}
 use Rattle.gang_ports.specs.declared.weighing.Resource.{Resource}
 use Rattle.gang_ports.specs.Search.{HasSides, is_unknown}
 use Rattle.gang_ports.proofs.ReadingLemmas.{ads-next, asked-next, asked-places, found-hold, is_asked}

@@ -1,7 +1,7 @@
 use Rattle.std.proofs.Common.{◌≡◌, ◌≤◌, ◌+◌, ◌&&◌, true, All, filter, map, take}
 use Rattle.ad_tree.specs.Ad.{ad_frames}
 use Rattle.ad_store.specs.Store.{stock_of}
-use Rattle.bilateral_match.specs.Pool.{Pool, pool_of}
+use Rattle.dock_match.specs.Pool.{Pool, pool_of}
 use Rattle.gang_ports.specs.declared.weighing.Resource.{Resource}
 use Rattle.gang_ports.specs.Gangs.{ad_at, is_free, is_open}
 use Rattle.gang_ports.specs.Search.{HasSides, is_unknown}

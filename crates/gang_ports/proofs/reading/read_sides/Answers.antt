@@ -4,8 +4,8 @@ use Rattle.ad_tree.specs.Ad.{ad_frames}
 use Rattle.ad_tree.specs.declared.request.Port.{Port}
 use Rattle.ad_store.specs.Store.{stock_of}
 use Rattle.conjunct_plan.specs.Tests.{labels_of, tests_of}
-use Rattle.bilateral_match.specs.Counts.{least_left}
-use Rattle.bilateral_match.specs.Pool.{Pool, pool_of}
+use Rattle.ad_candidates.specs.Counts.{least_left}
+use Rattle.dock_match.specs.Pool.{Pool, pool_of}
 use Rattle.gang_ports.specs.declared.weighing.Side.{Side}
 use Rattle.gang_ports.specs.FreePorts.{is_free_port}
 use Rattle.gang_ports.proofs.ListLemmas.{count-next, count-within, length-more}

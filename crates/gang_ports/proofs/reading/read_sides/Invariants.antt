@@ -2,8 +2,8 @@ use Rattle.std.proofs.Common.{◌≡◌, ◌≤◌, ◌+◌, length, sum_by, tak
 use Rattle.ad_tree.specs.Ad.{ad_frames}
 use Rattle.ad_store.specs.Store.{stock_of}
 use Rattle.conjunct_plan.specs.Tests.{labels_of, tests_of}
-use Rattle.bilateral_match.specs.Counts.{least_left}
-use Rattle.bilateral_match.specs.Pool.{Pool, pool_of}
+use Rattle.ad_candidates.specs.Counts.{least_left}
+use Rattle.dock_match.specs.Pool.{Pool, pool_of}
 use Rattle.gang_ports.specs.Search.{AreSides, HaveSides}
 use Rattle.gang_ports.proofs.reading.read_sides.Given as goal
 

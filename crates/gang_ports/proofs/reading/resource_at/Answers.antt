@@ -1,7 +1,7 @@
 use Rattle.std.proofs.Common.{sym, ◌∙◌}
 use Rattle.ad_tree.specs.Ad.{ad_frames}
 use Rattle.ad_store.specs.Store.{stock_of}
-use Rattle.bilateral_match.specs.Pool.{Pool, pool_of}
+use Rattle.dock_match.specs.Pool.{Pool, pool_of}
 use Rattle.gang_ports.proofs.ReadingLemmas.{none-asked, some-asked}
 use Rattle.gang_ports.proofs.reading.resource_at.Goals as goal
 

@@ -1,17 +1,18 @@
-use Rattle.std.proofs.Common.{◌≡◌, ◌<◌, ◌≤◌, ◌∷◌, ◌+◌, ◌++◌, [], ℕ, suc, List, Bool, true, false, IsSorted, get_or, length, arith, ap, refl, rules, sym, ◌∙◌, subst}
+use Rattle.std.proofs.Common.{◌≡◌, ◌<◌, ◌≤◌, ◌∷◌, ◌+◌, ◌++◌, [], ℕ, suc, List, take, true, IsSorted, get_or, length, arith, ap, refl, rules, sym, ◌∙◌, subst}
 use Rattle.std.specs.List.Sorted.{IsPermutation}
 use Rattle.ad_tree.specs.Ad.{ad_frames}
 use Rattle.eval_scope.specs.Shown.{world_of}
 use Rattle.eval_scope.specs.World.{PlainWorld}
 use Rattle.ad_eval.specs.Small.{AreSmall}
+use Rattle.gang_ports.specs.declared.searching.Ending.{Ending}
 use Rattle.gang_ports.specs.declared.weighing.Candidate.{Candidate}
 use Rattle.gang_ports.specs.declared.weighing.Side.{Side}
 use Rattle.gang_ports.specs.Gangs.{attributes_behind, evaluations_behind}
-use Rattle.gang_ports.specs.Search.{AreSides, HasSidesIn, Outcome, candidate_order, choice_in, evaluations_anew, evaluations_once, sides_ahead, weighed}
+use Rattle.gang_ports.specs.Search.{AreSides, HasSidesIn, Outcome, candidate_order, choice_in, evaluations_anew, evaluations_once, is_spent, sides_ahead, weighed}
 use Rattle.gang_ports.proofs.ListLemmas.{length-more}
 use Rattle.gang_ports.proofs.OpenLemmas.{behind-have, deeper-have, first-has, rest-have, whole-have}
 use Rattle.gang_ports.proofs.WeighLemmas.{kept-hold}
-use Rattle.gang_ports.proofs.SearchLemmas.{ahead-cons, first-attributes, first-cut, first-evaluations, first-once, first-spent, first-whole, once-deeper, once-next, once-place, outcome-whole, popped, ports-left, pushed, rest-fewer, rest_of, some-first, side-after, tries-all, turn-attributes, turn-behind, turn-deeper, turn-evaluations, turn-first, turn-found, turn-left, turn-next, turn-none, turn-once, turn-passed, turn-place}
+use Rattle.gang_ports.proofs.SearchLemmas.{ahead-cons, first-attributes, first-cut, first-evaluations, first-once, first-spent, first-whole, not-over, once-deeper, once-next, once-place, outcome-whole, popped, ports-left, pushed, rest-fewer, rest_of, some-first, side-after, tries-all, turn-attributes, turn-behind, turn-deeper, turn-evaluations, turn-first, turn-left, turn-next, turn-none, turn-once, turn-over, turn-passed, turn-place}
 use Rattle.gang_ports.proofs.SmallLemmas.{kept-small, rest-small, turn-small, whole-small}
 use Rattle.gang_ports.proofs.searching.+search.Goals as goal
 
@@ -20,7 +21,7 @@ returns-then-is_empty-clause-outcome g t c = λ pool h.
     let w = world_of c.args.world.now in
     let before = c.args.before.now.items in
     let none : length c.args.sides.now ≡ 0 = search rules in
-    subst (λ (n : ℕ). Outcome (choice_in pool w) n before before true) (sym none) (outcome-whole (choice_in pool w) before before refl)
+    subst (λ (n : ℕ). Outcome (choice_in pool w) n before before Ending.Found) (sym none) (outcome-whole (choice_in pool w) before before refl)
 
 pub returns-then-is_empty-clause-sides : goal.returns-then-is_empty-clause-sides
 returns-then-is_empty-clause-sides g t c = λ pool h. h.sides
@@ -175,8 +176,8 @@ search-requires g t c κs within =
     let fewer : suc (length c.loop-candidate.others) ≡ length c.args.sides.now = rest-fewer c.args.sides.now c.candidates.new.side c.loop-candidate.others some c.loop-candidate.invariant.long in
     (omega (arith, c.decreases, fewer), (within.0, (within.1, (omega (arith, c.requires.room, fewer, long), deeper-have (world_of c.args.world.now) (world_of c.with-deeper.result) (ad_frames c.candidate-item.result.ad.now) c.with-deeper.ensures c.loop-candidate.others c.loop-candidate.invariant.tests))))
 
-pub returns-in_err-search-clause-evaluations : goal.returns-in_err-search-clause-evaluations
-returns-in_err-search-clause-evaluations g t c = λ pool h.
+pub returns-in_err-ending-clause-evaluations : goal.returns-in_err-ending-clause-evaluations
+returns-in_err-ending-clause-evaluations g t c = λ pool h.
     let w = world_of c.args.world.now in
     let before = c.args.before.now.items in
     let sides = c.args.sides.now in
@@ -202,8 +203,8 @@ returns-in_err-search-clause-evaluations g t c = λ pool h.
     turn-deeper pool w before side sides others cut h tries all (evaluations_behind pool w.request w.ports) c.args.tops.now c.candidates.new.tops (first-evaluations pool w before side sides others cut h b same c.args.tops.now c.candidates.new.tops c.candidates.ensures.evaluations) i c.loop-candidate.tops (c.loop-candidate.invariant.evaluations pool h)
     here within at c.search.new.tops (turn-evaluations pool w before side sides others cut h tries all left long are i here within at deeper docked longer is c.loop-candidate.tops c.search.new.tops (c.search.ensures.evaluations pool (turn-behind pool w before side sides others cut h tries all left long are i here within at deeper docked longer is)))
 
-pub returns-in_err-search-clause-entries : goal.returns-in_err-search-clause-entries
-returns-in_err-search-clause-entries g t c = λ pool h.
+pub returns-in_err-ending-clause-entries : goal.returns-in_err-ending-clause-entries
+returns-in_err-ending-clause-entries g t c = λ pool h.
     let w = world_of c.args.world.now in
     let before = c.args.before.now.items in
     let sides = c.args.sides.now in
@@ -229,8 +230,8 @@ returns-in_err-search-clause-entries g t c = λ pool h.
     turn-deeper pool w before side sides others cut h tries all (attributes_behind pool w.request w.ports) c.args.entry.now c.candidates.new.entry (first-attributes pool w before side sides others cut h b same c.args.entry.now c.candidates.new.entry c.candidates.ensures.entries) i c.loop-candidate.entry (c.loop-candidate.invariant.entries pool h)
     here within at c.search.new.entry (turn-attributes pool w before side sides others cut h tries all left long are i here within at deeper docked longer is c.loop-candidate.entry c.search.new.entry (c.search.ensures.entries pool (turn-behind pool w before side sides others cut h tries all left long are i here within at deeper docked longer is)))
 
-pub returns-in_err-search-clause-once : goal.returns-in_err-search-clause-once
-returns-in_err-search-clause-once g t c = λ pool h.
+pub returns-in_err-ending-clause-once : goal.returns-in_err-ending-clause-once
+returns-in_err-ending-clause-once g t c = λ pool h.
     let w = world_of c.args.world.now in
     let before = c.args.before.now.items in
     let sides = c.args.sides.now in
@@ -255,15 +256,15 @@ returns-in_err-search-clause-once g t c = λ pool h.
     let is : longer ≡ before ++ here.place ∷ [] = pushed longer c.loop-candidate.before.items before here.place c.in_ok-push.ensures.items (c.loop-candidate.invariant.same pool h) in
     omega (arith, once-deeper pool w before side sides others cut h tries all new c.args.tops.now c.candidates.new.tops (first-once pool w before side sides others cut h b same c.args.tops.now c.candidates.new.tops new c.candidates.ensures.free c.in_ok-tries.ensures.kept c.candidates.ensures.evaluations) left i c.loop-candidate.tops (c.loop-candidate.invariant.once pool h) here within at c.search.new.tops (turn-once pool w before side sides others cut h tries all left long are i here within at deeper docked longer is c.loop-candidate.tops c.search.new.tops (c.search.ensures.once pool (turn-behind pool w before side sides others cut h tries all left long are i here within at deeper docked longer is))))
 
-pub returns-in_err-search-clause-ratio : goal.returns-in_err-search-clause-ratio
-returns-in_err-search-clause-ratio g t c small are =
+pub returns-in_err-ending-clause-ratio : goal.returns-in_err-ending-clause-ratio
+returns-in_err-ending-clause-ratio g t c small are =
     let some : 0 < length c.args.sides.now = some-first c.args.sides.now c.is_empty.result c.is_empty.ensures c.if-is_empty.false in
     let side = get_or c.args.sides.now 0 c.index-sides-0.result in
     let deeper : AreSmall (world_of c.with-deeper.result) = turn-small (world_of c.args.world.now) c.as_slice.result.now side c.in_ok-tries.tries.items c.deref-candidate-items.result.now c.deref-candidate-items.ensures.value c.in_ok-tries.ensures.all c.loop-candidate.candidate-index c.candidate-item.result c.loop-candidate-test.true c.candidate-item.is (world_of c.with-deeper.result) c.with-deeper.ensures small (are 0 c.index-sides-0.result some) in
     omega (arith, c.candidates.ensures.ratio small (are 0 c.index-sides-0.result some), c.loop-candidate.invariant.ratio small are, c.search.ensures.ratio deeper (c.loop-candidate.invariant.small are))
 
-pub returns-then-branch-clause-evaluations : goal.returns-then-branch-clause-evaluations
-returns-then-branch-clause-evaluations g t c = λ pool h.
+pub returns-then-is_over-clause-evaluations : goal.returns-then-is_over-clause-evaluations
+returns-then-is_over-clause-evaluations g t c = λ pool h.
     let w = world_of c.args.world.now in
     let before = c.args.before.now.items in
     let sides = c.args.sides.now in
@@ -289,8 +290,8 @@ returns-then-branch-clause-evaluations g t c = λ pool h.
     turn-deeper pool w before side sides others cut h tries all (evaluations_behind pool w.request w.ports) c.args.tops.now c.candidates.new.tops (first-evaluations pool w before side sides others cut h b same c.args.tops.now c.candidates.new.tops c.candidates.ensures.evaluations) i c.loop-candidate.tops (c.loop-candidate.invariant.evaluations pool h)
     here within at c.search.new.tops (turn-evaluations pool w before side sides others cut h tries all left long are i here within at deeper docked longer is c.loop-candidate.tops c.search.new.tops (c.search.ensures.evaluations pool (turn-behind pool w before side sides others cut h tries all left long are i here within at deeper docked longer is)))
 
-pub returns-then-branch-clause-entries : goal.returns-then-branch-clause-entries
-returns-then-branch-clause-entries g t c = λ pool h.
+pub returns-then-is_over-clause-entries : goal.returns-then-is_over-clause-entries
+returns-then-is_over-clause-entries g t c = λ pool h.
     let w = world_of c.args.world.now in
     let before = c.args.before.now.items in
     let sides = c.args.sides.now in
@@ -316,8 +317,8 @@ returns-then-branch-clause-entries g t c = λ pool h.
     turn-deeper pool w before side sides others cut h tries all (attributes_behind pool w.request w.ports) c.args.entry.now c.candidates.new.entry (first-attributes pool w before side sides others cut h b same c.args.entry.now c.candidates.new.entry c.candidates.ensures.entries) i c.loop-candidate.entry (c.loop-candidate.invariant.entries pool h)
     here within at c.search.new.entry (turn-attributes pool w before side sides others cut h tries all left long are i here within at deeper docked longer is c.loop-candidate.entry c.search.new.entry (c.search.ensures.entries pool (turn-behind pool w before side sides others cut h tries all left long are i here within at deeper docked longer is)))
 
-pub returns-then-branch-clause-once : goal.returns-then-branch-clause-once
-returns-then-branch-clause-once g t c = λ pool h.
+pub returns-then-is_over-clause-once : goal.returns-then-is_over-clause-once
+returns-then-is_over-clause-once g t c = λ pool h.
     let w = world_of c.args.world.now in
     let before = c.args.before.now.items in
     let sides = c.args.sides.now in
@@ -342,8 +343,8 @@ returns-then-branch-clause-once g t c = λ pool h.
     let is : longer ≡ before ++ here.place ∷ [] = pushed longer c.loop-candidate.before.items before here.place c.in_ok-push.ensures.items (c.loop-candidate.invariant.same pool h) in
     omega (arith, once-deeper pool w before side sides others cut h tries all new c.args.tops.now c.candidates.new.tops (first-once pool w before side sides others cut h b same c.args.tops.now c.candidates.new.tops new c.candidates.ensures.free c.in_ok-tries.ensures.kept c.candidates.ensures.evaluations) left i c.loop-candidate.tops (c.loop-candidate.invariant.once pool h) here within at c.search.new.tops (turn-once pool w before side sides others cut h tries all left long are i here within at deeper docked longer is c.loop-candidate.tops c.search.new.tops (c.search.ensures.once pool (turn-behind pool w before side sides others cut h tries all left long are i here within at deeper docked longer is))))
 
-pub returns-then-branch-clause-outcome : goal.returns-then-branch-clause-outcome
-returns-then-branch-clause-outcome g t c = λ pool h.
+pub returns-then-is_over-clause-outcome : goal.returns-then-is_over-clause-outcome
+returns-then-is_over-clause-outcome g t c = λ pool h.
     let w = world_of c.args.world.now in
     let before = c.args.before.now.items in
     let sides = c.args.sides.now in
@@ -367,12 +368,11 @@ returns-then-branch-clause-outcome g t c = λ pool h.
     let longer = c.push.new.self.items in
     let is : longer ≡ before ++ here.place ∷ [] = pushed longer c.loop-candidate.before.items before here.place c.in_ok-push.ensures.items (c.loop-candidate.invariant.same pool h) in
     let ordered : IsSorted candidate_order tries = subst (λ (ts : List Candidate). IsSorted candidate_order ts) (sym c.deref-candidate-items.ensures.value) c.in_ok-tries.ensures.ordered in
-    let found : Outcome (choice_in pool deeper) (length left) longer c.search.new.before.items true =
-    subst (λ (b : Bool). Outcome (choice_in pool deeper) (length left) longer c.search.new.before.items b) c.if-branch.true (c.in_ok-search.ensures.outcome pool (turn-behind pool w before side sides others cut h tries all left long are i here within at deeper docked longer is)) in
-    turn-found pool w before side sides others cut h tries all left long are i here within at deeper docked longer is ordered (c.loop-candidate.invariant.passed pool h) c.search.new.before.items found
+    turn-over pool w before side sides others cut h tries all left long are i here within at deeper docked longer is ordered (c.loop-candidate.invariant.passed pool h) c.search.new.before.items c.len-depth.result (c.len-depth.ensures ∙ c.args.before.now.ok.0) c.in_ok-ending.ending (sym c.is_over.ensures ∙ c.if-is_over.true)
+    (c.in_ok-ending.ensures.outcome pool (turn-behind pool w before side sides others cut h tries all left long are i here within at deeper docked longer is))
 
-pub returns-then-branch-clause-sides : goal.returns-then-branch-clause-sides
-returns-then-branch-clause-sides g t c = λ pool h.
+pub returns-then-is_over-clause-sides : goal.returns-then-is_over-clause-sides
+returns-then-is_over-clause-sides g t c = λ pool h.
     let w = world_of c.args.world.now in
     let before = c.args.before.now.items in
     let sides = c.args.sides.now in
@@ -395,11 +395,11 @@ returns-then-branch-clause-sides g t c = λ pool h.
     let docked = c.with-deeper.ensures in
     let longer = c.push.new.self.items in
     let is : longer ≡ before ++ here.place ∷ [] = pushed longer c.loop-candidate.before.items before here.place c.in_ok-push.ensures.items (c.loop-candidate.invariant.same pool h) in
-    let whole : AreSides pool w.request w.ports (length before) (new ∷ c.search.new.sides) = (side-after pool w before side sides others cut h b same new c.candidates.ensures.free c.in_ok-tries.ensures.kept, turn-left pool w before side sides others cut h tries all left long are i here within at deeper docked longer is c.search.new.sides (c.in_ok-search.ensures.sides pool (turn-behind pool w before side sides others cut h tries all left long are i here within at deeper docked longer is))) in
+    let whole : AreSides pool w.request w.ports (length before) (new ∷ c.search.new.sides) = (side-after pool w before side sides others cut h b same new c.candidates.ensures.free c.in_ok-tries.ensures.kept, turn-left pool w before side sides others cut h tries all left long are i here within at deeper docked longer is c.search.new.sides (c.in_ok-ending.ensures.sides pool (turn-behind pool w before side sides others cut h tries all left long are i here within at deeper docked longer is))) in
     subst (λ (xs : List Side). AreSides pool w.request w.ports (length before) xs) (sym (first-whole sides new c.search.new.sides (some-first c.args.sides.now c.is_empty.result c.is_empty.ensures c.if-is_empty.false) (c.search.auto.sides ∙ long))) whole
 
-pub returns-then-branch-clause-ahead : goal.returns-then-branch-clause-ahead
-returns-then-branch-clause-ahead g t c = λ pool h.
+pub returns-then-is_over-clause-ahead : goal.returns-then-is_over-clause-ahead
+returns-then-is_over-clause-ahead g t c = λ pool h.
     let w = world_of c.args.world.now in
     let before = c.args.before.now.items in
     let sides = c.args.sides.now in
@@ -422,28 +422,28 @@ returns-then-branch-clause-ahead g t c = λ pool h.
     let docked = c.with-deeper.ensures in
     let longer = c.push.new.self.items in
     let is : longer ≡ before ++ here.place ∷ [] = pushed longer c.loop-candidate.before.items before here.place c.in_ok-push.ensures.items (c.loop-candidate.invariant.same pool h) in
-    let whole : c.search.new.tops + sides_ahead (new ∷ c.search.new.sides) ≤ c.args.tops.now + evaluations_once pool w before sides = omega (arith, once-deeper pool w before side sides others cut h tries all new c.args.tops.now c.candidates.new.tops (first-once pool w before side sides others cut h b same c.args.tops.now c.candidates.new.tops new c.candidates.ensures.free c.in_ok-tries.ensures.kept c.candidates.ensures.evaluations) left i c.loop-candidate.tops (c.loop-candidate.invariant.once pool h) here within at (c.search.new.tops + sides_ahead c.search.new.sides) (turn-once pool w before side sides others cut h tries all left long are i here within at deeper docked longer is c.loop-candidate.tops (c.search.new.tops + sides_ahead c.search.new.sides) (c.in_ok-search.ensures.ahead pool (turn-behind pool w before side sides others cut h tries all left long are i here within at deeper docked longer is))), ahead-cons new c.search.new.sides) in
+    let whole : c.search.new.tops + sides_ahead (new ∷ c.search.new.sides) ≤ c.args.tops.now + evaluations_once pool w before sides = omega (arith, once-deeper pool w before side sides others cut h tries all new c.args.tops.now c.candidates.new.tops (first-once pool w before side sides others cut h b same c.args.tops.now c.candidates.new.tops new c.candidates.ensures.free c.in_ok-tries.ensures.kept c.candidates.ensures.evaluations) left i c.loop-candidate.tops (c.loop-candidate.invariant.once pool h) here within at (c.search.new.tops + sides_ahead c.search.new.sides) (turn-once pool w before side sides others cut h tries all left long are i here within at deeper docked longer is c.loop-candidate.tops (c.search.new.tops + sides_ahead c.search.new.sides) (c.in_ok-ending.ensures.ahead pool (turn-behind pool w before side sides others cut h tries all left long are i here within at deeper docked longer is))), ahead-cons new c.search.new.sides) in
     subst (λ (xs : List Side). c.search.new.tops + sides_ahead xs ≤ c.args.tops.now + evaluations_once pool w before sides) (sym (first-whole sides new c.search.new.sides (some-first c.args.sides.now c.is_empty.result c.is_empty.ensures c.if-is_empty.false) (c.search.auto.sides ∙ long))) whole
 
-pub returns-then-branch-clause-small : goal.returns-then-branch-clause-small
-returns-then-branch-clause-small g t c are =
+pub returns-then-is_over-clause-small : goal.returns-then-is_over-clause-small
+returns-then-is_over-clause-small g t c are =
     let some : 0 < length c.args.sides.now = some-first c.args.sides.now c.is_empty.result c.is_empty.ensures c.if-is_empty.false in
     whole-small c.args.sides.now c.candidates.new.side c.search.new.sides some (c.search.auto.sides ∙ c.loop-candidate.invariant.long)
     (kept-small (world_of c.args.world.now) c.as_slice.result.now (get_or c.args.sides.now 0 c.index-sides-0.result) c.candidates.new.side c.in_ok-tries.ensures.kept (are 0 c.index-sides-0.result some))
-    (c.in_ok-search.ensures.small (c.loop-candidate.invariant.small are))
+    (c.in_ok-ending.ensures.small (c.loop-candidate.invariant.small are))
 
-pub returns-then-branch-clause-tests : goal.returns-then-branch-clause-tests
-returns-then-branch-clause-tests g t c =
+pub returns-then-is_over-clause-tests : goal.returns-then-is_over-clause-tests
+returns-then-is_over-clause-tests g t c =
     let w = world_of c.args.world.now in
     let sides = c.args.sides.now in
     let some : 0 < length sides = some-first sides c.is_empty.result c.is_empty.ensures c.if-is_empty.false in
     whole-have w.request w.ports (length w.docked) sides c.candidates.new.side some c.search.new.sides (c.search.auto.sides ∙ c.loop-candidate.invariant.long)
     (kept-hold w c.as_slice.result.now (HasSidesIn w) (λ r kept h. h) (get_or sides 0 c.index-sides-0.result) c.candidates.new.side c.in_ok-tries.ensures.kept
     (first-has w.request w.ports (length w.docked) sides c.index-sides-0.result some c.requires.tests))
-    (behind-have w (world_of c.with-deeper.result) (ad_frames c.candidate-item.result.ad.now) c.with-deeper.ensures c.search.new.sides c.in_ok-search.ensures.tests)
+    (behind-have w (world_of c.with-deeper.result) (ad_frames c.candidate-item.result.ad.now) c.with-deeper.ensures c.search.new.sides c.in_ok-ending.ensures.tests)
 
-pub returns-then-branch-clause-ratio : goal.returns-then-branch-clause-ratio
-returns-then-branch-clause-ratio g t c small are =
+pub returns-then-is_over-clause-ratio : goal.returns-then-is_over-clause-ratio
+returns-then-is_over-clause-ratio g t c small are =
     let some : 0 < length c.args.sides.now = some-first c.args.sides.now c.is_empty.result c.is_empty.ensures c.if-is_empty.false in
     let side = get_or c.args.sides.now 0 c.index-sides-0.result in
     let deeper : AreSmall (world_of c.with-deeper.result) = turn-small (world_of c.args.world.now) c.as_slice.result.now side c.in_ok-tries.tries.items c.deref-candidate-items.result.now c.deref-candidate-items.ensures.value c.in_ok-tries.ensures.all c.loop-candidate.candidate-index c.candidate-item.result c.loop-candidate-test.true c.candidate-item.is (world_of c.with-deeper.result) c.with-deeper.ensures small (are 0 c.index-sides-0.result some) in
@@ -476,9 +476,9 @@ loop-candidate-preserved g t c =
           let docked = c.with-deeper.ensures in
           let longer = c.push.new.self.items in
           let is : longer ≡ before ++ here.place ∷ [] = pushed longer c.loop-candidate.before.items before here.place c.in_ok-push.ensures.items (c.loop-candidate.invariant.same pool h) in
-          let found : Outcome (choice_in pool deeper) (length left) longer c.search.new.before.items false =
-          subst (λ (b : Bool). Outcome (choice_in pool deeper) (length left) longer c.search.new.before.items b) c.if-branch.false (c.in_ok-search.ensures.outcome pool (turn-behind pool w before side sides others cut h tries all left long are i here within at deeper docked longer is)) in
-          popped c.search.new.before.items before c.pop.new.self.items here.place c.search.new.before.len (found.0 ∙ is) c.search.new.before.ok.0 c.pop.ensures.rest;
+          let found = not-over (choice_in pool deeper) (length left) longer c.search.new.before.items c.len-depth.result c.in_ok-ending.ending (sym c.is_over.ensures ∙ c.if-is_over.false)
+          (c.in_ok-ending.ensures.outcome pool (turn-behind pool w before side sides others cut h tries all left long are i here within at deeper docked longer is)) in
+          popped c.search.new.before.items longer before found.0.0 c.truncate.new.self.items here.place c.len-depth.result found.0.1 is (c.len-depth.ensures ∙ c.args.before.now.ok.0) c.truncate.ensures.items;
       sides = λ pool h.
           let w = world_of c.args.world.now in
           let before = c.args.before.now.items in
@@ -502,7 +502,7 @@ loop-candidate-preserved g t c =
           let docked = c.with-deeper.ensures in
           let longer = c.push.new.self.items in
           let is : longer ≡ before ++ here.place ∷ [] = pushed longer c.loop-candidate.before.items before here.place c.in_ok-push.ensures.items (c.loop-candidate.invariant.same pool h) in
-          turn-left pool w before side sides others cut h tries all left long are i here within at deeper docked longer is c.search.new.sides (c.in_ok-search.ensures.sides pool (turn-behind pool w before side sides others cut h tries all left long are i here within at deeper docked longer is));
+          turn-left pool w before side sides others cut h tries all left long are i here within at deeper docked longer is c.search.new.sides (c.in_ok-ending.ensures.sides pool (turn-behind pool w before side sides others cut h tries all left long are i here within at deeper docked longer is));
       passed = λ pool h.
           let w = world_of c.args.world.now in
           let before = c.args.before.now.items in
@@ -527,9 +527,9 @@ loop-candidate-preserved g t c =
           let longer = c.push.new.self.items in
           let is : longer ≡ before ++ here.place ∷ [] = pushed longer c.loop-candidate.before.items before here.place c.in_ok-push.ensures.items (c.loop-candidate.invariant.same pool h) in
           let ordered : IsSorted candidate_order tries = subst (λ (ts : List Candidate). IsSorted candidate_order ts) (sym c.deref-candidate-items.ensures.value) c.in_ok-tries.ensures.ordered in
-          let found : Outcome (choice_in pool deeper) (length left) longer c.search.new.before.items false =
-          subst (λ (b : Bool). Outcome (choice_in pool deeper) (length left) longer c.search.new.before.items b) c.if-branch.false (c.in_ok-search.ensures.outcome pool (turn-behind pool w before side sides others cut h tries all left long are i here within at deeper docked longer is)) in
-          turn-passed pool w before side sides others cut h tries all left long are i here within at deeper docked longer is ordered (c.loop-candidate.invariant.passed pool h) c.search.new.before.items found;
+          let found = not-over (choice_in pool deeper) (length left) longer c.search.new.before.items c.len-depth.result c.in_ok-ending.ending (sym c.is_over.ensures ∙ c.if-is_over.false)
+          (c.in_ok-ending.ensures.outcome pool (turn-behind pool w before side sides others cut h tries all left long are i here within at deeper docked longer is)) in
+          turn-passed pool w before side sides others cut h tries all left long are i here within at deeper docked longer is ordered (c.loop-candidate.invariant.passed pool h) found.1;
       evaluations = λ pool h.
           let w = world_of c.args.world.now in
           let before = c.args.before.now.items in
@@ -578,7 +578,7 @@ loop-candidate-preserved g t c =
           let docked = c.with-deeper.ensures in
           let longer = c.push.new.self.items in
           let is : longer ≡ before ++ here.place ∷ [] = pushed longer c.loop-candidate.before.items before here.place c.in_ok-push.ensures.items (c.loop-candidate.invariant.same pool h) in
-          once-next pool w before side sides others cut h tries all new c.args.tops.now c.candidates.new.tops (first-once pool w before side sides others cut h b same c.args.tops.now c.candidates.new.tops new c.candidates.ensures.free c.in_ok-tries.ensures.kept c.candidates.ensures.evaluations) left i c.loop-candidate.tops (c.loop-candidate.invariant.once pool h) here within at (c.search.new.tops + sides_ahead c.search.new.sides) (turn-once pool w before side sides others cut h tries all left long are i here within at deeper docked longer is c.loop-candidate.tops (c.search.new.tops + sides_ahead c.search.new.sides) (c.in_ok-search.ensures.ahead pool (turn-behind pool w before side sides others cut h tries all left long are i here within at deeper docked longer is)));
+          once-next pool w before side sides others cut h tries all new c.args.tops.now c.candidates.new.tops (first-once pool w before side sides others cut h b same c.args.tops.now c.candidates.new.tops new c.candidates.ensures.free c.in_ok-tries.ensures.kept c.candidates.ensures.evaluations) left i c.loop-candidate.tops (c.loop-candidate.invariant.once pool h) here within at (c.search.new.tops + sides_ahead c.search.new.sides) (turn-once pool w before side sides others cut h tries all left long are i here within at deeper docked longer is c.loop-candidate.tops (c.search.new.tops + sides_ahead c.search.new.sides) (c.in_ok-ending.ensures.ahead pool (turn-behind pool w before side sides others cut h tries all left long are i here within at deeper docked longer is)));
       entries = λ pool h.
           let w = world_of c.args.world.now in
           let before = c.args.before.now.items in
@@ -604,8 +604,8 @@ loop-candidate-preserved g t c =
           let is : longer ≡ before ++ here.place ∷ [] = pushed longer c.loop-candidate.before.items before here.place c.in_ok-push.ensures.items (c.loop-candidate.invariant.same pool h) in
           turn-next pool w before side sides others cut h tries all (attributes_behind pool w.request w.ports) c.args.entry.now c.candidates.new.entry (first-attributes pool w before side sides others cut h b same c.args.entry.now c.candidates.new.entry c.candidates.ensures.entries) i c.loop-candidate.entry (c.loop-candidate.invariant.entries pool h)
           here within at c.search.new.entry (turn-attributes pool w before side sides others cut h tries all left long are i here within at deeper docked longer is c.loop-candidate.entry c.search.new.entry (c.search.ensures.entries pool (turn-behind pool w before side sides others cut h tries all left long are i here within at deeper docked longer is)));
-      small = λ are. c.in_ok-search.ensures.small (c.loop-candidate.invariant.small are);
-      tests = behind-have (world_of c.args.world.now) (world_of c.with-deeper.result) (ad_frames c.candidate-item.result.ad.now) c.with-deeper.ensures c.search.new.sides c.in_ok-search.ensures.tests;
+      small = λ are. c.in_ok-ending.ensures.small (c.loop-candidate.invariant.small are);
+      tests = behind-have (world_of c.args.world.now) (world_of c.with-deeper.result) (ad_frames c.candidate-item.result.ad.now) c.with-deeper.ensures c.search.new.sides c.in_ok-ending.ensures.tests;
       ratio = λ small are.
           let some : 0 < length c.args.sides.now = some-first c.args.sides.now c.is_empty.result c.is_empty.ensures c.if-is_empty.false in
           let side = get_or c.args.sides.now 0 c.index-sides-0.result in
@@ -628,7 +628,12 @@ returns-clause-outcome g t c = λ pool h.
     let all : IsPermutation (weighed w before side.resources.items) tries = tries-all pool w before side sides others cut h b same c.in_ok-tries.tries.items tries c.deref-candidate-items.ensures.value c.in_ok-tries.ensures.all in
     let i = c.loop-candidate.candidate-index in
     let left = c.loop-candidate.others in
+    let there : c.as_slice-2.result.now ≡ before = c.as_slice-2.ensures.value ∙ c.loop-candidate.invariant.same pool h in
     turn-none pool w before side sides others cut h tries all i c.loop-candidate-test.false (c.loop-candidate.invariant.passed pool h) c.loop-candidate.before.items (c.loop-candidate.invariant.same pool h)
+    new (side-after pool w before side sides others cut h b same new c.candidates.ensures.free c.in_ok-tries.ensures.kept) c.blamed_places.result
+    (λ low. subst (λ (ps : List ℕ). is_spent (take c.blamed_places.result ps) new ≡ true) there
+    (subst (λ (xs : List Side). is_spent (take c.blamed_places.result c.as_slice-2.result.now) (get_or xs 0 c.index-sides-0-2.result) ≡ true) (first-whole sides new left (some-first sides c.is_empty.result c.is_empty.ensures c.if-is_empty.false) c.loop-candidate.invariant.long)
+    (c.blamed_places.ensures.spent (subst (λ (ps : List ℕ). c.blamed_places.result < length ps) (sym there) low))))
 
 pub returns-clause-sides : goal.returns-clause-sides
 returns-clause-sides g t c = λ pool h.

@@ -1,7 +1,7 @@
 use Rattle.std.proofs.Common.{◌≡◌, ◌<◌, ◌≤◌, ◌+◌, ◌*◌, ℕ, suc, [], ◌∷◌, ◌++◌, get_or, length, map, take}
 use Rattle.eval_scope.specs.Shown.{world_of}
 use Rattle.ad_eval.specs.Small.{AreSmall}
-use Rattle.bilateral_match.specs.Pool.{Pool}
+use Rattle.dock_match.specs.Pool.{Pool}
 use Rattle.gang_ports.specs.Choice.{tuples}
 use Rattle.gang_ports.specs.Gangs.{attributes_behind, evaluations_behind}
 use Rattle.gang_ports.specs.Search.{AreSides, HaveSides, IsBehind, choice_in, evaluations_anew, sides_ahead}

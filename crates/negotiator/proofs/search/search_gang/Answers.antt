@@ -2,7 +2,7 @@ use Rattle.std.proofs.Common.{◌≡◌, ◌≢◌, List, ℕ, AllPairs, length,
 use Rattle.std.specs.Prelude.{IfSome, option_map}
 use Rattle.std.proofs.lemmas.Result.{IfOk-weaker}
 use Rattle.ad_tree.specs.Ad.{ad_frames}
-use Rattle.bilateral_match.specs.Pool.{slot_at}
+use Rattle.dock_match.specs.Pool.{slot_at}
 use Rattle.claim_table.specs.Jobs.{AreFree, wanted}
 use Rattle.claim_table.specs.Table.{jobs_of}
 use Rattle.gang_ports.specs.Gangs.{gang}

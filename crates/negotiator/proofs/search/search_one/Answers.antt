@@ -1,4 +1,4 @@
-use Rattle.std.proofs.Common.{◌≡◌, ◌≢◌, ℕ, [], ◌∷◌, AllPairs, length, ◌∙◌}
+use Rattle.std.proofs.Common.{◌≡◌, ◌≢◌, ℕ, [], ◌∷◌, AllPairs, length, ◌∙◌, ◌+◌}
 use Rattle.std.specs.Prelude.{IfSome, option_map}
 use Rattle.std.proofs.lemmas.Option.{IfSome_then}
 use Rattle.std.proofs.lemmas.Result.{IfOk-weaker}
@@ -19,7 +19,7 @@ returns-in_err-slot-clause-entries g c =
 
 pub returns-in_err-slot-clause-looks : goal.returns-in_err-slot-clause-looks
 returns-in_err-slot-clause-looks g c =
-    looks-one c.args.scene.now.moment (stock_in c.args.scene.now) (settings_in c.args.scene.now) (jobs_of c.args.claims.now) c.args.request.now c.requires.single c.args.touch.now c.choose.new.touch c.choose.ensures.looks
+    looks-one c.args.scene.now.moment (stock_in c.args.scene.now) (settings_in c.args.scene.now) (jobs_of c.args.claims.now) c.args.request.now c.requires.single (c.args.touch.now + c.args.clusters.now.looks.saved) (c.choose.new.touch + c.choose.new.clusters.looks.saved) c.choose.ensures.looks
 
 pub returns-clause-evaluations : goal.returns-clause-evaluations
 returns-clause-evaluations g c =
@@ -31,7 +31,7 @@ returns-clause-entries g c =
 
 pub returns-clause-looks : goal.returns-clause-looks
 returns-clause-looks g c =
-    looks-one c.args.scene.now.moment (stock_in c.args.scene.now) (settings_in c.args.scene.now) (jobs_of c.args.claims.now) c.args.request.now c.requires.single c.args.touch.now c.choose.new.touch c.choose.ensures.looks
+    looks-one c.args.scene.now.moment (stock_in c.args.scene.now) (settings_in c.args.scene.now) (jobs_of c.args.claims.now) c.args.request.now c.requires.single (c.args.touch.now + c.args.clusters.now.looks.saved) (c.choose.new.touch + c.choose.new.clusters.looks.saved) c.choose.ensures.looks
 
 pub returns-clause-found : goal.returns-clause-found
 returns-clause-found g c =

@@ -1,4 +1,4 @@
-use Rattle.std.proofs.Common.{◌≡◌, ◌≢◌, ℕ, AllPairs, List, Some, ap, arith, length, refl, slice_get, subst, sym, ◌∙◌}
+use Rattle.std.proofs.Common.{◌≡◌, ◌≢◌, ℕ, AllPairs, List, Some, ap, arith, length, refl, slice_get, subst, sym, ◌∙◌, ◌+◌}
 use Rattle.std.specs.Prelude.{IfSome, option_map}
 use Rattle.std.specs.Option.{option_map_or}
 use Rattle.claim_table.specs.declared.job.Job.{Job}
@@ -37,12 +37,12 @@ returns-then-failed-i-clause-table g c =
 
 pub returns-then-failed-i-clause-paid : goal.returns-then-failed-i-clause-paid
 returns-then-failed-i-clause-paid g c =
-    let here = counts c.args.tops.now c.args.entry.now c.args.touch.now in
+    let here = counts c.args.tops.now c.args.entry.now (c.args.touch.now + c.args.clusters.now.looks.saved) in
     paid-none c.args.scene.now.moment (stock_in c.args.scene.now) (settings_in c.args.scene.now) (jobs_of c.args.claims.now) c.args.failed.now here
 
 pub returns-then-failed-i-clause-within : goal.returns-then-failed-i-clause-within
 returns-then-failed-i-clause-within g c =
-    let here = counts c.args.tops.now c.args.entry.now c.args.touch.now in
+    let here = counts c.args.tops.now c.args.entry.now (c.args.touch.now + c.args.clusters.now.looks.saved) in
     let jobs = jobs_of c.args.claims.now in
     paid-within c.args.scene.now.moment (stock_in c.args.scene.now) (settings_in c.args.scene.now) jobs jobs c.args.failed.now c.args.failed.now here here
     (paid-none c.args.scene.now.moment (stock_in c.args.scene.now) (settings_in c.args.scene.now) jobs c.args.failed.now here)
@@ -85,7 +85,7 @@ returns-in_err-slots-clause-within g c =
     let jobs = jobs_of c.args.claims.now in
     let place = idle-within jobs c.args.i c.requires.idle in
     search-within c.args.scene.now.moment (stock_in c.args.scene.now) (settings_in c.args.scene.now) jobs c.args.failed.now c.args.i c.requires.idle c.if-failed-i.false (omega (arith, place, c.requires.ready.marks))
-    (counts c.args.tops.now c.args.entry.now c.args.touch.now) (counts c.search.new.tops c.search.new.entry c.search.new.touch) c.search.ensures.counted
+    (counts c.args.tops.now c.args.entry.now (c.args.touch.now + c.args.clusters.now.looks.saved)) (counts c.search.new.tops c.search.new.entry (c.search.new.touch + c.search.new.clusters.looks.saved)) c.search.ensures.counted
 
 pub returns-in_default-clause-offered : goal.returns-in_default-clause-offered
 returns-in_default-clause-offered g c =
@@ -105,14 +105,14 @@ returns-in_default-clause-paid g c =
     let jobs = jobs_of c.args.claims.now in
     let place = idle-within jobs c.args.i c.requires.idle in
     fail-paid c.args.scene.now.moment (stock_in c.args.scene.now) (settings_in c.args.scene.now) jobs c.args.failed.now c.args.i c.requires.idle c.if-failed-i.false (omega (arith, place, c.requires.ready.marks))
-    (counts c.args.tops.now c.args.entry.now c.args.touch.now) (counts c.search.new.tops c.search.new.entry c.search.new.touch) c.search.ensures.counted
+    (counts c.args.tops.now c.args.entry.now (c.args.touch.now + c.args.clusters.now.looks.saved)) (counts c.search.new.tops c.search.new.entry (c.search.new.touch + c.search.new.clusters.looks.saved)) c.search.ensures.counted
 
 pub returns-in_default-clause-within : goal.returns-in_default-clause-within
 returns-in_default-clause-within g c =
     let jobs = jobs_of c.args.claims.now in
     let place = idle-within jobs c.args.i c.requires.idle in
     search-within c.args.scene.now.moment (stock_in c.args.scene.now) (settings_in c.args.scene.now) jobs c.args.failed.now c.args.i c.requires.idle c.if-failed-i.false (omega (arith, place, c.requires.ready.marks))
-    (counts c.args.tops.now c.args.entry.now c.args.touch.now) (counts c.search.new.tops c.search.new.entry c.search.new.touch) c.search.ensures.counted
+    (counts c.args.tops.now c.args.entry.now (c.args.touch.now + c.args.clusters.now.looks.saved)) (counts c.search.new.tops c.search.new.entry (c.search.new.touch + c.search.new.clusters.looks.saved)) c.search.ensures.counted
 
 pub returns-in_default-clause-clusters : goal.returns-in_default-clause-clusters
 returns-in_default-clause-clusters g c = c.search.ensures.clusters
@@ -143,7 +143,7 @@ returns-in_err-give-clause-within g c =
     let jobs = jobs_of c.args.claims.now in
     let place = idle-within jobs c.args.i c.requires.idle in
     search-within c.args.scene.now.moment (stock_in c.args.scene.now) (settings_in c.args.scene.now) jobs c.args.failed.now c.args.i c.requires.idle c.if-failed-i.false (omega (arith, place, c.requires.ready.marks))
-    (counts c.args.tops.now c.args.entry.now c.args.touch.now) (counts c.search.new.tops c.search.new.entry c.search.new.touch) c.search.ensures.counted
+    (counts c.args.tops.now c.args.entry.now (c.args.touch.now + c.args.clusters.now.looks.saved)) (counts c.search.new.tops c.search.new.entry (c.search.new.touch + c.search.new.clusters.looks.saved)) c.search.ensures.counted
 
 pub returns-in_err-give-clause-ratio : goal.returns-in_err-give-clause-ratio
 returns-in_err-give-clause-ratio g c = c.search.ensures.ratio
@@ -172,8 +172,8 @@ pub returns-clause-paid : goal.returns-clause-paid
 returns-clause-paid g c =
     let jobs = jobs_of c.args.claims.now in
     let place = idle-within jobs c.args.i c.requires.idle in
-    let x = counts c.args.tops.now c.args.entry.now c.args.touch.now in
-    let y = counts c.search.new.tops c.search.new.entry c.search.new.touch in
+    let x = counts c.args.tops.now c.args.entry.now (c.args.touch.now + c.args.clusters.now.looks.saved) in
+    let y = counts c.search.new.tops c.search.new.entry (c.search.new.touch + c.search.new.clusters.looks.saved) in
     subst (λ js. ArePaid c.args.scene.now.moment (stock_in c.args.scene.now) (settings_in c.args.scene.now) jobs js c.args.failed.now c.args.failed.now x y) (sym c.in_ok-give.ensures.ok)
     (offer-paid c.args.scene.now.moment (stock_in c.args.scene.now) (settings_in c.args.scene.now) jobs c.args.failed.now c.args.i c.requires.idle c.if-failed-i.false (omega (arith, place, c.requires.ready.marks)) x y c.search.ensures.counted c.in-Some.slots)
 
@@ -182,7 +182,7 @@ returns-clause-within g c =
     let jobs = jobs_of c.args.claims.now in
     let place = idle-within jobs c.args.i c.requires.idle in
     search-within c.args.scene.now.moment (stock_in c.args.scene.now) (settings_in c.args.scene.now) jobs c.args.failed.now c.args.i c.requires.idle c.if-failed-i.false (omega (arith, place, c.requires.ready.marks))
-    (counts c.args.tops.now c.args.entry.now c.args.touch.now) (counts c.search.new.tops c.search.new.entry c.search.new.touch) c.search.ensures.counted
+    (counts c.args.tops.now c.args.entry.now (c.args.touch.now + c.args.clusters.now.looks.saved)) (counts c.search.new.tops c.search.new.entry (c.search.new.touch + c.search.new.clusters.looks.saved)) c.search.ensures.counted
 
 pub returns-clause-ratio : goal.returns-clause-ratio
 returns-clause-ratio g c = c.search.ensures.ratio

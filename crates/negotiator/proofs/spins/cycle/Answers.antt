@@ -1,4 +1,4 @@
-use Rattle.std.proofs.Common.{◌≤◌, Bool, List, ℕ, ap, false, replicate, subst, sym, ◌∙◌}
+use Rattle.std.proofs.Common.{◌≤◌, Bool, List, ℕ, ap, arith, false, replicate, subst, sym, ◌∙◌, ◌+◌}
 use Rattle.ad_store.specs.Store.{stock_of}
 use Rattle.claim_table.specs.Table.{jobs_of}
 use Rattle.negotiator.specs.declared.queues.Queue.{Queue}
@@ -37,7 +37,7 @@ run_spins-requires-clause-ready g c =
 
 pub run_spins-requires-clause-clusters : goal.run_spins-requires-clause-clusters
 run_spins-requires-clause-clusters g c =
-    no-clusters c.args.moment (stock_of c.args.store.now) (settings_of c.args.priorities.now) (jobs_of c.args.claims.now) c.new-clusters.result c.new-clusters.ensures.seen c.new-clusters.ensures.ranked (c.new-clusters.ensures.known c.args.moment (stock_of c.args.store.now).ads)
+    no-clusters c.args.moment (stock_of c.args.store.now) (settings_of c.args.priorities.now) (jobs_of c.args.claims.now) c.new-clusters.result c.new-clusters.ensures.reach c.new-clusters.ensures.classes (c.new-clusters.ensures.known c.args.moment (stock_of c.args.store.now).ads)
 
 pub returns-clause-stored : goal.returns-clause-stored
 returns-clause-stored g c = cycle-stored c.args.store.now c.args.moment (settings_of c.args.priorities.now) (jobs_of c.args.claims.now)
@@ -46,16 +46,21 @@ pub returns-clause-evaluations : goal.returns-clause-evaluations
 returns-clause-evaluations g c =
     let none = c.deref_mut.ensures.value ∙ c.in_ok-failed.ensures in
     evaluations-start c.args.moment (stock_of c.args.store.now) (settings_of c.args.priorities.now) (jobs_of c.args.claims.now) c.deref_mut.result.now (λ k. ap (λ (f : List Bool). is_marked f k) none ∙ none-marked c.len.result k)
-    (counts c.args.tops.now c.args.entry.now c.args.touch.now) (counts c.run_spins.new.tops c.run_spins.new.entry c.run_spins.new.touch) c.run_spins.ensures.within
+    (counts c.args.tops.now c.args.entry.now (c.args.touch.now + c.new-clusters.result.looks.saved)) (counts c.run_spins.new.tops c.run_spins.new.entry (c.run_spins.new.touch + c.run_spins.new.clusters.looks.saved)) c.run_spins.ensures.within
 
 pub returns-clause-entries : goal.returns-clause-entries
 returns-clause-entries g c =
     let none = c.deref_mut.ensures.value ∙ c.in_ok-failed.ensures in
     entries-start c.args.moment (stock_of c.args.store.now) (settings_of c.args.priorities.now) (jobs_of c.args.claims.now) c.deref_mut.result.now (λ k. ap (λ (f : List Bool). is_marked f k) none ∙ none-marked c.len.result k)
-    (counts c.args.tops.now c.args.entry.now c.args.touch.now) (counts c.run_spins.new.tops c.run_spins.new.entry c.run_spins.new.touch) c.run_spins.ensures.within
+    (counts c.args.tops.now c.args.entry.now (c.args.touch.now + c.new-clusters.result.looks.saved)) (counts c.run_spins.new.tops c.run_spins.new.entry (c.run_spins.new.touch + c.run_spins.new.clusters.looks.saved)) c.run_spins.ensures.within
 
 pub returns-clause-looks : goal.returns-clause-looks
 returns-clause-looks g c =
     let none = c.deref_mut.ensures.value ∙ c.in_ok-failed.ensures in
-    looks-start c.args.moment (stock_of c.args.store.now) (settings_of c.args.priorities.now) (jobs_of c.args.claims.now) c.deref_mut.result.now (λ k. ap (λ (f : List Bool). is_marked f k) none ∙ none-marked c.len.result k)
-    (counts c.args.tops.now c.args.entry.now c.args.touch.now) (counts c.run_spins.new.tops c.run_spins.new.entry c.run_spins.new.touch) c.run_spins.ensures.within
+    let nothing = c.new-clusters.ensures.saved in
+    omega (
+      arith,
+      nothing,
+      looks-start c.args.moment (stock_of c.args.store.now) (settings_of c.args.priorities.now) (jobs_of c.args.claims.now) c.deref_mut.result.now (λ k. ap (λ (f : List Bool). is_marked f k) none ∙ none-marked c.len.result k)
+          (counts c.args.tops.now c.args.entry.now (c.args.touch.now + c.new-clusters.result.looks.saved)) (counts c.run_spins.new.tops c.run_spins.new.entry (c.run_spins.new.touch + c.run_spins.new.clusters.looks.saved)) c.run_spins.ensures.within,
+    )

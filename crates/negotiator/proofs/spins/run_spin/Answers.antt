@@ -1,4 +1,4 @@
-use Rattle.std.proofs.Common.{◌≤◌, ◌<◌, ◌^◌, List, ℕ, All, ap, arith, length, map, subst, sym, ◌∙◌}
+use Rattle.std.proofs.Common.{◌≤◌, ◌<◌, ◌^◌, List, ℕ, All, ap, arith, length, map, subst, sym, ◌∙◌, ◌+◌}
 use Rattle.claim_table.specs.Table.{jobs_of}
 use Rattle.negotiator.specs.Budget.{counts}
 use Rattle.claim_table.specs.Priorities.{priority_of}
@@ -23,7 +23,7 @@ returns-in_err-active-clause-ratio g c ads small = omega arith
 
 pub returns-in_err-active-clause-within : goal.returns-in_err-active-clause-within
 returns-in_err-active-clause-within g c =
-    within-none c.args.scene.now.moment (stock_in c.args.scene.now) (settings_in c.args.scene.now) (jobs_of c.args.claims.now) c.args.failed.now (counts c.args.tops.now c.args.entry.now c.args.touch.now)
+    within-none c.args.scene.now.moment (stock_in c.args.scene.now) (settings_in c.args.scene.now) (jobs_of c.args.claims.now) c.args.failed.now (counts c.args.tops.now c.args.entry.now (c.args.touch.now + c.args.clusters.now.looks.saved))
 
 pub weights_of-requires : goal.weights_of-requires
 weights_of-requires g c = subst (All (λ (k : ℕ). k < length c.args.queues.now)) (sym c.as_slice.ensures) c.in_ok-active.ensures.within
@@ -42,7 +42,7 @@ returns-in_err-weights-clause-ratio g c ads small = omega arith
 
 pub returns-in_err-weights-clause-within : goal.returns-in_err-weights-clause-within
 returns-in_err-weights-clause-within g c =
-    within-none c.args.scene.now.moment (stock_in c.args.scene.now) (settings_in c.args.scene.now) (jobs_of c.args.claims.now) c.args.failed.now (counts c.args.tops.now c.args.entry.now c.args.touch.now)
+    within-none c.args.scene.now.moment (stock_in c.args.scene.now) (settings_in c.args.scene.now) (jobs_of c.args.claims.now) c.args.failed.now (counts c.args.tops.now c.args.entry.now (c.args.touch.now + c.args.clusters.now.looks.saved))
 
 pub slices-requires-clause-users : goal.slices-requires-clause-users
 slices-requires-clause-users g c =
@@ -69,7 +69,7 @@ returns-in_err-slices-clause-ratio g c ads small = omega arith
 
 pub returns-in_err-slices-clause-within : goal.returns-in_err-slices-clause-within
 returns-in_err-slices-clause-within g c =
-    within-none c.args.scene.now.moment (stock_in c.args.scene.now) (settings_in c.args.scene.now) (jobs_of c.args.claims.now) c.args.failed.now (counts c.args.tops.now c.args.entry.now c.args.touch.now)
+    within-none c.args.scene.now.moment (stock_in c.args.scene.now) (settings_in c.args.scene.now) (jobs_of c.args.claims.now) c.args.failed.now (counts c.args.tops.now c.args.entry.now (c.args.touch.now + c.args.clusters.now.looks.saved))
 
 pub run_turns-requires-clause-own : goal.run_turns-requires-clause-own
 run_turns-requires-clause-own g c = c.requires.queues.places

@@ -1,4 +1,4 @@
-use Rattle.std.proofs.Common.{List, arith, subst, sym, ◌∙◌}
+use Rattle.std.proofs.Common.{List, arith, subst, sym, ◌∙◌, ◌+◌}
 use Rattle.claim_table.specs.Table.{jobs_of}
 use Rattle.negotiator.specs.declared.answers.Spin.{Spin}
 use Rattle.negotiator.specs.Budget.{counts}
@@ -12,7 +12,7 @@ use Rattle.negotiator.proofs.spins.run_spins.Goals as goal
 pub loop-spins-init : goal.loop-spins-init
 loop-spins-init g c =
     let began = jobs_of c.args.claims.now in
-    let start = counts c.args.tops.now c.args.entry.now c.args.touch.now in
+    let start = counts c.args.tops.now c.args.entry.now (c.args.touch.now + c.args.clusters.now.looks.saved) in
     record {
       spins = subst (λ (list : List Spin). SpinsLoop c.args.scene.now began c.args.failed.now start list began c.args.failed.now start) (sym c.new-spins.ensures)
           (spins-start c.args.scene.now began c.args.failed.now start c.requires.ready (paid-none c.args.scene.now.moment (stock_in c.args.scene.now) (settings_in c.args.scene.now) began c.args.failed.now start));
@@ -38,9 +38,9 @@ returns-in_err-spin-clause-within g c =
     let began = jobs_of c.args.claims.now in
     let jobs = jobs_of c.loop-spins.claims in
     let later = jobs_of c.run_spin.new.claims in
-    let start = counts c.args.tops.now c.args.entry.now c.args.touch.now in
-    let now = counts c.loop-spins.tops c.loop-spins.entry c.loop-spins.touch in
-    let after = counts c.run_spin.new.tops c.run_spin.new.entry c.run_spin.new.touch in
+    let start = counts c.args.tops.now c.args.entry.now (c.args.touch.now + c.args.clusters.now.looks.saved) in
+    let now = counts c.loop-spins.tops c.loop-spins.entry (c.loop-spins.touch + c.loop-spins.clusters.looks.saved) in
+    let after = counts c.run_spin.new.tops c.run_spin.new.entry (c.run_spin.new.touch + c.run_spin.new.clusters.looks.saved) in
     within-on c.args.scene.now.moment (stock_in c.args.scene.now) (settings_in c.args.scene.now) began jobs c.args.failed.now c.loop-spins.failed start now after c.loop-spins.invariant.spins.paid c.in_err-spin.ensures.within
 
 pub returns-in_err-spin-clause-ratio : goal.returns-in_err-spin-clause-ratio
@@ -57,9 +57,9 @@ returns-in_err-push-clause-within g c =
     let began = jobs_of c.args.claims.now in
     let jobs = jobs_of c.loop-spins.claims in
     let later = jobs_of c.run_spin.new.claims in
-    let start = counts c.args.tops.now c.args.entry.now c.args.touch.now in
-    let now = counts c.loop-spins.tops c.loop-spins.entry c.loop-spins.touch in
-    let after = counts c.run_spin.new.tops c.run_spin.new.entry c.run_spin.new.touch in
+    let start = counts c.args.tops.now c.args.entry.now (c.args.touch.now + c.args.clusters.now.looks.saved) in
+    let now = counts c.loop-spins.tops c.loop-spins.entry (c.loop-spins.touch + c.loop-spins.clusters.looks.saved) in
+    let after = counts c.run_spin.new.tops c.run_spin.new.entry (c.run_spin.new.touch + c.run_spin.new.clusters.looks.saved) in
     paid-within c.args.scene.now.moment (stock_in c.args.scene.now) (settings_in c.args.scene.now) began later c.args.failed.now c.run_spin.new.failed start after
     (paid-on c.args.scene.now.moment (stock_in c.args.scene.now) (settings_in c.args.scene.now) began jobs later c.args.failed.now c.loop-spins.failed c.run_spin.new.failed start now after c.loop-spins.invariant.spins.paid c.in_ok-spin.ensures.paid)
 
@@ -81,9 +81,9 @@ returns-then-last-clause-within g c =
     let began = jobs_of c.args.claims.now in
     let jobs = jobs_of c.loop-spins.claims in
     let later = jobs_of c.run_spin.new.claims in
-    let start = counts c.args.tops.now c.args.entry.now c.args.touch.now in
-    let now = counts c.loop-spins.tops c.loop-spins.entry c.loop-spins.touch in
-    let after = counts c.run_spin.new.tops c.run_spin.new.entry c.run_spin.new.touch in
+    let start = counts c.args.tops.now c.args.entry.now (c.args.touch.now + c.args.clusters.now.looks.saved) in
+    let now = counts c.loop-spins.tops c.loop-spins.entry (c.loop-spins.touch + c.loop-spins.clusters.looks.saved) in
+    let after = counts c.run_spin.new.tops c.run_spin.new.entry (c.run_spin.new.touch + c.run_spin.new.clusters.looks.saved) in
     paid-within c.args.scene.now.moment (stock_in c.args.scene.now) (settings_in c.args.scene.now) began later c.args.failed.now c.run_spin.new.failed start after
     (paid-on c.args.scene.now.moment (stock_in c.args.scene.now) (settings_in c.args.scene.now) began jobs later c.args.failed.now c.loop-spins.failed c.run_spin.new.failed start now after c.loop-spins.invariant.spins.paid c.in_ok-spin.ensures.paid)
 
@@ -101,9 +101,9 @@ loop-spins-preserved g c =
     let began = jobs_of c.args.claims.now in
     let jobs = jobs_of c.loop-spins.claims in
     let later = jobs_of c.run_spin.new.claims in
-    let start = counts c.args.tops.now c.args.entry.now c.args.touch.now in
-    let now = counts c.loop-spins.tops c.loop-spins.entry c.loop-spins.touch in
-    let after = counts c.run_spin.new.tops c.run_spin.new.entry c.run_spin.new.touch in
+    let start = counts c.args.tops.now c.args.entry.now (c.args.touch.now + c.args.clusters.now.looks.saved) in
+    let now = counts c.loop-spins.tops c.loop-spins.entry (c.loop-spins.touch + c.loop-spins.clusters.looks.saved) in
+    let after = counts c.run_spin.new.tops c.run_spin.new.entry (c.run_spin.new.touch + c.run_spin.new.clusters.looks.saved) in
     record {
       spins = spins-more c.args.scene.now began c.loop-spins.invariant.spins c.in_ok-spin.spin c.in_ok-spin.ensures.spin c.push.new.self c.in_ok-push.ensures.ok (jobs_of c.run_spin.new.claims) c.in_ok-spin.ensures.table (omega (arith, c.len-last.ensures, c.if-last.false))
           c.run_spin.new.failed after c.in_ok-spin.ensures.ready

@@ -1,5 +1,5 @@
 use Rattle.std.proofs.Common.{◌≤◌, ◌+◌, ◌*◌, []}
-use Rattle.bilateral_match.specs.Small.{AreSmallAds}
+use Rattle.dock_match.specs.Small.{AreSmallAds}
 use Rattle.claim_table.specs.Small.{AreSmallJobs}
 use Rattle.claim_table.specs.Table.{jobs_of}
 use Rattle.negotiator.specs.Budget.{counts}
@@ -11,7 +11,7 @@ use Rattle.negotiator.proofs.spins.run_spins.Given as goal
 
 abbrev pub invariant-loop-spins : goal.invariant-loop-spins
 invariant-loop-spins g l = record {
-  spins : SpinsLoop l.scene (jobs_of l.fn.claims) l.fn.failed (counts l.fn.tops l.fn.entry l.fn.touch) l.spins (jobs_of l.claims) l.failed (counts l.tops l.entry l.touch);
+  spins : SpinsLoop l.scene (jobs_of l.fn.claims) l.fn.failed (counts l.fn.tops l.fn.entry (l.fn.touch + l.fn.clusters.looks.saved)) l.spins (jobs_of l.claims) l.failed (counts l.tops l.entry (l.touch + l.clusters.looks.saved));
   clusters : AreClusters l.scene.moment (stock_in l.scene) (settings_in l.scene) (jobs_of l.claims) l.clusters;
   ratio : AreSmallAds (stock_in l.scene).ads → AreSmallJobs (jobs_of l.fn.claims) → l.entry + 9216 * l.fn.tops ≤ l.fn.entry + 9216 * l.tops;
 }

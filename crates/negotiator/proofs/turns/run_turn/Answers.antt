@@ -1,13 +1,14 @@
-use Rattle.std.proofs.Common.{List, ℕ, ap, arith, false, get_or, map, refl, subst, sym, ◌∙◌}
+use Rattle.std.proofs.Common.{List, ℕ, ap, arith, false, get_or, map, refl, subst, sym, ◌∙◌, ◌+◌}
 use Rattle.claim_table.specs.Small.{AreSmallJobs}
 use Rattle.claim_table.specs.Table.{jobs_of}
 use Rattle.negotiator.specs.declared.answers.Offered.{Offered}
+use Rattle.negotiator.specs.declared.clusters.Clusters.{Clusters}
 use Rattle.negotiator.specs.Budget.{counts}
 use Rattle.negotiator.specs.Cycle.{Offer}
 use Rattle.negotiator.specs.Markets.{IsPart, offer_named, with_offers}
 use Rattle.negotiator.specs.Scenes.{settings_in, stock_in}
 use Rattle.negotiator.proofs.BudgetLemmas.{paid-none, paid-on, paid-within, within-on}
-use Rattle.negotiator.proofs.ClusterLemmas.{same-clusters}
+use Rattle.negotiator.proofs.ClusterLemmas.{same-clusters, with-saved}
 use Rattle.negotiator.proofs.SmallLemmas.{small-offers}
 use Rattle.negotiator.proofs.SpinLoopLemmas.{on_err}
 use Rattle.negotiator.proofs.TurnLoopLemmas.{TurnLoop, ended-all, ended-offers, ended-table, in-slice-either, length-here, loop-same, over-slice, own-place, own-turn, own-within, stopped, tried-none, tried-some, tried-stopped, turn-passes, turn-start, turn-stops, wants-here}
@@ -17,7 +18,7 @@ use Rattle.negotiator.proofs.turns.run_turn.Goals as goal
 pub loop-place-init : goal.loop-place-init
 loop-place-init g c =
     let began = jobs_of c.args.claims.now in
-    let start = counts c.args.tops.now c.args.entry.now c.args.touch.now in
+    let start = counts c.args.tops.now c.args.entry.now (c.args.touch.now + c.args.clusters.now.looks.saved) in
     let items = c.as_slice-place-items.result.now in
     record {
       turn = subst (λ (list : List Offered). TurnLoop c.args.scene.now began c.args.queue.now.user items c.args.slice c.args.failed.now start 0 c.args.slice false list began c.args.failed.now start) (sym c.new-offers.ensures)
@@ -65,7 +66,7 @@ returns-then-left-wants-clause-paid g c = c.loop-place.invariant.turn.paid
 
 pub returns-then-left-wants-clause-within : goal.returns-then-left-wants-clause-within
 returns-then-left-wants-clause-within g c =
-    paid-within c.args.scene.now.moment (stock_in c.args.scene.now) (settings_in c.args.scene.now) (jobs_of c.args.claims.now) (jobs_of c.loop-place.claims) c.args.failed.now c.loop-place.failed (counts c.args.tops.now c.args.entry.now c.args.touch.now) (counts c.loop-place.tops c.loop-place.entry c.loop-place.touch) c.loop-place.invariant.turn.paid
+    paid-within c.args.scene.now.moment (stock_in c.args.scene.now) (settings_in c.args.scene.now) (jobs_of c.args.claims.now) (jobs_of c.loop-place.claims) c.args.failed.now c.loop-place.failed (counts c.args.tops.now c.args.entry.now (c.args.touch.now + c.args.clusters.now.looks.saved)) (counts c.loop-place.tops c.loop-place.entry (c.loop-place.touch + c.loop-place.clusters.looks.saved)) c.loop-place.invariant.turn.paid
 
 pub returns-then-left-wants-clause-ratio : goal.returns-then-left-wants-clause-ratio
 returns-then-left-wants-clause-ratio g c = c.loop-place.invariant.ratio
@@ -89,9 +90,9 @@ pub returns-in_err-offer-clause-within : goal.returns-in_err-offer-clause-within
 returns-in_err-offer-clause-within g c =
     let began = jobs_of c.args.claims.now in
     let jobs = jobs_of c.loop-place.claims in
-    let start = counts c.args.tops.now c.args.entry.now c.args.touch.now in
-    let now = counts c.loop-place.tops c.loop-place.entry c.loop-place.touch in
-    let after = counts c.try_job.new.tops c.try_job.new.entry c.try_job.new.touch in
+    let start = counts c.args.tops.now c.args.entry.now (c.args.touch.now + c.args.clusters.now.looks.saved) in
+    let now = counts c.loop-place.tops c.loop-place.entry (c.loop-place.touch + c.loop-place.clusters.looks.saved) in
+    let after = counts c.try_job.new.tops c.try_job.new.entry (c.try_job.new.touch + c.try_job.new.clusters.looks.saved) in
     within-on c.args.scene.now.moment (stock_in c.args.scene.now) (settings_in c.args.scene.now) began jobs c.args.failed.now c.loop-place.failed start now after c.loop-place.invariant.turn.paid c.in_err-offer.ensures.within
 
 pub returns-in_err-offer-clause-ratio : goal.returns-in_err-offer-clause-ratio
@@ -112,9 +113,9 @@ pub returns-in_err-push-clause-within : goal.returns-in_err-push-clause-within
 returns-in_err-push-clause-within g c =
     let began = jobs_of c.args.claims.now in
     let jobs = jobs_of c.loop-place.claims in
-    let start = counts c.args.tops.now c.args.entry.now c.args.touch.now in
-    let now = counts c.loop-place.tops c.loop-place.entry c.loop-place.touch in
-    let after = counts c.try_job.new.tops c.try_job.new.entry c.try_job.new.touch in
+    let start = counts c.args.tops.now c.args.entry.now (c.args.touch.now + c.args.clusters.now.looks.saved) in
+    let now = counts c.loop-place.tops c.loop-place.entry (c.loop-place.touch + c.loop-place.clusters.looks.saved) in
+    let after = counts c.try_job.new.tops c.try_job.new.entry (c.try_job.new.touch + c.try_job.new.clusters.looks.saved) in
     paid-within c.args.scene.now.moment (stock_in c.args.scene.now) (settings_in c.args.scene.now) began (jobs_of c.try_job.new.claims) c.args.failed.now c.try_job.new.failed start after
     (paid-on c.args.scene.now.moment (stock_in c.args.scene.now) (settings_in c.args.scene.now) began jobs (jobs_of c.try_job.new.claims) c.args.failed.now c.loop-place.failed c.try_job.new.failed start now after c.loop-place.invariant.turn.paid c.in_ok-offer.ensures.paid)
 
@@ -135,22 +136,22 @@ loop-place-preserved g c =
       turn = elim c.if-is_idle.branch [
         | then-is_idle+else-given+in_ok-offer+in-Some+in_ok-push w ↦
             let wants_is = wants-here scene began c.loop-place.invariant.turn i w.wants-wants.result w.wants-wants.ensures in
-            let after = counts w.try_job.new.tops w.try_job.new.entry w.try_job.new.touch in
+            let after = counts w.try_job.new.tops w.try_job.new.entry (w.try_job.new.touch + w.try_job.new.clusters.looks.saved) in
             loop-same scene began
             (tried-some scene began c.loop-place.invariant.turn i c.loop-place-test.true refl own (sym c.is_idle.ensures ∙ w.if-is_idle.true) (in-slice-either c.loop-place.given c.loop-place.left w.wants-wants.result _ wants_is w.else-given.either)
             w.in_ok-offer.field-0 w.in_ok-offer.ensures.offered (jobs_of w.try_job.new.claims) w.in_ok-offer.ensures.table w.in-Some.offer w.in-Some.is
             w.wants-wants.result wants_is w.push.new.self w.in_ok-push.ensures.ok _ w.saturating_sub-left.ensures w.try_job.new.failed after w.in_ok-offer.ensures.ready w.in_ok-offer.ensures.paid)
-            w.left-is w.given-is w.offers-is (ap jobs_of w.claims-is) w.failed-is w.tops-is w.entry-is w.touch-is
+            w.left-is w.given-is w.offers-is (ap jobs_of w.claims-is) w.failed-is w.tops-is w.entry-is (with-saved w.touch-is (ap (λ (x : Clusters). x.looks.saved) w.clusters-is))
         | then-is_idle+else-given+in_ok-offer+in_default w ↦
             let wants_is = wants-here scene began c.loop-place.invariant.turn i w.wants-wants.result w.wants-wants.ensures in
-            let after = counts w.try_job.new.tops w.try_job.new.entry w.try_job.new.touch in
+            let after = counts w.try_job.new.tops w.try_job.new.entry (w.try_job.new.touch + w.try_job.new.clusters.looks.saved) in
             loop-same scene began
             (tried-none scene began c.loop-place.invariant.turn i c.loop-place-test.true refl own (sym c.is_idle.ensures ∙ w.if-is_idle.true) (in-slice-either c.loop-place.given c.loop-place.left w.wants-wants.result _ wants_is w.else-given.either)
             w.in_ok-offer.field-0 w.in_ok-offer.ensures.offered (jobs_of w.try_job.new.claims) w.in_ok-offer.ensures.table w.in_default.is w.try_job.new.failed after w.in_ok-offer.ensures.ready w.in_ok-offer.ensures.paid)
-            w.left-is w.given-is w.offers-is (ap jobs_of w.claims-is) w.failed-is w.tops-is w.entry-is w.touch-is
+            w.left-is w.given-is w.offers-is (ap jobs_of w.claims-is) w.failed-is w.tops-is w.entry-is (with-saved w.touch-is (ap (λ (x : Clusters). x.looks.saved) w.clusters-is))
         | else-is_idle w ↦
             loop-same scene began (turn-passes scene began c.loop-place.invariant.turn i c.loop-place-test.true refl own (sym c.is_idle.ensures ∙ w.if-is_idle.false))
-            w.left-is w.given-is w.offers-is (ap jobs_of w.claims-is) w.failed-is w.tops-is w.entry-is w.touch-is
+            w.left-is w.given-is w.offers-is (ap jobs_of w.claims-is) w.failed-is w.tops-is w.entry-is (with-saved w.touch-is (ap (λ (x : Clusters). x.looks.saved) w.clusters-is))
       ];
       clusters = elim c.if-is_idle.branch [
         | then-is_idle+else-given+in_ok-offer+in-Some+in_ok-push w ↦ same-clusters scene (ap jobs_of w.claims-is) w.clusters-is w.in_ok-offer.ensures.clusters
@@ -185,7 +186,7 @@ returns-clause-paid g c = c.loop-place.invariant.turn.paid
 
 pub returns-clause-within : goal.returns-clause-within
 returns-clause-within g c =
-    paid-within c.args.scene.now.moment (stock_in c.args.scene.now) (settings_in c.args.scene.now) (jobs_of c.args.claims.now) (jobs_of c.loop-place.claims) c.args.failed.now c.loop-place.failed (counts c.args.tops.now c.args.entry.now c.args.touch.now) (counts c.loop-place.tops c.loop-place.entry c.loop-place.touch) c.loop-place.invariant.turn.paid
+    paid-within c.args.scene.now.moment (stock_in c.args.scene.now) (settings_in c.args.scene.now) (jobs_of c.args.claims.now) (jobs_of c.loop-place.claims) c.args.failed.now c.loop-place.failed (counts c.args.tops.now c.args.entry.now (c.args.touch.now + c.args.clusters.now.looks.saved)) (counts c.loop-place.tops c.loop-place.entry (c.loop-place.touch + c.loop-place.clusters.looks.saved)) c.loop-place.invariant.turn.paid
 
 pub returns-clause-ratio : goal.returns-clause-ratio
 returns-clause-ratio g c = c.loop-place.invariant.ratio

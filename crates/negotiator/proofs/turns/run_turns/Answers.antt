@@ -1,4 +1,4 @@
-use Rattle.std.proofs.Common.{◌≡◌, ◌<◌, List, [], arith, filter, get_or, length, refl, slice_get, subst, sym}
+use Rattle.std.proofs.Common.{◌≡◌, ◌<◌, List, [], arith, filter, get_or, length, refl, slice_get, subst, sym, ◌+◌}
 use Rattle.std.specs.Option.{option_map_or}
 use Rattle.std.proofs.lemmas.List.{length-map}
 use Rattle.claim_table.specs.Table.{jobs_of}
@@ -16,7 +16,7 @@ use Rattle.negotiator.proofs.turns.run_turns.Goals as goal
 pub loop-k-init : goal.loop-k-init
 loop-k-init g c =
     let began = jobs_of c.args.claims.now in
-    let start = counts c.args.tops.now c.args.entry.now c.args.touch.now in
+    let start = counts c.args.tops.now c.args.entry.now (c.args.touch.now + c.args.clusters.now.looks.saved) in
     let users = users_at c.args.queues.now c.args.active.now in
     record {
       turns = subst (λ (list : List Turn). TurnsLoop c.args.scene.now began users c.args.slices.now c.args.failed.now start 0 list began c.args.failed.now start) (sym c.new-turns.ensures)
@@ -63,9 +63,9 @@ pub returns-in_err-offers-clause-within : goal.returns-in_err-offers-clause-with
 returns-in_err-offers-clause-within g c =
     let began = jobs_of c.args.claims.now in
     let jobs = jobs_of c.loop-k.claims in
-    let start = counts c.args.tops.now c.args.entry.now c.args.touch.now in
-    let now = counts c.loop-k.tops c.loop-k.entry c.loop-k.touch in
-    let after = counts c.run_turn.new.tops c.run_turn.new.entry c.run_turn.new.touch in
+    let start = counts c.args.tops.now c.args.entry.now (c.args.touch.now + c.args.clusters.now.looks.saved) in
+    let now = counts c.loop-k.tops c.loop-k.entry (c.loop-k.touch + c.loop-k.clusters.looks.saved) in
+    let after = counts c.run_turn.new.tops c.run_turn.new.entry (c.run_turn.new.touch + c.run_turn.new.clusters.looks.saved) in
     within-on c.args.scene.now.moment (stock_in c.args.scene.now) (settings_in c.args.scene.now) began jobs c.args.failed.now c.loop-k.failed start now after c.loop-k.invariant.turns.paid c.in_err-offers.ensures.within
 
 pub returns-in_err-offers-clause-ratio : goal.returns-in_err-offers-clause-ratio
@@ -88,9 +88,9 @@ pub returns-in_err-keep-clause-within : goal.returns-in_err-keep-clause-within
 returns-in_err-keep-clause-within g c =
     let began = jobs_of c.args.claims.now in
     let jobs = jobs_of c.loop-k.claims in
-    let start = counts c.args.tops.now c.args.entry.now c.args.touch.now in
-    let now = counts c.loop-k.tops c.loop-k.entry c.loop-k.touch in
-    let after = counts c.run_turn.new.tops c.run_turn.new.entry c.run_turn.new.touch in
+    let start = counts c.args.tops.now c.args.entry.now (c.args.touch.now + c.args.clusters.now.looks.saved) in
+    let now = counts c.loop-k.tops c.loop-k.entry (c.loop-k.touch + c.loop-k.clusters.looks.saved) in
+    let after = counts c.run_turn.new.tops c.run_turn.new.entry (c.run_turn.new.touch + c.run_turn.new.clusters.looks.saved) in
     paid-within c.args.scene.now.moment (stock_in c.args.scene.now) (settings_in c.args.scene.now) began (jobs_of c.run_turn.new.claims) c.args.failed.now c.run_turn.new.failed start after
     (paid-on c.args.scene.now.moment (stock_in c.args.scene.now) (settings_in c.args.scene.now) began jobs (jobs_of c.run_turn.new.claims) c.args.failed.now c.loop-k.failed c.run_turn.new.failed start now after c.loop-k.invariant.turns.paid c.in_ok-offers.ensures.paid)
 
@@ -103,9 +103,9 @@ pub loop-k-preserved : goal.loop-k-preserved
 loop-k-preserved g c =
     let began = jobs_of c.args.claims.now in
     let jobs = jobs_of c.loop-k.claims in
-    let start = counts c.args.tops.now c.args.entry.now c.args.touch.now in
-    let now = counts c.loop-k.tops c.loop-k.entry c.loop-k.touch in
-    let after = counts c.run_turn.new.tops c.run_turn.new.entry c.run_turn.new.touch in
+    let start = counts c.args.tops.now c.args.entry.now (c.args.touch.now + c.args.clusters.now.looks.saved) in
+    let now = counts c.loop-k.tops c.loop-k.entry (c.loop-k.touch + c.loop-k.clusters.looks.saved) in
+    let after = counts c.run_turn.new.tops c.run_turn.new.entry (c.run_turn.new.touch + c.run_turn.new.clusters.looks.saved) in
     let users = users_at c.args.queues.now c.args.active.now in
     let long = length-map c.args.active.now (λ k. option_map_or (λ (q : Queue). q.user) (slice_get c.args.queues.now k) []) in
     let within : c.loop-k.k < length c.args.active.now = c.loop-k-test.true in
@@ -143,7 +143,7 @@ returns-clause-paid g c = c.loop-k.invariant.turns.paid
 pub returns-clause-within : goal.returns-clause-within
 returns-clause-within g c =
     paid-within c.args.scene.now.moment (stock_in c.args.scene.now) (settings_in c.args.scene.now) (jobs_of c.args.claims.now) (jobs_of c.loop-k.claims) c.args.failed.now c.loop-k.failed
-    (counts c.args.tops.now c.args.entry.now c.args.touch.now) (counts c.loop-k.tops c.loop-k.entry c.loop-k.touch) c.loop-k.invariant.turns.paid
+    (counts c.args.tops.now c.args.entry.now (c.args.touch.now + c.args.clusters.now.looks.saved)) (counts c.loop-k.tops c.loop-k.entry (c.loop-k.touch + c.loop-k.clusters.looks.saved)) c.loop-k.invariant.turns.paid
 
 pub returns-clause-ratio : goal.returns-clause-ratio
 returns-clause-ratio g c = c.loop-k.invariant.ratio

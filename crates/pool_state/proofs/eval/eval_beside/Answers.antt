@@ -3,7 +3,7 @@ use Rattle.ad_tree.specs.Ad.{ad_frames}
 use Rattle.ad_tree.specs.Tree.{tree}
 use Rattle.ad_store.specs.Stock.{is_named}
 use Rattle.ad_store.specs.Store.{stock_of}
-use Rattle.bilateral_match.proofs.SmallLemmas.{found-small}
+use Rattle.dock_match.proofs.SmallLemmas.{found-small}
 use Rattle.pool_state.specs.Step.{ad_named}
 use Rattle.pool_state.proofs.AdLemmas.{own_frames, slot_beside-found, slot_beside-none, stock-length}
 use Rattle.pool_state.proofs.StepLemmas.{beside-found, beside-unknown}

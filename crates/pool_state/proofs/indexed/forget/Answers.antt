@@ -4,7 +4,7 @@ use Rattle.ad_store.specs.Store.{stock_of}
 use Rattle.ad_tree.specs.Ad.{ad_frames}
 use Rattle.literal_index.specs.Rows.{row_of}
 use Rattle.literal_index.specs.Shown.{IsKept}
-use Rattle.bilateral_match.proofs.RowLemmas.{rows-round}
+use Rattle.ad_candidates.proofs.RowLemmas.{rows-round}
 use Rattle.pool_state.proofs.IndexLemmas.{here_frames, rows-unnamed}
 use Rattle.pool_state.proofs.indexed.forget.Goals as goal
 

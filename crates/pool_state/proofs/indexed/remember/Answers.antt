@@ -4,8 +4,8 @@ use Rattle.ad_store.specs.Store.{stock_of}
 use Rattle.ad_tree.specs.Ad.{ad_frames}
 use Rattle.literal_index.specs.Rows.{ad_under, row_of}
 use Rattle.literal_index.specs.Shown.{IsKept}
-use Rattle.bilateral_match.specs.Rows.{rows_of}
-use Rattle.bilateral_match.proofs.RowLemmas.{alone-under, rows-round}
+use Rattle.ad_candidates.specs.Rows.{rows_of}
+use Rattle.ad_candidates.proofs.RowLemmas.{alone-under, rows-round}
 use Rattle.pool_state.specs.Stocks.{stock_without}
 use Rattle.pool_state.proofs.AdLemmas.{has_at, named, slot_beside-found, stock-length}
 use Rattle.pool_state.proofs.IndexLemmas.{here_frames, on_err, on_ok, rows-unnamed, withdrawn_stock}

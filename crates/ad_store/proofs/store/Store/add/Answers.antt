@@ -1,8 +1,10 @@
-use Rattle.std.proofs.Common.{not, sym, ◌∙◌, ap, arith}
+use Rattle.std.proofs.Common.{not, sym, ◌∙◌, ap, subst, arith}
 use Rattle.ad_store.specs.Held.{adverts, named_content}
+use Rattle.ad_store.specs.Stock.{EndFrom}
 use Rattle.ad_store.proofs.HeldLemmas.{placed-new}
 use Rattle.ad_store.proofs.ChangeLemmas.{found_from_stock, has_from_stock}
 use Rattle.ad_store.proofs.EnterLemmas.{entered_ads, entered_found, entered_held, entered_length, entered_text, new-full, new-none, new-text}
+use Rattle.ad_store.proofs.EndLemmas.{ends-last, ends-sooner}
 use Rattle.ad_store.proofs.store.Store.add.Goals as goal
 
 pub returns-then-len-ge-ADS_LIMIT-clause-cause : goal.returns-then-len-ge-ADS_LIMIT-clause-cause
@@ -31,6 +33,10 @@ invariant_of-self-2 c =
       counted = entered_text old.names.entries _ old.table _ c.args.name.now c.in-Ok.slot c.args.content c.in-Ok.ensures.entered old.held old.text old.counted;
       within = omega (arith, c.saturating_add.ensures, old.within);
       few = omega (arith, c.len.ensures.len, entered_length old.names.entries _ old.table _ c.args.name.now c.in-Ok.slot c.args.content c.in-Ok.ensures.entered old.held);
+      due = subst (EndFrom c.min-self.result) (sym (entered_ads old.names.entries _ old.table _ c.args.name.now c.in-Ok.slot c.args.content c.in-Ok.ensures.entered old.held))
+          (ends-last c.min-self.result (named_content c.args.name.now c.args.content) (adverts old.table old.names.entries)
+          (ends-sooner old.soonest c.min-self.result (adverts old.table old.names.entries) (omega (arith, c.min-self.ensures)) old.due)
+          (omega (arith, c.min-self.ensures, c.saturating_add-end.ensures)));
     }
 
 pub returns-clause-ads : goal.returns-clause-ads

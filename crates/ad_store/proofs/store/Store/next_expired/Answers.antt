@@ -1,8 +1,9 @@
-use Rattle.std.proofs.Common.{not, [], ◌∙◌, ap}
+use Rattle.std.proofs.Common.{not, [], ◌∙◌, ap, sym, arith}
 use Rattle.std.specs.List.{find}
 use Rattle.slab.specs.Slab.{get}
-use Rattle.ad_store.specs.Held.{advert_of}
+use Rattle.ad_store.specs.Held.{advert_of, adverts, slots_of}
 use Rattle.ad_store.specs.Stock.{is_live}
+use Rattle.ad_store.proofs.EndLemmas.{all-live, none-expired}
 use Rattle.ad_store.proofs.SlotLemmas.{find-slot_beside, held_if_some, live_if_none}
 use Rattle.ad_store.proofs.store.Store.next_expired.Goals as goal
 
@@ -20,3 +21,13 @@ returns-clause-held c =
 pub returns-clause-all_live : goal.returns-clause-all_live
 returns-clause-all_live c =
     live_if_none c.args.self.now.table c.args.now c.args.self.now.names.entries c.first_expired.result (returns-clause-first c)
+
+pub returns-then-now-self-clause-first : goal.returns-then-now-self-clause-first
+returns-then-now-self-clause-first c =
+    let store = c.args.self.now in
+    sym (none-expired store.soonest c.args.now (omega (arith, c.if-now-self.true)) (adverts store.table store.names.entries) (slots_of store.names.entries) store.due)
+
+pub returns-then-now-self-clause-all_live : goal.returns-then-now-self-clause-all_live
+returns-then-now-self-clause-all_live c =
+    let store = c.args.self.now in
+    all-live store.soonest c.args.now (omega (arith, c.if-now-self.true)) (adverts store.table store.names.entries) store.due

@@ -1,5 +1,8 @@
-use Rattle.std.proofs.Common.{sym, arith}
+use Rattle.std.proofs.Common.{sym, subst, arith}
+use Rattle.ad_store.specs.Held.{adverts}
+use Rattle.ad_store.specs.Stock.{EndFrom}
 use Rattle.ad_store.proofs.ReplaceLemmas.{held-none, held-text, is_there, no_addition, others_text, renewed_ads, renewed_held, renewed_slot, renewed_text}
+use Rattle.ad_store.proofs.EndLemmas.{ends-placed, ends-sooner}
 use Rattle.ad_store.proofs.store.Store.put.Goals as goal
 
 pub overflow_sub-others : goal.overflow_sub-others
@@ -25,6 +28,9 @@ invariant_of-self c =
       counted = renewed_text old.table old.names.entries c.args.name.now c.in-Some.slot old.text c.args.text_len _ old.held old.counted c.in-Some.ensures.slot c.size_at.ensures c.renew.new.table _ c.renew.ensures;
       within = omega (arith, c.saturating_add.ensures);
       few = old.few;
+      due = subst (EndFrom c.min-self.result) (sym (renewed_ads old.table old.names.entries c.args.name.now c.in-Some.slot old.text c.args.text_len _ old.held old.counted c.in-Some.ensures.slot c.size_at.ensures c.renew.new.table _ c.renew.ensures))
+          (ends-placed c.min-self.result _ (adverts old.table old.names.entries) (omega (arith, c.min-self.ensures, c.saturating_add-2.ensures))
+          (ends-sooner old.soonest c.min-self.result (adverts old.table old.names.entries) (omega (arith, c.min-self.ensures)) old.due));
     }
 
 pub returns-clause-ads : goal.returns-clause-ads

@@ -1,7 +1,8 @@
-use Rattle.std.proofs.Common.{◌≡◌, ◌∙◌, ap, is_some, length, arith}
+use Rattle.std.proofs.Common.{◌≡◌, ◌∙◌, ap, is_some, length, subst, sym, arith}
 use Rattle.ad_store.specs.Held.{adverts, are_held, slots_of}
-use Rattle.ad_store.specs.Stock.{text_held, without}
+use Rattle.ad_store.specs.Stock.{EndFrom, text_held, without}
 use Rattle.ad_store.proofs.ChangeLemmas.{found_entry, found_from_stock, gone_ads, gone_held, gone_slots, has_from_stock, length-gone, named, text_held-found}
+use Rattle.ad_store.proofs.EndLemmas.{ends-without}
 use Rattle.ad_store.proofs.store.Store.withdraw.Goals as goal
 
 pub returns-in_default-clause-none : goal.returns-in_default-clause-none
@@ -31,6 +32,7 @@ invariant_of-self c =
       counted = omega (arith, old.counted, total, ap text_held left);
       within = omega (arith, old.within);
       few = omega (arith, old.few, ap length c.shift_remove.ensures.entries, length-gone (named c.args.name.now) old.names.entries);
+      due = subst (EndFrom old.soonest) (sym left) (ends-without old.soonest c.args.name.now (adverts old.table old.names.entries) old.due);
     }
 
 pub returns-clause-held : goal.returns-clause-held

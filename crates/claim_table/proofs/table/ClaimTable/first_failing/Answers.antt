@@ -4,9 +4,9 @@ use Rattle.ad_tree.specs.Ad.{ad_frames}
 use Rattle.ad_store.specs.Store.{stock_of}
 use Rattle.eval_scope.specs.Shown.{world_of}
 use Rattle.eval_scope.specs.World.{PlainWorld}
-use Rattle.bilateral_match.specs.Docks.{is_last_decided, last_ad}
-use Rattle.bilateral_match.proofs.DockingLemmas.{ad-looked, dock-next, docked-few, last-docked}
-use Rattle.bilateral_match.proofs.SmallLemmas.{slots-small}
+use Rattle.dock_match.specs.Docks.{is_last_decided, last_ad}
+use Rattle.dock_match.proofs.DockingLemmas.{ad-looked, dock-next, docked-few, last-docked}
+use Rattle.dock_match.proofs.SmallLemmas.{slots-small}
 use Rattle.claim_table.specs.Claims.{entered_in, passes, world_at}
 use Rattle.claim_table.specs.Settings.{settings_of}
 use Rattle.claim_table.specs.Table.{jobs_of}

@@ -3,9 +3,9 @@ use Rattle.ad_tree.specs.Ad.{ad_frames}
 use Rattle.ad_tree.specs.Small.{IsSmall}
 use Rattle.ad_store.specs.Store.{stock_of}
 use Rattle.eval_scope.specs.Shown.{world_of}
-use Rattle.bilateral_match.specs.Docks.{is_last_decided}
-use Rattle.bilateral_match.specs.Pool.{slots_world}
-use Rattle.bilateral_match.specs.Small.{AreSmallAds}
+use Rattle.dock_match.specs.Docks.{is_last_decided}
+use Rattle.dock_match.specs.Pool.{slots_world}
+use Rattle.dock_match.specs.Small.{AreSmallAds}
 use Rattle.claim_table.specs.Claims.{entered_in, passes, world_at}
 use Rattle.claim_table.specs.Settings.{settings_of}
 use Rattle.claim_table.specs.Small.{AreSmallJobs}

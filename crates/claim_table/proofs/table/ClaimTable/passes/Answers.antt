@@ -3,8 +3,8 @@ use Rattle.ad_tree.specs.Ad.{ad_frames}
 use Rattle.ad_store.specs.Store.{stock_of}
 use Rattle.eval_scope.specs.Shown.{world_of}
 use Rattle.conjunct_plan.specs.Tests.{labels_of}
-use Rattle.bilateral_match.specs.Docks.{is_last_decided}
-use Rattle.bilateral_match.proofs.MetLemmas.{none-undecided, some-undecided}
+use Rattle.dock_match.specs.Docks.{is_last_decided}
+use Rattle.dock_match.proofs.MetLemmas.{none-undecided, some-undecided}
 use Rattle.claim_table.specs.Settings.{settings_of}
 use Rattle.claim_table.specs.Table.{jobs_of}
 use Rattle.claim_table.proofs.PassingLemmas.{decided-fails, decided-here, docked-wins, entered-open, frame-here, open-here, undocked-fails}

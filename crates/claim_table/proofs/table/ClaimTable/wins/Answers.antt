@@ -8,9 +8,9 @@ use Rattle.ad_store.specs.Holdings.{Holding}
 use Rattle.ad_store.specs.Store.{stock_of}
 use Rattle.eval_scope.specs.Shown.{world_of}
 use Rattle.eval_scope.specs.World.{attribute_count}
-use Rattle.bilateral_match.specs.Pool.{holder_world}
-use Rattle.bilateral_match.proofs.MemberWeighLemmas.{holder-stands, holder-stored}
-use Rattle.bilateral_match.proofs.SmallLemmas.{holder-small}
+use Rattle.dock_match.specs.Pool.{holder_world}
+use Rattle.dock_match.proofs.PreemptionLemmas.{holder-stands, holder-stored}
+use Rattle.dock_match.proofs.SmallLemmas.{holder-small}
 use Rattle.claim_table.specs.Holders.{holder_of}
 use Rattle.claim_table.specs.Settings.{settings_of}
 use Rattle.claim_table.specs.Table.{jobs_of}

@@ -1,6 +1,8 @@
-use Rattle.std.proofs.Common.{length, sym, ◌∙◌, ap, arith}
+use Rattle.std.proofs.Common.{length, map, sym, ◌∙◌, ap, arith}
+use Rattle.claim_table.specs.Table.{jobs_of}
 use Rattle.pool_state.specs.Books.{queue_of}
 use Rattle.pool_state.specs.Indexed.{ads_of}
+use Rattle.pool_state.specs.Pool.{queued}
 use Rattle.pool_state.specs.Step.{has_expired}
 use Rattle.pool_state.proofs.AdLemmas.{live-le}
 use Rattle.pool_state.proofs.ExpiryLemmas.{expired-none, left-none}
@@ -14,4 +16,5 @@ pub returns-clause-jobs : goal.returns-clause-jobs
 returns-clause-jobs g c =
     let now = c.args.now in
     let ads = ads_of c.loop-slot.self.ads in
-    sym (left-none (has_expired now ads) (queue_of c.loop-slot.self) (expired-none now ads c.in_default.ensures.all_live)) ∙ c.loop-slot.invariant.jobs
+    ap (λ stock. map (queued stock) (jobs_of c.loop-slot.self.claims)) c.note_soonest.ensures
+    ∙ sym (left-none (has_expired now ads) (queue_of c.loop-slot.self) (expired-none now ads c.in_default.ensures.all_live)) ∙ c.loop-slot.invariant.jobs

@@ -4,7 +4,7 @@ use Rattle.ad_tree.specs.Ad.{ad_frames}
 use Rattle.ad_store.specs.Stock.{Advert, Stock}
 use Rattle.ad_store.specs.Store.{stock_of}
 use Rattle.literal_index.specs.Shown.{IsKept}
-use Rattle.bilateral_match.specs.Rows.{rows_of}
+use Rattle.ad_candidates.specs.Rows.{rows_of}
 use Rattle.pool_state.specs.Stocks.{stock_without}
 use Rattle.pool_state.proofs.AdLemmas.{stock-length}
 use Rattle.pool_state.proofs.IndexLemmas.{others_kept, remembered}

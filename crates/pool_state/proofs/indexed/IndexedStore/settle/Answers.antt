@@ -1,7 +1,7 @@
 use Rattle.std.proofs.Math.Logic.{∥∥₁_elim, ∥∥₁_map}
 use Rattle.std.proofs.Props.{props}
 use Rattle.ad_store.specs.Store.{stock_of}
-use Rattle.bilateral_match.specs.Rows.{rows_of}
+use Rattle.ad_candidates.specs.Rows.{rows_of}
 use Rattle.pool_state.proofs.LossLemmas.{on_ok}
 use Rattle.pool_state.proofs.indexed.IndexedStore.settle.Goals as goal
 

@@ -1,0 +1,5 @@
+mod KnownPlaceLemmas
+mod KnownTestsLemmas
+mod NarrowLemmas
+pub mod PlaceLemmas
+pub mod RowLemmas

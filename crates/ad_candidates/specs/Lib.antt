@@ -1,0 +1,4 @@
+pub mod Candidates
+pub mod Counts
+pub mod KnownTests
+pub mod Rows

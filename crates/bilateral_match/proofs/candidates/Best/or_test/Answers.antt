@@ -1,6 +1,0 @@
-use Rattle.bilateral_match.proofs.NarrowLemmas.{not-better}
-use Rattle.bilateral_match.proofs.candidates.Best.or_test.Goals as goal
-
-pub returns-then-leaves : goal.returns-then-leaves
-returns-then-leaves c =
-    λ stock same index known. not-better stock.ads stock.slots c.args.self c.args.test same (c.leaves.ensures c.if-leaves.true stock.ads known)

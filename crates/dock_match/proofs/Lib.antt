@@ -1,0 +1,8 @@
+mod ConjunctLemmas
+pub mod DecidedLemmas
+pub mod DockingLemmas
+pub mod FindLemmas
+pub mod MetLemmas
+pub mod PreemptionLemmas
+pub mod SmallLemmas
+mod TestLemmas

@@ -160,7 +160,7 @@ class Build:
     def why(self, status):
         """What stopped the gate, in one sentence; a refusal of the checker is shown as it stands."""
         said = "".join(self.text)
-        if "No space left" in said or "the disk is full" in said or shutil.disk_usage(TOP).free < 200_000_000:
+        if "No space left" in said or "the disk is full" in said or any(shutil.disk_usage(it).free < 200_000_000 for it in (TOP, self.room)):
             return f"the disk is full: make room, and start again; {KEPT}"
         if status < 0 or "killed" in said:
             return f"a proof was killed, most likely for memory: end other programs, and start again; {KEPT}"

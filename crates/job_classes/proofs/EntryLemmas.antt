@@ -1,15 +1,16 @@
 -- Entries and classes, one by one.
-use Rattle.std.proofs.Common.{◌≡◌, ◌≤◌, ◌<◌, ℕ, zero, suc, ◌+◌, Bool, true, false, ◌&&◌, cond, List, [], ◌∷◌, ◌++◌, length, get_or, map, take, drop, bytes_eq, Option, None, Some, option_map, slice_get, refl, sym, ◌∙◌, ap, arith, append_assoc}
+use Rattle.std.proofs.Common.{◌≡◌, ◌≤◌, ◌<◌, ℕ, zero, suc, ◌+◌, Bool, true, false, ◌&&◌, cond, List, [], ◌∷◌, ◌++◌, length, get_or, map, take, drop, bytes_eq, Option, None, Some, option_map, slice_get, refl, sym, ◌∙◌, ap, arith}
 use Rattle.std.specs.List.{cons_option, filter_map}
 use Rattle.std.specs.Ordering.{is_lt, nat_cmp}
 use Rattle.std.specs.Cmp.Lexicographic.{slice_cmp}
 use Rattle.ad_tree.specs.Frames.{Frame, attributes_at}
 use Rattle.ad_tree.specs.Names.{has_name}
 use Rattle.ad_tree.specs.Tree.{Tree}
+use Rattle.significant_attrs.specs.Marking.{reached_marks}
+use Rattle.significant_attrs.specs.Reach.{reached_from}
+use Rattle.significant_attrs.proofs.AddLemmas.{drop-next}
 use Rattle.job_classes.specs.Classes.{has_key, joined, number_of, same_key}
 use Rattle.job_classes.specs.Keys.{Entry, arranged, entered, entry_of, key_from}
-use Rattle.job_classes.specs.Marking.{first_attributes, reached_marks}
-use Rattle.job_classes.specs.Reach.{reached_from}
 use Rattle.job_classes.specs.Shown.{marked_entries, place_among}
 
 -- ---- where an entry goes
@@ -42,13 +43,6 @@ key-marked first request marks is =
     ∙ ap (arranged []) (marked-entries request (λ a. has_name a.0 (reached_from first request)) (attributes_at request 0))
 
 -- the entries of what is left, behind one attribute
-drop-here : {A : Type 0} (xs : List A) (i : ℕ) (x : A) → slice_get xs i ≡ Some x → drop i xs ≡ x ∷ drop (i + 1) xs
-drop-here [] i x e = absurd (cc)
-drop-here (y ∷ xs) zero x e = let same : y ≡ x = cc in ap (λ z. z ∷ xs) same
-drop-here (y ∷ xs) (suc i) x e =
-    let n : suc i + 1 ≡ suc (i + 1) = omega arith in
-    drop-here xs i x e ∙ ap (λ m. x ∷ drop m (y ∷ xs)) (sym n)
-
 mark-there : (marks : List Bool) (k : ℕ) (b d : Bool) → k < length marks → get_or marks k d ≡ b → slice_get marks k ≡ Some b
 mark-there [] k b d low e = absurd (omega (arith, low))
 mark-there (m ∷ marks) zero b d low e = ap Option.Some e
@@ -64,8 +58,8 @@ entry-added request marks attributes k d e done done2 whole low mark is grown so
     by (Some a) at h =
         let same : entry_of request a ≡ e = cc (h) in
         ap (λ l. arranged l (marked_entries request (drop (k + 1) marks) (drop (k + 1) attributes))) (grown ∙ ap (λ x. entered x done) (sym same))
-        ∙ sym (ap (λ l. arranged done (marked_entries request l (drop k attributes))) (drop-here marks k true (mark-there marks k true d low mark))
-        ∙ ap (λ l. arranged done (marked_entries request (true ∷ drop (k + 1) marks) l)) (drop-here attributes k a at))
+        ∙ sym (ap (λ l. arranged done (marked_entries request l (drop k attributes))) (drop-next marks k true (mark-there marks k true d low mark))
+        ∙ ap (λ l. arranged done (marked_entries request (true ∷ drop (k + 1) marks) l)) (drop-next attributes k a at))
         ∙ so_far
 
 pub entry-passed : (request : List Frame) (marks : List Bool) (attributes : List (List ℕ × Tree)) (k : ℕ) (d : Bool) (done done2 whole : List Entry)
@@ -82,30 +76,8 @@ entry-passed request marks attributes k d done done2 whole low many mark same so
     by None at = absurd (omega (arith, low, many, none attributes k at))
     by (Some a) at =
         ap (λ l. arranged l (marked_entries request (drop (k + 1) marks) (drop (k + 1) attributes))) same
-        ∙ sym (ap (λ l. arranged done (marked_entries request l (drop k attributes))) (drop-here marks k false (mark-there marks k false d low mark))
-        ∙ ap (λ l. arranged done (marked_entries request (false ∷ drop (k + 1) marks) l)) (drop-here attributes k a at))
-        ∙ so_far
-
--- the names of the root that are among the first, likewise
-pub first-added : (first : List (List ℕ)) (attributes : List (List ℕ × Tree)) (k : ℕ) (n : List ℕ) (b : Bool) (names names2 whole : List (List ℕ))
-    → option_map (λ a. a.0) (slice_get attributes k) ≡ Some n → has_name n first ≡ b → names2 ≡ cond b (names ++ n ∷ []) names
-    → names ++ first_attributes first (drop k attributes) ≡ whole → names2 ++ first_attributes first (drop (k + 1) attributes) ≡ whole
-first-added first attributes k n b names names2 whole is test grown so_far = by (slice_get attributes k) refl is
-  where
-    turn : (a : List ℕ × Tree) → a.0 ≡ n → (c : Bool) → has_name a.0 first ≡ c → names2 ≡ cond c (names ++ n ∷ []) names
-        → names2 ++ first_attributes first (drop (k + 1) attributes) ≡ names ++ cond c (a.0 ∷ first_attributes first (drop (k + 1) attributes)) (first_attributes first (drop (k + 1) attributes))
-    turn a same true t g =
-        ap (λ l. l ++ first_attributes first (drop (k + 1) attributes)) g
-        ∙ append_assoc names (n ∷ []) (first_attributes first (drop (k + 1) attributes))
-        ∙ ap (λ m. names ++ (m ∷ first_attributes first (drop (k + 1) attributes))) (sym same)
-    turn a same false t g = ap (λ l. l ++ first_attributes first (drop (k + 1) attributes)) g
-
-    by : (o : Option (List ℕ × Tree)) → slice_get attributes k ≡ o → option_map (λ a. a.0) o ≡ Some n → names2 ++ first_attributes first (drop (k + 1) attributes) ≡ whole
-    by None at h = absurd (cc (h))
-    by (Some a) at h =
-        let same : a.0 ≡ n = cc (h) in
-        turn a same (has_name a.0 first) refl (grown ∙ ap (λ c. cond c (names ++ n ∷ []) names) (sym test ∙ ap (λ m. has_name m first) (sym same)))
-        ∙ ap (λ l. names ++ first_attributes first l) (sym (drop-here attributes k a at))
+        ∙ sym (ap (λ l. arranged done (marked_entries request l (drop k attributes))) (drop-next marks k false (mark-there marks k false d low mark))
+        ∙ ap (λ l. arranged done (marked_entries request (false ∷ drop (k + 1) marks) l)) (drop-next attributes k a at))
         ∙ so_far
 
 -- keys of different lengths differ

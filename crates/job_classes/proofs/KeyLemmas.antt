@@ -1,14 +1,12 @@
 -- What stands in keys, and that requests with equal keys have the same trees under the names that are reached.
-use Rattle.std.proofs.Common.{◌≡◌, ◌≤◌, ◌<◌, ℕ, zero, suc, ◌+◌, Bool, true, false, cond, true≢false, List, [], ◌∷◌, length, get_or, map, position, Option, None, Some, slice_get, Contains, Ok, refl, sym, ◌∙◌, ap, subst, arith, ◌⊎◌, inl, inr}
+use Rattle.std.proofs.Common.{◌≡◌, ◌≤◌, ◌<◌, ℕ, zero, suc, ◌+◌, Bool, true, false, cond, List, [], ◌∷◌, length, get_or, position, Option, None, Some, slice_get, Contains, Ok, refl, sym, ◌∙◌, ap, subst, arith, ◌⊎◌, inl, inr}
 use Rattle.std.specs.Prelude.{◌↔◌}
-use Rattle.std.specs.List.{cons_option, flat_map, position_or_len, filter_map}
+use Rattle.std.specs.List.{cons_option, flat_map, filter_map}
 use Rattle.std.specs.Ordering.{is_lt, nat_cmp}
 use Rattle.std.specs.Cmp.Lexicographic.{slice_cmp}
-use Rattle.std.proofs.lemmas.Grind.{common_steps}
 use Rattle.std.proofs.lemmas.List.{length-map}
 use Rattle.std.proofs.lemmas.List.Elements.{Contains-append_left, Contains-append_right}
 use Rattle.std.proofs.lemmas.List.Quantifiers.{position-Some}
-use Rattle.std.proofs.lemmas.List.Sums.{fails_before_first}
 use Rattle.pool_text.specs.Folding.{folded}
 use Rattle.builtin_funcs.proofs.AlikeLemmas.{Both, both_none, both_some}
 use Rattle.ad_tree.specs.declared.ad.Ad.{Ad}
@@ -18,22 +16,47 @@ use Rattle.ad_tree.specs.Inline.{Inline, inner, Defs, no_defs, def, count, count
 use Rattle.ad_tree.specs.Names.{are_apart, has_name, same_name}
 use Rattle.ad_tree.specs.Tree.{Tree}
 use Rattle.ad_tree.proofs.InlineLemmas.{length-frames, names-attributes_from}
-use Rattle.ad_tree.proofs.NameLemmas.{both_left, both_right, not_true, same_folded_form}
+use Rattle.ad_tree.proofs.NameLemmas.{same_folded_form}
 use Rattle.ad_tree.proofs.SpellingLemmas.{Stand, Stand-behind, as_it_is, map-as_it_is, plain-number, spelled-frames}
 use Rattle.ad_grammar.specs.Made.{IsMade, DefsMade}
 use Rattle.ad_parser.specs.Answers.{AnswersAd}
 use Rattle.ad_parser.specs.Limits.{height_limit}
 use Rattle.ad_parser.proofs.KeptLemmas.{ad_answer-made, ad_answer-within}
 use Rattle.ad_printer.specs.Printed.{printed}
+use Rattle.significant_attrs.specs.Matched.{AreMatchedAlike, docked_to}
+use Rattle.significant_attrs.specs.Names.{weighed_names, asked_by, needed_in}
+use Rattle.significant_attrs.specs.Reach.{IsReached, is_first, is_needed, first_names, reached_from}
+use Rattle.significant_attrs.proofs.ContainLemmas.{contains_at, contains_cases, contains_first, contains_later, contains_none, named-one, same_name-folded}
+use Rattle.significant_attrs.proofs.DockedLemmas.{both_along}
+use Rattle.significant_attrs.proofs.ReachLemmas.{flat_map-names, list_is_least, listed-along}
 use Rattle.job_classes.specs.Keys.{Entry, IsEntry, arranged, entered, entries, entry_of, key_from, key_of}
-use Rattle.job_classes.specs.Marking.{reached_marks}
-use Rattle.job_classes.specs.Matched.{AreMatchedAlike, docked_to}
-use Rattle.job_classes.specs.Names.{weighed_names, asked_by, needed_in}
-use Rattle.job_classes.specs.Reach.{IsReached, is_first, is_needed, first_names, reached_from}
-use Rattle.job_classes.proofs.ContainLemmas.{contains_at, contains_cases, contains_filter_map, contains_first, contains_later, contains_none, filter_map_contains, has_name-listed, listed-has_name, same_name-folded}
-use Rattle.job_classes.proofs.ReachLemmas.{list_is_least}
-use Rattle.job_classes.proofs.DockedLemmas.{both_along}
 use Rattle.job_classes.proofs.SitsLemmas.{IsDefAt, Origin, def_at-stands, told-alike}
+
+-- ---- what filtered lists contain
+
+pub contains_filter_map : {A B : Type 0} (f : A → Option B) (xs : List A) (x : A) (y : B) → Contains xs x → f x ≡ Some y → Contains (filter_map f xs) y
+contains_filter_map f [] x y h e = absurd (contains_none x h)
+contains_filter_map f (a ∷ xs) x y h e = by (contains_filter_map f xs x y) (f a) refl (contains_cases a xs x h)
+  where
+    by : (Contains xs x → f x ≡ Some y → Contains (filter_map f xs) y) → (o : Option _) → f a ≡ o → (a ≡ x) ⊎ Contains xs x → Contains (cons_option o (filter_map f xs)) y
+    by rest None is (inl same) = absurd (cc (is, e, ap f same))
+    by rest None is (inr later) = rest later e
+    by rest (Some b) is (inl same) = let equal : b ≡ y = cc (is, e, ap f same) in subst (λ c. Contains (b ∷ filter_map f xs) c) equal (contains_first b (filter_map f xs))
+    by rest (Some b) is (inr later) = contains_later b (filter_map f xs) y (rest later e)
+
+pub filter_map_contains : {A B : Type 0} (f : A → Option B) (xs : List A) (y : B) → Contains (filter_map f xs) y → (x : A) × Contains xs x × (f x ≡ Some y)
+filter_map_contains f [] y h = absurd (contains_none y h)
+filter_map_contains f (a ∷ xs) y h = by (filter_map_contains f xs y) (f a) refl h
+  where
+    later : (x : _) × Contains xs x × (f x ≡ Some y) → (x : _) × Contains (a ∷ xs) x × (f x ≡ Some y)
+    later found = (found.0, contains_later a xs found.0 found.1, found.2)
+
+    by : (Contains (filter_map f xs) y → (x : _) × Contains xs x × (f x ≡ Some y)) → (o : Option _) → f a ≡ o → Contains (cons_option o (filter_map f xs)) y → (x : _) × Contains (a ∷ xs) x × (f x ≡ Some y)
+    by rest None is k = later (rest k)
+    by rest (Some b) is k = elim (contains_cases b (filter_map f xs) y k) [
+      | inl same ↦ (a, contains_first a xs, is ∙ ap Option.Some same)
+      | inr more ↦ later (rest more)
+    ]
 
 -- ---- entries in order
 
@@ -118,45 +141,6 @@ module _ (first : List (List ℕ)) (request : List Frame) where
 
   pub key_has_entries : (e : Entry) → Contains (key_from first request) e ↔ IsEntry first request e
   key_has_entries e = (key-entry e, entry-key e)
-
--- ---- names that are apart
-
-apart-one : (ns : List (List ℕ)) (k l : ℕ) (d : List ℕ) → are_apart ns ≡ true → k < length ns → l < length ns → folded (get_or ns k d) ≡ folded (get_or ns l d) → k ≡ l
-apart-one [] k l d apart low other same = absurd (omega (arith, low))
-apart-one (n ∷ ns) zero zero d apart low other same = refl
-apart-one (n ∷ ns) zero (suc l) d apart low other same =
-    absurd (true≢false (sym (listed-has_name n ns (get_or ns l d) (within ns l (omega (arith, other))) (sym same)) ∙ not_true (has_name n ns) (both_left _ _ apart)))
-  where
-    within : (ms : List (List ℕ)) (j : ℕ) → j < length ms → Contains ms (get_or ms j d)
-    within ms j h = contains_get ms j h
-      where
-        contains_get : (xs : List (List ℕ)) (i : ℕ) → i < length xs → Contains xs (get_or xs i d)
-        contains_get [] i g = absurd (omega (arith, g))
-        contains_get (x ∷ xs) zero g = contains_first x xs
-        contains_get (x ∷ xs) (suc i) g = contains_later x xs (get_or xs i d) (contains_get xs i (omega (arith, g)))
-apart-one (n ∷ ns) (suc k) zero d apart low other same =
-    absurd (true≢false (sym (listed-has_name n ns (get_or ns k d) (within ns k (omega (arith, low))) same) ∙ not_true (has_name n ns) (both_left _ _ apart)))
-  where
-    within : (xs : List (List ℕ)) (i : ℕ) → i < length xs → Contains xs (get_or xs i d)
-    within [] i g = absurd (omega (arith, g))
-    within (x ∷ xs) zero g = contains_first x xs
-    within (x ∷ xs) (suc i) g = contains_later x xs (get_or xs i d) (within xs i (omega (arith, g)))
-apart-one (n ∷ ns) (suc k) (suc l) d apart low other same = ap suc (apart-one ns k l d (both_right _ _ apart) (omega (arith, low)) (omega (arith, other)) same)
-
-passed : (p : List ℕ → Bool) (ns : List (List ℕ)) (k : ℕ) (d : List ℕ) → position p ns ≡ None → k < length ns → p (get_or ns k d) ≡ false
-passed p ns k d none less =
-    let all : length ns ≤ position_or_len p ns = grind (arith, common_steps) in
-    fails_before_first p ns k d (omega (arith, all, less))
-
--- a name stands where an equal one does
-pub named-one : (x : List ℕ) (ns : List (List ℕ)) (k : ℕ) → are_apart ns ≡ true → k < length ns → same_name x (get_or ns k []) ≡ true → position (same_name x) ns ≡ Some k
-named-one x ns k apart low same = by (position (same_name x) ns) refl
-  where
-    by : (o : Option ℕ) → position (same_name x) ns ≡ o → o ≡ Some k
-    by None at = absurd (true≢false (sym same ∙ passed (same_name x) ns k [] at low))
-    by (Some l) at =
-        let found = position-Some (same_name x) ns l [] at in
-        ap Option.Some (apart-one ns l k [] apart found.0 low (sym (same_folded_form x (get_or ns l []) found.1) ∙ same_folded_form x (get_or ns k []) same))
 
 -- ---- the definition at a place
 
@@ -329,15 +313,6 @@ parsed-ad text ad answer =
       };
     }
 
--- the names of an ad are among those from which it goes on
-pub flat_map-names : (ads : List (List Frame)) (ad : List Frame) (y : List ℕ) → Contains ads ad → Contains (asked_by ad) y → Contains (flat_map asked_by ads) y
-flat_map-names [] ad y c h = absurd (contains_none ad c)
-flat_map-names (a ∷ ads) ad y c h = by (flat_map-names ads ad y) (contains_cases a ads ad c)
-  where
-    by : (Contains ads ad → Contains (asked_by ad) y → Contains (flat_map asked_by ads) y) → (a ≡ ad) ⊎ Contains ads ad → Contains (flat_map asked_by (a ∷ ads)) y
-    by rest (inl same) = Contains-append_left (asked_by a) (flat_map asked_by ads) y (subst (λ x. Contains (asked_by x) y) (sym same) h)
-    by rest (inr later) = Contains-append_right (asked_by a) (flat_map asked_by ads) y (rest later h)
-
 -- the law on two requests that parses gave
 pub equal_keys-alike : ((x y : Inline) → IsMade x → IsMade y → height x ≤ height_limit → height y ≤ height_limit → printed x ≡ printed y → x ≡ y)
     → (text other_text : List ℕ) (one other : Ad) (ads : List (List Frame)) (ad : List Frame) (moment : ℕ)
@@ -355,21 +330,6 @@ equal_keys-alike injective text other_text one other ads ad moment answer other_
 
 -- ---- the same names in another order
 
-reached-along : (first other : List (List ℕ)) → ((x : List ℕ) → has_name x first ≡ has_name x other) → (request : List Frame) {z : List ℕ} → IsReached first request z → IsReached other request z
-reached-along first other same request (is_first x c) =
-    let found = has_name-listed x other (sym (same x) ∙ listed-has_name x first x c refl) in
-    subst (IsReached other request) found.2 (is_first found.0 found.1)
-reached-along first other same request (is_needed a y stands reached needs) = is_needed a y stands (reached-along first other same request reached) needs
-
-listed-along : (first other : List (List ℕ)) → ((x : List ℕ) → has_name x first ≡ has_name x other) → (request : List Frame) (x : List ℕ) → has_name x (reached_from first request) ≡ has_name x (reached_from other request)
-listed-along first other same request x = by (has_name x (reached_from first request)) refl (has_name x (reached_from other request)) refl
-  where
-    by : (a : Bool) → has_name x (reached_from first request) ≡ a → (b : Bool) → has_name x (reached_from other request) ≡ b → a ≡ b
-    by true h true g = refl
-    by false h false g = refl
-    by true h false g = absurd (true≢false (sym ((list_is_least other request x).1 (reached-along first other same request ((list_is_least first request x).0 h))) ∙ g))
-    by false h true g = absurd (true≢false (sym ((list_is_least first request x).1 (reached-along other first (λ y. sym (same y)) request ((list_is_least other request x).0 g))) ∙ h))
-
 entries-along : (names others : List (List ℕ)) (request : List Frame) → ((x : List ℕ) → has_name x names ≡ has_name x others) → (attributes : List (List ℕ × Tree))
     → filter_map (λ a. cond (has_name a.0 names) (Some (entry_of request a)) None) attributes ≡ filter_map (λ a. cond (has_name a.0 others) (Some (entry_of request a)) None) attributes
 entries-along names others request same [] = refl
@@ -380,13 +340,3 @@ entries-along names others request same (a ∷ rest) =
 pub keys-alike : (first other : List (List ℕ)) → ((x : List ℕ) → has_name x first ≡ has_name x other) → (request : List Frame) → key_from first request ≡ key_from other request
 keys-alike first other same request =
     ap (arranged []) (entries-along (reached_from first request) (reached_from other request) request (listed-along first other same request) (attributes_at request 0))
-
-marks-along-of : (names others : List (List ℕ)) → ((x : List ℕ) → has_name x names ≡ has_name x others) → (attributes : List (List ℕ × Tree))
-    → map (λ (a : List ℕ × Tree). has_name a.0 names) attributes ≡ map (λ (a : List ℕ × Tree). has_name a.0 others) attributes
-marks-along-of names others same [] = refl
-marks-along-of names others same (a ∷ rest) =
-    ap (λ b. b ∷ map (λ (c : List ℕ × Tree). has_name c.0 names) rest) (same a.0)
-    ∙ ap (λ bs. has_name a.0 others ∷ bs) (marks-along-of names others same rest)
-
-pub marks-along : (first other : List (List ℕ)) → ((x : List ℕ) → has_name x first ≡ has_name x other) → (request : List Frame) → reached_marks first request ≡ reached_marks other request
-marks-along first other same request = marks-along-of (reached_from first request) (reached_from other request) (listed-along first other same request) (attributes_at request 0)

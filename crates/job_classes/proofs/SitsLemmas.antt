@@ -19,10 +19,10 @@ use Rattle.ad_tree.proofs.SpellingLemmas.{Stand, Stand-left, Stand-right, as_it_
 use Rattle.eval_scope.specs.Look.{attribute_in, enclosing, first_found, found_attribute}
 use Rattle.eval_scope.specs.World.{PlainWorld, expr_of, frame_of_attribute, size_at}
 use Rattle.eval_scope.proofs.LookLemmas.{AreLower}
-use Rattle.job_classes.specs.Matched.{AreMatchedAlike, docked_to}
-use Rattle.job_classes.specs.Names.{weighed_names, asked_by, needed_at, needed_in, needed_in_all, needed_in_defs}
-use Rattle.job_classes.proofs.DockedLemmas.{AreBeside, both_along, both_equal, both_weaker, expr-itself, finds-resource, first-root, label-request, matched-alike, upwards}
-use Rattle.job_classes.proofs.WorldLemmas.{AreTwinWorlds, Finds, finds_along, finds_both, finds_else, TreeAlike, nodes, frames_alike, TreesAlike, no_trees, more_trees}
+use Rattle.significant_attrs.specs.Matched.{AreMatchedAlike, docked_to}
+use Rattle.significant_attrs.specs.Names.{weighed_names, asked_by, needed_at, needed_in, needed_in_all, needed_in_defs}
+use Rattle.significant_attrs.proofs.DockedLemmas.{AreBeside, both_along, both_equal, both_weaker, expr-itself, finds-resource, first-root, label-request, matched-alike, upwards}
+use Rattle.significant_attrs.proofs.WorldLemmas.{AreTwinWorlds, Finds, finds_along, finds_both, finds_else, TreeAlike, nodes, frames_alike, TreesAlike, no_trees, more_trees}
 
 -- ---- the definitions of a root, each with the number from which its frames are numbered
 

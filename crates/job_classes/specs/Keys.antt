@@ -9,7 +9,7 @@ use Rattle.ad_tree.specs.Names.{has_name}
 use Rattle.ad_tree.specs.Frames.{Frame, attributes_at}
 use Rattle.ad_tree.specs.Inline.{spelled_tree}
 use Rattle.ad_printer.specs.Printed.{printed}
-use Rattle.job_classes.specs.Reach.{IsReached, first_names, reached_from}
+use Rattle.significant_attrs.specs.Reach.{IsReached, first_names, reached_from}
 
 -- an entry: a folded name and a text
 abbrev pub Entry : Type 0

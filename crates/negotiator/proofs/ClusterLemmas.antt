@@ -17,9 +17,9 @@ use Rattle.claim_table.specs.declared.job.Stage.{Stage}
 use Rattle.claim_table.specs.Holders.{holder_of}
 use Rattle.claim_table.specs.Jobs.{offered_to, with_standing}
 use Rattle.claim_table.specs.Priorities.{Setting}
-use Rattle.job_classes.specs.declared.reach.Reach.{Reach}
-use Rattle.job_classes.specs.Shown.{HasReadAds, ads_in}
-use Rattle.job_classes.specs.Twins.{AreAllMarked, AreTwins}
+use Rattle.significant_attrs.specs.declared.reach.Reach.{Reach}
+use Rattle.significant_attrs.specs.Shown.{HasReadAds, ads_in}
+use Rattle.significant_attrs.specs.Twins.{AreAllMarked, AreTwins}
 use Rattle.negotiator.specs.declared.class.Class.{Class}
 use Rattle.negotiator.specs.declared.class.Ranked.{Ranked}
 use Rattle.negotiator.specs.declared.clusters.Clusters.{Clusters}

@@ -9,8 +9,8 @@ use Rattle.claim_table.specs.declared.job.Job.{Job}
 use Rattle.claim_table.specs.Holders.{holder_of}
 use Rattle.claim_table.specs.Jobs.{offered_to}
 use Rattle.claim_table.specs.Priorities.{Setting}
-use Rattle.job_classes.specs.Shown.{HasReadAds, ads_in}
-use Rattle.job_classes.specs.Twins.{AreAllMarked}
+use Rattle.significant_attrs.specs.Shown.{HasReadAds, ads_in}
+use Rattle.significant_attrs.specs.Twins.{AreAllMarked}
 use Rattle.negotiator.specs.declared.class.Class.{Class}
 use Rattle.negotiator.specs.declared.class.Ranked.{Ranked}
 use Rattle.negotiator.specs.declared.clusters.Clusters.{Clusters}

@@ -14,7 +14,7 @@ use Rattle.ad_eval.specs.Chain.{chained, is_decided, joined}
 use Rattle.ad_eval.specs.declared.scene.Scene.{Scene as TheScene}
 use Rattle.ad_eval.specs.Node.{called, conditional, function_value}
 use Rattle.ad_eval.specs.Scene.{results_in, values_in, world_in}
-use Rattle.ad_eval.proofs.NodeLemmas.{all_demanded-end, all_demanded-next, conjunction-decided, conjunction-next, disjunction-decided, disjunction-next, values_and}
+use Rattle.ad_eval.proofs.NodeLemmas.{all_demanded-end, all_demanded-next, conjunction-decided, conjunction-next, disjunction-decided, disjunction-next, listed-next, values_and}
 use Rattle.ad_eval.proofs.SceneLemmas.{results-more, results-none}
 
 -- the results from a place of a list on
@@ -35,6 +35,9 @@ module _ (s : TheScene) (ts : List Tree) (i : ℕ) (t : Tree) (at : slice_get ts
   pub all_demanded-from : (vs : List Plain) → values_and vs (all_demanded (results_in s (pack (drop i ts)) n)) ≡ option_and_then (λ p. values_and (vs ++ p ∷ []) (all_demanded (results_in s (pack (drop (i + 1) ts)) n))) (values_in s t n)
   all_demanded-from vs = ap (λ rs. values_and vs (all_demanded rs)) results-from ∙ all_demanded-next vs (values_in s t n) (results_in s (pack (drop (i + 1) ts)) n)
 
+  pub listed-from : (value : List Plain → Plain) → option_map value (all_demanded (results_in s (pack (drop i ts)) n)) ≡ option_and_then (λ p. option_map (λ ps. value (p ∷ ps)) (all_demanded (results_in s (pack (drop (i + 1) ts)) n))) (values_in s t n)
+  listed-from value = ap (λ rs. option_map value (all_demanded rs)) results-from ∙ listed-next value (values_in s t n) (results_in s (pack (drop (i + 1) ts)) n)
+
 -- nothing is left behind the end
 module _ (s : TheScene) (ts : List Tree) (i : ℕ) (past : length ts ≤ i) (n : ℕ) where
   pub results-end : results_in s (pack (drop i ts)) n ≡ []
@@ -52,6 +55,9 @@ module _ (s : TheScene) (ts : List Tree) (i : ℕ) (past : length ts ≤ i) (n :
 
   pub values-end : (vs : List Plain) → values_and vs (all_demanded (results_in s (pack (drop i ts)) n)) ≡ Some vs
   values-end vs = ap (λ rs. values_and vs (all_demanded rs)) results-end ∙ all_demanded-end vs
+
+  pub listed-end : (value : List Plain → Plain) → option_map value (all_demanded (results_in s (pack (drop i ts)) n)) ≡ Some (value [])
+  listed-end value = ap (λ rs. option_map value (all_demanded rs)) results-end
 
 pub chained-decided : (kind : Chain) (v : Plain) (rs : List (Option Plain)) → is_decided kind v ≡ true → chained kind v rs ≡ Some v
 chained-decided Chain.And v rs decided = conjunction-decided v rs decided

@@ -96,10 +96,14 @@ module _ (w : PlainWorld) (left : ℕ) where
   rest_ends f g0 g g1 rest h least (Err stop) (Ok u) same p stopped wrong = absurd wrong
   rest_ends f g0 g g1 rest h least (Err stop) (Err other) same p stopped is = subst (λ z. Answers w f left g0 g1 (Err z)) (sym is) (rest_fails f g0 g g1 g1 rest h stop p stopped)
 
+  -- what is left is a value
+  pub finishes_with : (f : ℕ → Option Plain) (g0 g : Guard) (rest : ℕ → Option Plain) (h : ℕ) (v : Plain) (r : Result Outcome Stop) → IsPartly w f left g0 g rest h → ((n : ℕ) → rest n ≡ Some v) → IsApplied v h r → Answers w f left g0 g r
+  finishes_with f g0 g rest h v (Ok u) p always (value, height) = finishes f g0 g rest h u p (λ n. always n ∙ ap Some (sym value)) height
+  finishes_with f g0 g rest h v (Err stop) p always wanting = stops_wanting f g0 g stop wanting
+
   -- the whole is a value at once
   pub finishes_at_once : (f : ℕ → Option Plain) (g : Guard) (v : Plain) (r : Result Outcome Stop) → Ready w g f → ((n : ℕ) → f n ≡ Some v) → IsApplied v 0 r → Answers w f left g g r
-  finishes_at_once f g v (Ok u) ready always (value, height) = finishes f g g f 0 u (begins f f g ready (λ n. refl)) (λ n. always n ∙ ap Some (sym value)) height
-  finishes_at_once f g v (Err stop) ready always wanting = stops_wanting f g g stop wanting
+  finishes_at_once f g v r ready always is = finishes_with f g g f 0 v r (begins f f g ready (λ n. refl)) always is
 
   -- a function of the values of a list
   pub finishes_applied : (f : ℕ → Option Plain) (g0 g g1 : Guard) (q : List Plain → Plain) (a : ℕ → Option (List Plain)) (h : ℕ) (o : Several) (r : Result Outcome Stop) → IsPartly w f left g0 g (λ n. option_map q (a n)) h → AnswersAll w a left g g1 (Ok o) → IsApplied (q (plains o.values)) o.height r → h ≡ 0 → Answers w f left g0 g1 r

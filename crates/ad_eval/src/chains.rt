@@ -10,6 +10,7 @@ use crate::branch::{Branch, branch_of};
 use crate::calls::{apply_function, is_named};
 use crate::chain::Chain;
 use crate::evaluation::evaluate;
+use crate::listed::Listed;
 use crate::outcome::{Outcome, Several, at_least};
 use crate::scene::Scene;
 use crate::stop::Stop;
@@ -79,7 +80,7 @@ pub fn all_of<E: Ledger>(
     Ok(all)
 }
 
-/// A list of the values of all expressions, Error where it weighs too much.
+/// A list of the values of all expressions, Error where it weighs too much. Then no more values are gathered, but all are demanded.
 #[cycle(evaluation)]
 pub fn list_literal<E: Ledger>(
     scene: &Scene<'_>,
@@ -91,8 +92,18 @@ pub fn list_literal<E: Ledger>(
     ensures answer { Answers (world_in scene.now) (listed_in scene.now (pack (trees items.now))) scene.now.left guard.old guard.new result }
     ensures counted { Counts (world_in scene.now) entry.old entry.new guard.old guard.new }
 {
-    let all = all_of(scene, guard, entry, items)?;
-    Ok(all.listed())
+    let mut all = Listed::new(scene.alloc);
+    for i in 0..items.len() {
+        let next = match evaluate(scene, guard, entry, items.at(i)) {
+            Ok(next) => next,
+            Err(stop) => {
+                drop(all);
+                return Err(stop);
+            }
+        };
+        all = all.with(next)?;
+    }
+    all.value(scene.alloc)
 }
 
 /// `condition ? first : second`, of which one branch at most is demanded.

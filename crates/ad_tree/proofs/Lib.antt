@@ -1,6 +1,7 @@
 pub mod AdLemmas
 pub mod AttributeLemmas
 mod DifferLemmas
+pub mod DigestLemmas
 mod DraftLemmas
 pub mod FinishLemmas
 mod FrameLemmas
@@ -8,7 +9,6 @@ pub mod InlineLemmas
 pub mod Measures
 pub mod NameLemmas
 mod OrderLemmas
-mod PlaceLemmas
 pub mod PlacedLemmas
 pub mod ReadLemmas
 mod SameLemmas

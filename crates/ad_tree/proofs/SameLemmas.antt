@@ -1,7 +1,6 @@
--- Two lists, two nodes and two ads, compared part by part.
-use Rattle.std.proofs.Common.{◌≡◌, ◌<◌, ◌+◌, ℕ, zero, suc, Bool, List, [], ◌∷◌, ◌++◌, slice_get, take, Option, None, Some, refl, ap, sym, ◌∙◌, add-one}
+-- Two lists and two nodes, compared part by part.
+use Rattle.std.proofs.Common.{◌≡◌, ◌+◌, ℕ, zero, suc, Bool, List, [], ◌∷◌, ◌++◌, slice_get, take, Option, None, Some, refl, ap, sym, ◌∙◌, add-one}
 use Rattle.std.specs.Prelude.{◌↔◌, IsTrue, option_map}
-use Rattle.ad_tree.specs.Frames.{Frame, attributes_at, parent_of}
 use Rattle.ad_tree.specs.Tree.{Label, Tree, node, pack}
 
 -- ---- lists
@@ -51,14 +50,3 @@ pack-same (t ∷ ts) (u ∷ us) same =
 pub same-nodes : (label : Label) (ts us : List Tree) (answer : Bool) → IsTrue answer ↔ (ts ≡ us) → IsTrue answer ↔ (node label (pack ts) ≡ node label (pack us))
 same-nodes label ts us answer same =
     (λ yes. ap (λ (l : List Tree). node label (pack l)) (same.0 yes), λ nodes. same.1 (pack-same ts us (cc)))
-
--- ---- ads
-
--- a frame of two ads has the same attributes and the same parent
-pub record IsSameFrame (a b : List Frame) (f : ℕ) : Type 0 where
-  pub attributes : attributes_at a f ≡ attributes_at b f
-  pub parent : parent_of a f ≡ parent_of b f
-
--- so has each below a number
-abbrev pub AreAlikeBelow : List Frame → List Frame → ℕ → Type 0
-AreAlikeBelow a b n = (f : ℕ) → f < n → IsSameFrame a b f

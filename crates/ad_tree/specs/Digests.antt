@@ -1,15 +1,34 @@
 -- Digests of names, by which a frame finds its attributes.
-use Rattle.std.specs.Prelude.{ℕ, ◌+◌, ◌-◌, ◌*◌, ◌%◌, ◌^◌, List, [], ◌∷◌, length, slice_index_or}
+use Rattle.std.specs.Prelude.{ℕ, ◌+◌, ◌*◌, ◌/◌, ◌%◌, ◌^◌, List, [], ◌∷◌, bit_or}
 use Rattle.std.specs.Cmp.Lexicographic.{bytes_decides}
 use Rattle.std.specs.Hash as fed
 use Rattle.std.specs.Hash.{Alike, on_Alike, same_Alike}
+use Rattle.std.specs.Int.{w64, from_be_bytes}
 use Rattle.pool_text.specs.Folding.{folded}
 use Rattle.ad_tree.specs.Names.{same_name}
 
--- a number of 64 bits that bytes give behind those that gave h
-abbrev pub digest_from : ℕ → List ℕ → ℕ
-digest_from h [] = h
-digest_from h (b ∷ bytes) = digest_from (((h * 6364136223846793005) % (2 ^ 64) + b) % (2 ^ 64)) bytes
+-- a letter with the bit in which small letters differ from capital ones
+abbrev pub letter : ℕ → ℕ
+letter b = bit_or b 32
+
+-- the number of 64 bits that letters give behind those that gave w, the last letter lowest
+abbrev pub word_from : ℕ → List ℕ → ℕ
+word_from w [] = w
+word_from w (b ∷ bytes) = word_from (((w * 256) % (2 ^ 64) + letter b) % (2 ^ 64)) bytes
+
+-- the product of 128 bits of a multiplier and what h and w add up to
+abbrev pub product : ℕ → ℕ → ℕ
+product h w = ((h + w) % (2 ^ 64)) * 6364136223846793005
+
+-- the digest h with one word more: the halves of the product, added
+abbrev pub stirred : ℕ → ℕ → ℕ
+stirred h w = (product h w % (2 ^ 64) + product h w / (2 ^ 64)) % (2 ^ 64)
+
+-- a number of 64 bits that bytes give behind those that gave h: eight bytes are one word, and fewer at the end are too
+unfoldable pub digest_from : ℕ → List ℕ → ℕ
+digest_from h (a ∷ b ∷ c ∷ d ∷ e ∷ f ∷ g ∷ i ∷ bytes) =
+    digest_from (stirred h (from_be_bytes w64 (letter a ∷ letter b ∷ letter c ∷ letter d ∷ letter e ∷ letter f ∷ letter g ∷ letter i ∷ []))) bytes
+digest_from h bytes = stirred h (word_from 0 bytes)
 
 -- the number of a name
 abbrev pub name_digest : List ℕ → ℕ
@@ -22,15 +41,3 @@ hashed_name name = fed.u64 (name_digest name)
 -- equal names feed it alike
 pub equal_names : Alike same_name hashed_name
 equal_names = on_Alike folded (same_Alike (λ bytes. fed.u64 (digest_from 0 bytes)) bytes_decides)
-
--- the byte at a place, 0 where there is none
-abbrev pub byte_at : List ℕ → ℕ → ℕ
-byte_at bytes k = slice_index_or bytes k 0
-
--- a number below 256 of how many bytes there are, the first of them and the last two
-abbrev pub digest_of_ends : List ℕ → ℕ
-digest_of_ends bytes = (length bytes % 256 * 37 + byte_at bytes 0 * 29 + byte_at bytes (length bytes - 2) * 11 + byte_at bytes (length bytes - 1)) % 256
-
--- the short number of a name
-abbrev pub short_digest : List ℕ → ℕ
-short_digest name = digest_of_ends (folded name)

@@ -1,8 +1,11 @@
 -- The priorities of users: a lower number is better.
 use Rattle.std.specs.Prelude.{ℕ, ◌≤◌, ◌^◌, Bool, not, ◌&&◌, nat_le, List, [], ◌∷◌, find, length, Vec, bytes_eq, if◌then◌else◌}
 use Rattle.std.specs.declared.alloc.Global.{Global}
+use Rattle.std.specs.declared.cmp.Ordering.{Ordering}
+use Rattle.std.specs.Cmp.Lexicographic.{slice_cmp}
 use Rattle.std.specs.List.{list_any}
 use Rattle.std.specs.Option.{option_map_or}
+use Rattle.std.specs.Ordering.{nat_cmp, ordering_then}
 
 -- a user whose priority is set
 pub record Setting : Type 0 where
@@ -28,6 +31,10 @@ default_priority = 1000
 -- the priority of a user: the one that is set, or else the default
 abbrev pub priority_of : List ℕ → List Setting → ℕ
 priority_of user settings = option_map_or (λ setting. setting.number) (find (is_of user) settings) default_priority
+
+-- users by priority, where a lower number is better, and then by name, byte for byte
+abbrev pub user_order : (List ℕ → ℕ) → List ℕ → List ℕ → Ordering
+user_order priority a b = ordering_then (nat_cmp (priority a) (priority b)) (slice_cmp nat_cmp a b)
 
 -- the settings with one more, which takes the place of the one of its user, or goes last
 abbrev pub with_setting : Setting → List Setting → List Setting

@@ -20,7 +20,7 @@ ghost use Rattle.claim_table.specs.Small.{AreSmallJobs};
 ghost use Rattle.claim_table.specs.Table.{jobs_of};
 
 use crate::notes::put;
-use crate::{ClaimFault, ClaimTable, FreedList, Job, JobState, Priorities, Standing};
+use crate::{ClaimFault, ClaimTable, FreedList, Job, JobState, Priorities, Stage, Standing};
 use ad_eval::rank;
 use ad_store::{Holdings, Store};
 use ad_tree::{Ad, Request};
@@ -62,10 +62,10 @@ impl ClaimTable {
         ensures ratio { AreSmallAds (stock_of store.now).ads → AreSmallJobs (jobs_of self.old) → entry.new + 9216 * tops.old ≤ entry.old + 9216 * tops.new }
         ensures looks { touch.new ≤ touch.old + 9 * length (claims.offer_named name.now (jobs_of self.old)) }
     {
-        let Some(i) = self.find(name) else {
+        let Some(i) = self.number(name) else {
             return Err(ClaimFault::NoJob);
         };
-        let job = &self.jobs[i];
+        let job = self.jobs.at(i);
         let state = job.standing.state();
         if state != JobState::Matched {
             return Err(ClaimFault::WrongState(state));
@@ -202,7 +202,7 @@ impl ClaimTable {
         ensures ok { OnOk result (jobs_of self.new ≡ claims.granted (jobs_of self.old) i (claims.offer_at i (jobs_of self.old))) }
         ensures err { OnErr result (jobs_of self.new ≡ jobs_of self.old) }
     {
-        let losers = self.losers(self.jobs[i].standing.offer())?;
+        let losers = self.losers(self.jobs.at(i).standing.offer())?;
         let freed = self.tell_all(losers.as_slice())?;
         self.make_all_idle(losers.as_slice());
         self.settle(i);
@@ -248,10 +248,13 @@ impl ClaimTable {
         requires free { All (λ slot. claimed_by slot (jobs_of self.old) ≡ None) (claims.offer_at i (jobs_of self.old)) }
         ensures { jobs_of self.new ≡ with_standing (jobs_of self.old) i (Stage.Claimed (claims.offer_at i (jobs_of self.old))) }
     {
-        let slots = self.jobs[i].standing.offer();
-        put(&mut self.offers, slots, None);
-        put(&mut self.claims, slots, Some(i));
-        self.jobs[i].standing.settle(self.alloc);
+        let job = self.jobs.slot(i);
+        let was = self.jobs.restand(i, Stage::Idle);
+        put(&mut self.offers, was.offer(), None);
+        put(&mut self.claims, was.offer(), Some(job));
+        let _idle = self
+            .jobs
+            .restand(i, Stage::Claimed(was.into_slots(self.alloc)));
     }
 }
 

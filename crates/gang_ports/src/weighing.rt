@@ -149,31 +149,31 @@ fn weigh_all<'a, F: Ledger, E: Ledger>(
 {
     let mut tries = Vec::new(alloc);
     for resource in resources.iter_mut() {
-        weigh(alloc, world, before, resource, &mut tries, tops, entry)?;
+        let found = weigh(alloc, world, before, resource, tops, entry)?;
+        keep(&mut tries, found)?;
     }
     Ok(tries)
 }
 
-// Adds the candidate that a resource is, if it docks. One that is docked already isn't weighed, and no other is weighed again.
+// The candidate that a resource is, if it docks. One that is docked already isn't weighed, and no other is weighed again.
 fn weigh<'a, F: Ledger, E: Ledger>(
     alloc: Global,
     world: &World<'a>,
     before: &[usize],
     resource: &mut Resource<'a>,
-    tries: &mut Vec<Candidate<'a>>,
     tops: &mut Steps<F>,
     entry: &mut Steps<E>,
-) -> Result<(), OutOfMemory>
+) -> Result<Option<Candidate<'a>>, OutOfMemory>
     requires room { length (world_of world.now).docked < 8 }
     requires tests { HasSidesIn (world_of world.now) resource.old }
-    ensures found { OnOk result (tries.new.items ≡ tries.old.items ++ cons_option (candidate_in (world_of world.now) before.now resource.old) []) }
+    ensures found { IfOk result (λ found. found ≡ candidate_in (world_of world.now) before.now resource.old) }
     ensures kept { OnOk result (resource.new ≡ weighed_in (world_of world.now) before.now resource.old) }
     ensures evaluations { tops.new ≤ tops.old + evaluations_in before.now resource.old }
     ensures entries { entry.new ≤ entry.old + attributes_of (world_of world.now) before.now resource.old }
     ensures ratio { AreSmall (world_of world.now) → IsSmall (ad_frames resource.old.ad.now) → entry.new + 9216 * tops.old ≤ entry.old + 9216 * tops.new }
 {
     if is_among(before, resource.place) {
-        return Ok(());
+        return Ok(None);
     }
     let rank = match resource.kept {
         Kept::Weighed(rank) => rank,
@@ -182,7 +182,7 @@ fn weigh<'a, F: Ledger, E: Ledger>(
         }
     };
     resource.kept = Kept::Weighed(rank);
-    keep(tries, ranked(resource, rank))
+    Ok(ranked(resource, rank))
 }
 
 // The candidate that a resource is at a rank, if it has one.

@@ -1,5 +1,5 @@
 -- Where the attributes stand that pass a test.
-use Rattle.std.proofs.Common.{refl, arith, ◌≡◌, ◌<◌, ◌∙◌, ap, sym, subst, ℕ, ◌+◌, ◌*◌, ◌-◌, ◌/◌, ◌%◌, ◌^◌, ℤ, pos, negsuc, true≢false, Ordering, Bool, true, false, not, ◌&&◌, cond, nat_cmp, List, [], ◌∷◌, Some, Less, Equal, Greater, mod-lt}
+use Rattle.std.proofs.Common.{refl, arith, ◌≡◌, ◌<◌, ◌∙◌, ap, sym, subst, ℕ, ◌-◌, ◌/◌, ◌^◌, ℤ, pos, negsuc, true≢false, Ordering, Bool, true, false, not, ◌&&◌, cond, nat_cmp, List, Some, Less, Equal, Greater}
 use Rattle.std.specs.Prelude.{◌*ℤ◌, int_lt, int_le}
 use Rattle.std.specs.Cmp.{int_cmp_total, nat_cmp_total}
 use Rattle.std.specs.Cmp.Lexicographic.{slice_cmp}
@@ -13,6 +13,7 @@ use Rattle.std.proofs.lemmas.Map.Text.{is_eq-slice_cmp}
 use Rattle.pool_text.specs.Folding.{folded, text_order}
 use Rattle.pool_text.specs.declared.language.BinOp.{BinOp}
 use Rattle.pool_text.specs.declared.language.Lit.{Lit}
+use Rattle.ad_tree.proofs.DigestLemmas.{digest_from-small}
 use Rattle.ad_value.specs.Plain.{plain_of_lit}
 use Rattle.ad_value.specs.Logic.{is_true}
 use Rattle.ad_value.specs.Numbers.{million}
@@ -21,7 +22,7 @@ use Rattle.conjunct_plan.specs.declared.test.Test.{Test}
 use Rattle.literal_index.specs.declared.place.Place.{Place}
 use Rattle.literal_index.specs.declared.place.Kind.{Kind}
 use Rattle.literal_index.specs.declared.span.Span.{Span}
-use Rattle.literal_index.specs.Digests.{digest, digest_from, number_of_text}
+use Rattle.literal_index.specs.Digests.{digest, number_of_text}
 use Rattle.literal_index.specs.Entries.{holds_with, kind_of, value_of}
 use Rattle.literal_index.specs.Order.{kind_order, place_order}
 use Rattle.literal_index.specs.Spans.{Covers, IsLiteral, failing_span, first_place, last_place, passing_span, numbers_from, numbers_up_to, span_at, span_from, span_up_to}
@@ -100,10 +101,6 @@ module _ (name slot attr : ℕ) (low : slot < 2 ^ 64) (few : attr < 2 ^ 32) wher
 
 -- ---- literals
 
-digest_from_small : (h : ℕ) (bytes : List ℕ) → h < 2 ^ 64 → digest_from h bytes < 2 ^ 64
-digest_from_small h [] small = small
-digest_from_small h (b ∷ bytes) small = digest_from_small (((h * 31) % (2 ^ 64) + b) % (2 ^ 64)) bytes (mod-lt _ (omega arith))
-
 half : (n : ℕ) → n < 2 ^ 64 → is_le (int_cmp (pos (n / 2)) (pos (2 ^ 63 - 1))) ≡ true
 half n h = grind arith
 
@@ -113,7 +110,7 @@ is_literal Lit.Error = tt
 is_literal (Lit.Boolean b) = tt
 is_literal (Lit.Integer n) = tt
 is_literal (Lit.Decimal m) = tt
-is_literal (Lit.Str t) = half (digest (folded t)) (digest_from_small 0 (folded t) (omega arith))
+is_literal (Lit.Str t) = half (digest (folded t)) (digest_from-small (folded t) 0)
 
 tie : (o : Ordering) → is_eq o ≡ true → o ≡ Equal
 tie Equal h = refl

@@ -13,20 +13,19 @@ ghost use Rattle.claim_table.specs.Holders.{holder_of};
 ghost use Rattle.claim_table.specs.Small.{AreSmallJobs};
 ghost use Rattle.claim_table.specs.Table.{jobs_of};
 ghost use Rattle.conjunct_plan.specs.Tests.{tests_of};
-ghost use Rattle.job_classes.specs.Twins.{AreTwins};
 ghost use Rattle.literal_index.specs.Shown.{IsIndex};
+ghost use Rattle.significant_attrs.specs.Twins.{AreTwins};
 ghost use Rattle.negotiator.specs.Clusters.{IsClass, IsRanked, is_offered};
 ghost use Rattle.negotiator.specs.Markets.{pool_for};
 ghost use Rattle.negotiator.specs.Scenes.{settings_in, stock_in};
 
-use crate::Scene;
+use crate::{Scene, twins_are_matched_alike};
 use ad_tree::{Ad, Request};
 use bilateral_match::{Known, Looks, best_knowing, shortlist};
 use claim_table::{ClaimTable, Standing};
-use class_laws::twins_are_matched_alike;
-use job_classes::are_twins;
 use pool_steps::Steps;
 use pool_text::{OutOfMemory, Slots};
+use significant_attrs::are_twins;
 use std::convert::AsSlice;
 use std::sync::ledger::Ledger;
 

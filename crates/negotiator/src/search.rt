@@ -19,6 +19,7 @@ ghost use Rattle.negotiator.specs.Markets.{AreOwn, found, found_for, offer_named
 ghost use Rattle.negotiator.specs.Scenes.{IsReady, settings_in, stock_in};
 
 use crate::clusters::choose;
+use crate::free::free_in;
 use crate::{Clusters, Offered, Scene};
 use ad_tree::Request;
 use claim_table::{ClaimTable, JobState, Standing};
@@ -230,5 +231,9 @@ pub(crate) fn try_job<F: Ledger, E: Ledger, T: Ledger>(
         failed[i] = true;
         return Ok(None);
     };
-    Ok(Some(give(scene.alloc, claims, i, slots)?))
+    scene.store.slots_are_apart();
+    let taken = free_in(claims, slots.as_slice());
+    let offered = give(scene.alloc, claims, i, slots)?;
+    clusters.free -= taken;
+    Ok(Some(offered))
 }

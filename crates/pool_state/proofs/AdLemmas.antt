@@ -45,7 +45,7 @@ slot_beside-none test (x ∷ ads) (y ∷ slots) long none =
 
 -- a store has a slot for each ad
 pub stock-length : (store : Store) → length (stock_of store).ads ≡ length (stock_of store).slots
-stock-length store = length-map store.names.entries _ ∙ sym (length-map store.names.entries _)
+stock-length store = length-map store.order _
 
 -- the rows of the first ads and the next
 pub rows_more : (jobs : List QueuedJob) (ads : List Advert) (i : ℕ) (row : AdRow) → option_map (ad_row jobs) (slice_get ads i) ≡ Some row → map (ad_row jobs) (take i ads) ++ row ∷ [] ≡ map (ad_row jobs) (take (suc i) ads)

@@ -10,7 +10,7 @@ use Rattle.ad_tree.specs.declared.request.Request.{Request}
 use Rattle.claim_table.specs.declared.job.Job.{Job}
 use Rattle.job_classes.specs.Classes.{has_key, joined, number_of}
 use Rattle.job_classes.specs.Keys.{Entry, key_of}
-use Rattle.job_classes.specs.Shown.{ads_in}
+use Rattle.significant_attrs.specs.Shown.{ads_in}
 use Rattle.pool_replies.specs.Classes.{with_member}
 use Rattle.pool_state.specs.Classing.{Class, class_names, job_key, request_key, with_job, with_jobs}
 use Rattle.pool_state.specs.Keyed.{class_keys, keys_with, number_for}

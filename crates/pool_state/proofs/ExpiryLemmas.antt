@@ -1,13 +1,16 @@
 -- The jobs of a state as ads that are no longer live leave one after another.
-use Rattle.std.proofs.Common.{◌≡◌, ℕ, zero, suc, Bool, true, false, not, ◌&&◌, ◌||◌, cond, List, [], ◌∷◌, filter, length, slice_get, Option, Some, bytes_eq, refl, sym, ◌∙◌, ap, arith}
+use Rattle.std.proofs.Common.{◌≡◌, ℕ, zero, suc, Bool, true, false, not, ◌&&◌, ◌||◌, cond, List, [], ◌∷◌, filter, find, length, map, slice_get, Option, Some, bytes_eq, refl, sym, ◌∙◌, ap, arith}
 use Rattle.std.specs.List.{list_any}
 use Rattle.std.specs.Cmp.Lexicographic.{bytes_decides}
-use Rattle.ad_store.specs.Stock.{Advert, is_live, is_named, without}
+use Rattle.ad_store.specs.Stock.{Advert, Stock, expired_slots, is_live, is_named, slot_beside, slots_beside, slots_without, without}
+use Rattle.pool_state.specs.Notices.{expired_names}
+use Rattle.pool_state.specs.Pool.{name_in}
 use Rattle.pool_state.specs.Queue.{names_of, without_resources}
 use Rattle.pool_state.specs.State.{QueuedJob, idle}
 use Rattle.pool_state.specs.Step.{has_expired}
 use Rattle.pool_state.proofs.NameLemmas.{same_truth}
 use Rattle.pool_state.proofs.AdLemmas.{AreApart, apart_behind, live-le}
+use Rattle.pool_state.proofs.LossLemmas.{name-there}
 
 -- ---- names that leave
 
@@ -116,3 +119,99 @@ expired-none now (x ∷ ads) all n = by (is_live now x) refl all (λ rest. expir
         let rest : filter (is_live now) ads ≡ ads = cc in
         ap (λ b. (is_named n x && not b) || has_expired now ads n) live ∙ ap (λ b. b || has_expired now ads n) (and_false (is_named n x)) ∙ later rest
     by false dead whole later = let long = live-le now ads in absurd (omega (arith, ap length whole, long))
+
+-- ---- the slots of ads that are no longer live
+
+abbrev ended : ℕ → Advert → Bool
+ended now advert = not (is_live now advert)
+
+-- the names in the slots beside ads are those of the ads
+names-beside : (stock : Stock) (test : Advert → Bool) (ads : List Advert) (slots : List ℕ) → length ads ≡ length slots
+    → ((i slot : ℕ) (advert : Advert) → slice_get slots i ≡ Some slot → slice_get ads i ≡ Some advert → name_in stock slot ≡ advert.name)
+    → map (name_in stock) (slots_beside test ads slots) ≡ map (λ (a : Advert). a.name) (filter test ads)
+names-beside stock test [] slots long called = refl
+names-beside stock test (x ∷ ads) [] long called = absurd (omega (arith, long))
+names-beside stock test (x ∷ ads) (s ∷ slots) long called =
+    by (test x) (names-beside stock test ads slots (omega (arith, long)) (λ i slot advert at_s at_a. called (suc i) slot advert at_s at_a))
+  where
+    by : (b : Bool) → map (name_in stock) (slots_beside test ads slots) ≡ map (λ (a : Advert). a.name) (filter test ads)
+        → map (name_in stock) (cond b (s ∷ slots_beside test ads slots) (slots_beside test ads slots))
+        ≡ map (λ (a : Advert). a.name) (cond b (x ∷ filter test ads) (filter test ads))
+    by true rest = λ k. called 0 s x refl refl k ∷ rest k
+    by false rest = rest
+
+-- the names in the slots of a stock's ads that are no longer live
+pub expired-named : (stock : Stock) → length stock.ads ≡ length stock.slots
+    → ((i j slot : ℕ) → slice_get stock.slots i ≡ Some slot → slice_get stock.slots j ≡ Some slot → i ≡ j)
+    → (now : ℕ) → map (name_in stock) (expired_slots now stock) ≡ expired_names now stock.ads
+expired-named stock long apart now =
+    names-beside stock (ended now) stock.ads stock.slots long (λ i slot advert at_s at_a. name-there stock apart i slot advert at_s at_a)
+
+-- the first of the slots beside the ads that pass
+pub first-beside : (test : Advert → Bool) (ads : List Advert) (slots : List ℕ) (slot : ℕ) (more : List ℕ) → slots_beside test ads slots ≡ slot ∷ more
+    → slot_beside test ads slots ≡ Some slot
+first-beside test [] slots slot more is = absurd (cc)
+first-beside test (x ∷ ads) [] slot more is = absurd (cc)
+first-beside test (x ∷ ads) (s ∷ slots) slot more is = by (test x) is (first-beside test ads slots slot more)
+  where
+    by : (b : Bool) → cond b (s ∷ slots_beside test ads slots) (slots_beside test ads slots) ≡ slot ∷ more
+        → (slots_beside test ads slots ≡ slot ∷ more → slot_beside test ads slots ≡ Some slot) → cond b (Some s) (slot_beside test ads slots) ≡ Some slot
+    by true here later = cc
+    by false here later = later here
+
+-- the slots beside the ads that pass, once the ad of a name has left
+abbrev left_beside : List ℕ → (Advert → Bool) → List Advert → List ℕ → List ℕ
+left_beside name test ads slots = slots_beside test (without name ads) (slots_without name ads slots)
+
+-- where the ad in the first of them leaves by its name, the others are left
+pub others-beside : (test : Advert → Bool) (ads : List Advert) (slots : List ℕ) (slot : ℕ) (name : List ℕ) (i : ℕ) (a : Advert) → AreApart ads
+    → slice_get ads i ≡ Some a → a.name ≡ name → test a ≡ true → slot_beside test ads slots ≡ Some slot → find test ads ≡ Some a
+    → slots_beside test ads slots ≡ slot ∷ left_beside name test ads slots
+others-beside test [] slots slot name i a apart at is passes first found = absurd (cc)
+others-beside test (x ∷ ads) [] slot name i a apart at is passes first found = absurd (cc)
+others-beside test (x ∷ ads) (s ∷ slots) slot name i a apart at is passes first found =
+    by (test x) refl first found i at (λ j there f g. others-beside test ads slots slot name j a (apart_behind x ads apart) there is passes f g)
+  where
+    Later : Type 0
+    Later = (j : ℕ) → slice_get ads j ≡ Some a → slot_beside test ads slots ≡ Some slot → find test ads ≡ Some a
+        → slots_beside test ads slots ≡ slot ∷ left_beside name test ads slots
+
+    goes : is_named name x ≡ true → left_beside name test (x ∷ ads) (s ∷ slots) ≡ slots_beside test ads slots
+    goes named = ap (λ b. slots_beside test (cond b ads (x ∷ without name ads)) (cond b slots (s ∷ slots_without name ads slots))) named
+
+    stays : test x ≡ false → is_named name x ≡ false
+        → left_beside name test (x ∷ ads) (s ∷ slots) ≡ left_beside name test ads slots
+    stays fails other =
+        ap (λ b. slots_beside test (cond b ads (x ∷ without name ads)) (cond b slots (s ∷ slots_without name ads slots))) other
+        ∙ ap (λ b. cond b (s ∷ left_beside name test ads slots) (left_beside name test ads slots)) fails
+
+    other_name : (j : ℕ) → slice_get (x ∷ ads) (suc j) ≡ Some a → (b : Bool) → is_named name x ≡ b → b ≡ false
+    other_name j there true named = let clash : suc j ≡ 0 = apart (suc j) 0 a x there refl (is ∙ (bytes_decides name x.name).0 named) in absurd (cc)
+    other_name j there false named = refl
+
+    by : (b : Bool) → test x ≡ b → cond b (Some s) (slot_beside test ads slots) ≡ Some slot → cond b (Some x) (find test ads) ≡ Some a → (j : ℕ)
+        → slice_get (x ∷ ads) j ≡ Some a → Later
+        → cond b (s ∷ slots_beside test ads slots) (slots_beside test ads slots) ≡ slot ∷ left_beside name test (x ∷ ads) (s ∷ slots)
+    by true p f g j there later =
+        let same : x ≡ a = cc in
+        let here : s ≡ slot = cc in
+        let named : is_named name x ≡ true = (bytes_decides name x.name).1 (sym is ∙ ap (λ (y : Advert). y.name) (sym same)) in
+        λ k. here k ∷ (sym (goes named)) k
+    by false p f g zero there later =
+        let same : x ≡ a = cc in
+        let clash : ◌≡◌ {A = Bool} true false = sym passes ∙ ap test (sym same) ∙ p in
+        absurd (cc)
+    by false p f g (suc j) there later = later j there f g ∙ ap (λ l. slot ∷ l) (sym (stays p (other_name j there (is_named name x) refl)))
+
+-- where there are none all ads are live
+pub none-beside : (now : ℕ) (ads : List Advert) (slots : List ℕ) → length ads ≡ length slots
+    → slots_beside (ended now) ads slots ≡ [] → filter (is_live now) ads ≡ ads
+none-beside now [] slots long none = refl
+none-beside now (x ∷ ads) [] long none = absurd (omega (arith, long))
+none-beside now (x ∷ ads) (s ∷ slots) long none = by (is_live now x) none (none-beside now ads slots (omega (arith, long)))
+  where
+    by : (b : Bool) → cond (not b) (s ∷ slots_beside (ended now) ads slots) (slots_beside (ended now) ads slots) ≡ []
+        → (slots_beside (ended now) ads slots ≡ [] → filter (is_live now) ads ≡ ads)
+        → cond b (x ∷ filter (is_live now) ads) (filter (is_live now) ads) ≡ x ∷ ads
+    by true is later = ap (λ l. x ∷ l) (later is)
+    by false is later = absurd (cc)

@@ -1,14 +1,14 @@
 -- The jobs that lose their resources, by slots and by names, and what is told of them.
-use Rattle.std.proofs.Common.{◌≡◌, ℕ, zero, suc, ◌+◌, ◌<◌, All, Bool, true, false, not, ◌||◌, cond, List, [], ◌∷◌, ◌++◌, codes, length, map, position, slice_get, take, Contains, Option, None, Some, option_map, Result, Ok, Err, IfSome, OnOk, refl, sym, ◌∙◌, ap, arith}
+use Rattle.std.proofs.Common.{◌≡◌, ℕ, zero, suc, ◌+◌, ◌<◌, All, Bool, true, false, ◌||◌, cond, List, [], ◌∷◌, ◌++◌, codes, length, map, position, slice_get, take, Contains, Option, None, Some, option_map, Result, Ok, Err, IfSome, OnOk, refl, sym, ◌∙◌, ap, arith}
 use Rattle.std.specs.List.{list_all, list_any}
 use Rattle.std.specs.Option.{option_and_then, option_map_or}
-use Rattle.std.proofs.lemmas.List.{append-nil, map-append}
-use Rattle.std.proofs.lemmas.List.Elements.{All-push, filter-append}
+use Rattle.std.proofs.lemmas.List.{map-append}
+use Rattle.std.proofs.lemmas.List.Elements.{All-push}
 use Rattle.std.proofs.lemmas.List.Folds.{list_any-append}
 use Rattle.std.proofs.lemmas.List.Sums.{fold-append}
 use Rattle.std.proofs.lemmas.Option.{slice_get-map}
-use Rattle.ad_store.specs.Stock.{Advert, Stock, is_live}
-use Rattle.ad_store.proofs.HeldLemmas.{both, neither}
+use Rattle.ad_store.specs.Stock.{Advert, Stock}
+use Rattle.ad_store.proofs.HeldLemmas.{both}
 use Rattle.claim_table.specs.declared.job.Job.{Job}
 use Rattle.claim_table.specs.Claims.{once}
 use Rattle.claim_table.specs.Jobs.{AreNamedApart, claim_of, claimed_by as claimer, job_named as job_numbered, lists, numbered, offer_of, offered_to as offeree, slots_of}
@@ -16,7 +16,7 @@ use Rattle.claim_table.proofs.ListLemmas.{position-map}
 use Rattle.pool_state.specs.declared.posting.Notice.{Notice}
 use Rattle.pool_state.specs.ClaimAnswers.{names_given}
 use Rattle.pool_state.specs.Claiming.{job_named}
-use Rattle.pool_state.specs.Notices.{about, about_job, claimed_at, expired_names, granted_to, had_by, holders, loss, loss_at, loss_of, losses, offered_at}
+use Rattle.pool_state.specs.Notices.{about, about_job, claimed_at, granted_to, had_by, holders, loss, loss_at, loss_of, losses, offered_at}
 use Rattle.pool_state.specs.Pool.{name_in, named_standing, queued}
 use Rattle.pool_state.specs.Queue.{claim_names, is_job, is_listed, names_of, offer_names}
 use Rattle.pool_state.specs.State.{QueuedJob}
@@ -43,21 +43,6 @@ some-there test (y ∷ ys) (suc i) x at is = by (test y) (some-there test ys i x
     by true rest = refl
     by false rest = rest
 
-pub place-there : {A : Type 0} (test : A → Bool) (xs : List A) (i : ℕ) (x : A) → slice_get xs i ≡ Some x → list_any test (take i xs) ≡ false → test x ≡ true → position test xs ≡ Some i
-place-there test [] i x at none is = absurd (cc)
-place-there test (y ∷ ys) zero x at none is =
-    let same : y ≡ x = cc in
-    position-cons test y ys ∙ ap (λ b. cond b (Some 0) (option_map suc (position test ys))) (ap test same ∙ is)
-place-there test (y ∷ ys) (suc i) x at none is =
-    let parts = neither (test y) (list_any test (take i ys)) none in
-    position-cons test y ys ∙ ap (λ b. cond b (Some 0) (option_map suc (position test ys))) parts.0 ∙ ap (option_map suc) (place-there test ys i x at parts.1 is)
-
-pub place-none : {A : Type 0} (test : A → Bool) (xs : List A) → list_any test xs ≡ false → position test xs ≡ None
-place-none test [] none = refl
-place-none test (y ∷ ys) none =
-    let parts = neither (test y) (list_any test ys) none in
-    position-cons test y ys ∙ ap (λ b. cond b (Some 0) (option_map suc (position test ys))) parts.0 ∙ ap (option_map suc) (place-none test ys parts.1)
-
 place-where : {A : Type 0} (p f g : A → Bool) (xs : List A) → list_all p xs ≡ true → ((x : A) → p x ≡ true → f x ≡ g x) → position f xs ≡ position g xs
 place-where p f g [] all same = refl
 place-where p f g (x ∷ xs) all same =
@@ -82,16 +67,6 @@ pub record Asked (o : Option Job) (name user : List ℕ) : Type 0 where
 pub asked : (o : Option Job) (name user : List ℕ) → option_map (λ job. job.name) o ≡ Some name → option_map (λ job. job.user) o ≡ Some user → Asked o name user
 asked None name user called owned = absurd (cc)
 asked (Some job) name user called owned = record { job = job; at = refl; called = cc; owned = cc }
-
--- a job with this name
-pub record Called (o : Option Job) (name : List ℕ) : Type 0 where
-  pub job : Job
-  pub at : o ≡ Some job
-  pub called : job.name ≡ name
-
-pub asked_name : (o : Option Job) (name : List ℕ) → option_map (λ job. job.name) o ≡ Some name → Called o name
-asked_name None name called = absurd (cc)
-asked_name (Some job) name called = record { job = job; at = refl; called = cc }
 
 module _ (stock : Stock) (jobs : List Job) where
   pub queue-at : (i : ℕ) (job : Job) → slice_get jobs i ≡ Some job → slice_get (map (queued stock) jobs) i ≡ Some (queued stock job)
@@ -198,38 +173,6 @@ module _ (stock : Stock) (beside : AreBeside stock.ads stock.slots) (jobs : List
 pub name-there : (stock : Stock) → ((i j slot : ℕ) → slice_get stock.slots i ≡ Some slot → slice_get stock.slots j ≡ Some slot → i ≡ j) → (place slot : ℕ) (advert : Advert) → slice_get stock.slots place ≡ Some slot → slice_get stock.ads place ≡ Some advert → name_in stock slot ≡ advert.name
 name-there stock apart place slot advert slot_at at =
     ap (λ k. option_map_or (λ (a : Advert). a.name) (slice_get stock.ads k) []) (position-at stock.slots place slot slot_at (λ j at_j. apart j place slot at_j slot_at)) ∙ ap (λ o. option_map_or (λ (a : Advert). a.name) o []) at
-
--- an ad that isn't live, or is
-record Lived (now : ℕ) (o : Option Advert) (ended : Bool) : Type 0 where
-  advert : Advert
-  at : o ≡ Some advert
-  is : not (is_live now advert) ≡ ended
-
-lived : (now : ℕ) (o : Option Advert) (ended : Bool) → option_map (λ a. not (is_live now a)) o ≡ Some ended → Lived now o ended
-lived now None ended is = absurd (cc)
-lived now (Some advert) ended is = record { advert = advert; at = refl; is = cc }
-
-module _ (stock : Stock) (apart : (i j slot : ℕ) → slice_get stock.slots i ≡ Some slot → slice_get stock.slots j ≡ Some slot → i ≡ j) (now i slot : ℕ) (at : slice_get stock.slots i ≡ Some slot) (ended : Bool) (tested : option_map (λ a. not (is_live now a)) (slice_get stock.ads i) ≡ Some ended) where
-  the : Lived now (slice_get stock.ads i) ended
-  the = lived now (slice_get stock.ads i) ended tested
-
-  own_name : name_in stock slot ≡ the.advert.name
-  own_name = name-there stock apart i slot the.advert at the.at
-
-  more : expired_names now (take (i + 1) stock.ads) ≡ expired_names now (take i stock.ads) ++ map (λ (a : Advert). a.name) (cond ended (the.advert ∷ []) [])
-  more =
-      ap (expired_names now) (take-next stock.ads i the.advert the.at)
-      ∙ ap (map (λ (a : Advert). a.name)) (filter-append (λ (a : Advert). not (is_live now a)) (take i stock.ads) (the.advert ∷ []))
-      ∙ map-append (λ (a : Advert). a.name) _ _
-      ∙ ap (λ b. expired_names now (take i stock.ads) ++ map (λ (a : Advert). a.name) (cond b (the.advert ∷ []) [])) the.is
-
-  pub expired-stays : (slots : List ℕ) → ended ≡ false → map (name_in stock) slots ≡ expired_names now (take i stock.ads) → map (name_in stock) slots ≡ expired_names now (take (i + 1) stock.ads)
-  expired-stays slots isnt before = before ∙ sym (more ∙ ap (λ b. expired_names now (take i stock.ads) ++ map (λ (a : Advert). a.name) (cond b (the.advert ∷ []) [])) isnt ∙ append-nil _)
-
-  pub expired-leaves : (slots : List ℕ) → ended ≡ true → map (name_in stock) slots ≡ expired_names now (take i stock.ads) → map (name_in stock) (slots ++ slot ∷ []) ≡ expired_names now (take (i + 1) stock.ads)
-  expired-leaves slots is before =
-      map-append (name_in stock) slots (slot ∷ []) ∙ ap (λ l. l ++ name_in stock slot ∷ []) before ∙ ap (λ n. expired_names now (take i stock.ads) ++ n ∷ []) own_name
-      ∙ sym (more ∙ ap (λ b. expired_names now (take i stock.ads) ++ map (λ (a : Advert). a.name) (cond b (the.advert ∷ []) [])) is)
 
 -- ---- a claim that is granted
 

@@ -11,6 +11,7 @@ use Rattle.ad_eval.specs.declared.outcome.Outcome.{Outcome}
 use Rattle.ad_eval.specs.declared.stop.Stop.{Stop}
 use Rattle.ad_eval.specs.declared.reference.Reference.{Reference}
 use Rattle.ad_eval.specs.Kept.{Answers, Ready}
+use Rattle.ad_eval.specs.Listed.{listed_with}
 use Rattle.ad_eval.specs.Node.{attribute_value, called, conditional, function_value}
 use Rattle.ad_eval.specs.Reference.{IsInWorld, value_of}
 use Rattle.ad_eval.specs.Scene.{binary_in, listed_in, results_in, selected_in, subscripted_in, unary_in, values_in, world_in}
@@ -18,15 +19,14 @@ use Rattle.ad_eval.specs.Value.{value_at, value_with}
 use Rattle.ad_eval.proofs.KeptLemmas.{IsPartly, counts_same, counts_then, is_ready, ready_as, ready_is, rewritten, stops_all_by, stops_by}
 use Rattle.ad_eval.proofs.CountLemmas.{unseen-fewer, unseen-same}
 use Rattle.ad_eval.proofs.MeasureLemmas.{size-turn, turn-less}
-use Rattle.ad_eval.proofs.NodeLemmas.{all_demanded-start, values_and}
-use Rattle.ad_eval.proofs.PartLemmas.{all_part_fails, answers_of, begins, finishes, finishes_all, finishes_applied, finishes_at_once, finishes_list, finishes_mapped, hands_on, hands_on_all, mapped_part_fails, mapped_part_ready, part_done, part_fails, part_fails_all, part_ready, rest_ends, rest_ready, stops_wanting}
+use Rattle.ad_eval.proofs.NodeLemmas.{all_demanded-start, mapped_alike, values_and}
+use Rattle.ad_eval.proofs.PartLemmas.{all_part_fails, answers_of, begins, finishes, finishes_applied, finishes_at_once, finishes_list, finishes_mapped, finishes_with, hands_on, hands_on_all, mapped_part_fails, mapped_part_ready, part_done, part_fails, part_fails_all, part_ready, rest_ends, rest_ready, stops_wanting}
 use Rattle.ad_eval.proofs.ReferenceLemmas.{value_at-none, circle, fails_inside, kept_inside, ready_inside, still_pending}
 use Rattle.ad_eval.proofs.ShapeLemmas.{shape-And, shape-Binary, shape-Call, shape-Cond, shape-Frame, shape-List, shape-Literal, shape-Name, shape-Or, shape-Select, shape-Subscript, shape-Unary}
 use Rattle.ad_eval.specs.Chain.{chained, joined, start}
 use Rattle.ad_eval.proofs.SceneLemmas.{in_all, in_any, in_binary, in_call, in_choice, in_frame, in_list, in_literal, in_name, in_select, in_subscript, in_unary}
-use Rattle.ad_eval.proofs.ValueLemmas.{plain-Error}
 use Rattle.builtin_funcs.specs.Calls.{is_known}
-use Rattle.ad_eval.proofs.ChainLemmas.{all_demanded-from, called-choice, called-function, called-unknown, conditional-three, conditional-wrong, chained-decided, chained-end, chained-from, pack-three, values-end}
+use Rattle.ad_eval.proofs.ChainLemmas.{all_demanded-from, called-choice, called-function, called-unknown, conditional-three, conditional-wrong, chained-decided, chained-end, chained-from, listed-end, listed-from, pack-three, values-end}
 use Rattle.ad_eval.proofs.EnterLemmas.{answer_there_none, answer_there_some, counts_entered, counts_equal, counts_kept, counts_there, inner_work, keeps, ready_there, recalls, world_has, world_there}
 use Rattle.ad_eval.proofs.+evaluation.Goals as goal
 
@@ -618,17 +618,18 @@ operands::subscription-returns-in-Err g t c =
     let g2 = c.evaluate-2.new.guard in
     record { answer = part_fails w s.left f g0 g1 g2 g2 (λ n. subscripted (attribute_value (value_at n w) w) (plain o1.value)) (values_in s b) h1 c.in-Err.stop p1 c.in-Err.ensures.answer; counted = counts_then w n0 c.evaluate.new.entry c.evaluate-2.new.entry g0 g1 g2 c.evaluate.ensures.counted c.evaluate-2.ensures.counted }
 
-pub chains::list_literal-all_of-requires : goal.chains::list_literal-all_of-requires
-chains::list_literal-all_of-requires g t c κs within =
+pub chains::list_literal-loop-i-init : goal.chains::list_literal-loop-i-init
+chains::list_literal-loop-i-init g t c =
     let s = c.args.scene.now in
     let w = world_in s in
     let g0 = c.args.guard.now in
     let n0 = c.args.entry.now in
-    let ts = pack (trees c.args.items.now) in
-    let rest = λ (n : ℕ). all_demanded (results_in s ts n) in
-    let f = λ (n : ℕ). listed_in s ts n in
-    let p0 = begins w s.left f (λ n. option_map list_value (all_demanded (results_in s ts n))) g0 c.requires (λ n. refl) in
-    (omega (arith, c.decreases), (within, mapped_part_ready w s.left f g0 g0 list_value rest 0 p0))
+    let ts = trees c.args.items.now in
+    let f = λ (n : ℕ). listed_in s (pack ts) n in
+    let value = listed_with c.new-all.result.values in
+    let rest = λ (n : ℕ). option_map value (all_demanded (results_in s (pack ts) n)) in
+    let alike = λ (n : ℕ). mapped_alike list_value value (λ ps. sym (c.new-all.ensures.value ps)) (all_demanded (results_in s (pack ts) n)) in
+    record { partly = subst (λ (h : ℕ). IsPartly w f s.left g0 g0 rest h) (sym c.new-all.ensures.height) (begins w s.left f rest g0 c.requires alike); counted = counts_same w n0 g0 }
 
 pub chains::list_literal-returns : goal.chains::list_literal-returns
 chains::list_literal-returns g t c =
@@ -636,12 +637,35 @@ chains::list_literal-returns g t c =
     let w = world_in s in
     let g0 = c.args.guard.now in
     let n0 = c.args.entry.now in
-    let ts = pack (trees c.args.items.now) in
-    let rest = λ (n : ℕ). all_demanded (results_in s ts n) in
-    let f = λ (n : ℕ). listed_in s ts n in
-    let p0 = begins w s.left f (λ n. option_map list_value (all_demanded (results_in s ts n))) g0 c.requires (λ n. refl) in
-    let g1 = c.all_of.new.guard in
-    record { answer = finishes_all w s.left f g0 g0 g1 list_value rest 0 c.in_ok-all.all c.listed.result p0 c.in_ok-all.ensures.answer c.listed.ensures.value (omega (arith, c.listed.ensures.height)); counted = c.all_of.ensures.counted }
+    let ts = trees c.args.items.now in
+    let f = λ (n : ℕ). listed_in s (pack ts) n in
+    let g1 = c.loop-i.guard in
+    let i = c.loop-i.i in
+    let value = listed_with c.loop-i.all.values in
+    let h = c.loop-i.all.height in
+    let p0 = c.loop-i.invariant.partly in
+    let rest = λ (n : ℕ). option_map value (all_demanded (results_in s (pack (drop i ts)) n)) in
+    let past : length ts ≤ i = omega arith in
+    record { answer = finishes_with w s.left f g0 g1 rest h (value []) c.value.result p0 (λ n. listed-end s ts i past n value) c.value.ensures; counted = c.loop-i.invariant.counted }
+
+pub chains::list_literal-evaluate-requires : goal.chains::list_literal-evaluate-requires
+chains::list_literal-evaluate-requires g t c κs within =
+    let s = c.args.scene.now in
+    let w = world_in s in
+    let g0 = c.args.guard.now in
+    let n0 = c.args.entry.now in
+    let ts = trees c.args.items.now in
+    let f = λ (n : ℕ). listed_in s (pack ts) n in
+    let g1 = c.loop-i.guard in
+    let i = c.loop-i.i in
+    let value = listed_with c.loop-i.all.values in
+    let h = c.loop-i.all.height in
+    let p0 = c.loop-i.invariant.partly in
+    let rest = λ (n : ℕ). option_map value (all_demanded (results_in s (pack (drop i ts)) n)) in
+    let a = tree c.at.result.now in
+    let k = λ (n : ℕ) (p : Plain). option_map (λ ps. value (p ∷ ps)) (all_demanded (results_in s (pack (drop (i + 1) ts)) n)) in
+    let p1 = rewritten w f s.left g0 g1 rest (λ n. option_and_then (k n) (values_in s a n)) h (λ n. listed-from s ts i a c.at.ensures n value) p0 in
+    (omega (arith, c.decreases, size-at ts i a c.at.ensures), (within, part_ready w s.left f g0 g1 k (values_in s a) h p1))
 
 pub chains::list_literal-returns-in_err-all : goal.chains::list_literal-returns-in_err-all
 chains::list_literal-returns-in_err-all g t c =
@@ -649,12 +673,57 @@ chains::list_literal-returns-in_err-all g t c =
     let w = world_in s in
     let g0 = c.args.guard.now in
     let n0 = c.args.entry.now in
-    let ts = pack (trees c.args.items.now) in
-    let rest = λ (n : ℕ). all_demanded (results_in s ts n) in
-    let f = λ (n : ℕ). listed_in s ts n in
-    let p0 = begins w s.left f (λ n. option_map list_value (all_demanded (results_in s ts n))) g0 c.requires (λ n. refl) in
-    let g1 = c.all_of.new.guard in
-    record { answer = hands_on w s.left f g0 g1 c.from_residual.result c.in_err-all.field-0.0 c.from_residual.ensures.0 c.from_residual.ensures.1 (all_part_fails w s.left f g0 g0 g1 g1 list_value rest 0 c.in_err-all.field-0.0 p0 c.in_err-all.ensures.answer); counted = c.all_of.ensures.counted }
+    let ts = trees c.args.items.now in
+    let f = λ (n : ℕ). listed_in s (pack ts) n in
+    let g1 = c.loop-i.guard in
+    let g2 = c.evaluate.new.guard in
+    record { answer = hands_on w s.left f g0 g2 c.from_residual.result Stop.OutOfMemory c.from_residual.ensures.0 c.from_residual.ensures.1 (stops_wanting w s.left f g0 g2 Stop.OutOfMemory refl); counted = counts_then w n0 c.loop-i.entry c.evaluate.new.entry g0 g1 g2 c.loop-i.invariant.counted c.evaluate.ensures.counted }
+
+pub chains::list_literal-loop-i-preserved : goal.chains::list_literal-loop-i-preserved
+chains::list_literal-loop-i-preserved g t c =
+    let s = c.args.scene.now in
+    let w = world_in s in
+    let g0 = c.args.guard.now in
+    let n0 = c.args.entry.now in
+    let ts = trees c.args.items.now in
+    let f = λ (n : ℕ). listed_in s (pack ts) n in
+    let g1 = c.loop-i.guard in
+    let i = c.loop-i.i in
+    let value = listed_with c.loop-i.all.values in
+    let h = c.loop-i.all.height in
+    let p0 = c.loop-i.invariant.partly in
+    let rest = λ (n : ℕ). option_map value (all_demanded (results_in s (pack (drop i ts)) n)) in
+    let a = tree c.at.result.now in
+    let k = λ (n : ℕ) (p : Plain). option_map (λ ps. value (p ∷ ps)) (all_demanded (results_in s (pack (drop (i + 1) ts)) n)) in
+    let p1 = rewritten w f s.left g0 g1 rest (λ n. option_and_then (k n) (values_in s a n)) h (λ n. listed-from s ts i a c.at.ensures n value) p0 in
+    let g2 = c.evaluate.new.guard in
+    let o = c.in-Ok.next in
+    let next = listed_with c.in_ok-all.all.values in
+    let left = λ (n : ℕ). all_demanded (results_in s (pack (drop (i + 1) ts)) n) in
+    let p2 = part_done w s.left f g0 g1 g2 k (values_in s a) h o p1 c.in-Ok.ensures.answer in
+    let alike = λ (n : ℕ). mapped_alike (λ ps. value (plain o.value ∷ ps)) next (λ ps. sym (c.in_ok-all.ensures.value ps)) (left n) in
+    let p3 = rewritten w f s.left g0 g2 (λ n. k n (plain o.value)) (λ n. option_map next (left n)) (max h o.height) alike p2 in
+    record { partly = subst (λ (m : ℕ). IsPartly w f s.left g0 g2 (λ n. option_map next (left n)) m) (sym c.in_ok-all.ensures.height) p3; counted = counts_then w n0 c.loop-i.entry c.evaluate.new.entry g0 g1 g2 c.loop-i.invariant.counted c.evaluate.ensures.counted }
+
+pub chains::list_literal-returns-in-Err : goal.chains::list_literal-returns-in-Err
+chains::list_literal-returns-in-Err g t c =
+    let s = c.args.scene.now in
+    let w = world_in s in
+    let g0 = c.args.guard.now in
+    let n0 = c.args.entry.now in
+    let ts = trees c.args.items.now in
+    let f = λ (n : ℕ). listed_in s (pack ts) n in
+    let g1 = c.loop-i.guard in
+    let i = c.loop-i.i in
+    let value = listed_with c.loop-i.all.values in
+    let h = c.loop-i.all.height in
+    let p0 = c.loop-i.invariant.partly in
+    let rest = λ (n : ℕ). option_map value (all_demanded (results_in s (pack (drop i ts)) n)) in
+    let a = tree c.at.result.now in
+    let k = λ (n : ℕ) (p : Plain). option_map (λ ps. value (p ∷ ps)) (all_demanded (results_in s (pack (drop (i + 1) ts)) n)) in
+    let p1 = rewritten w f s.left g0 g1 rest (λ n. option_and_then (k n) (values_in s a n)) h (λ n. listed-from s ts i a c.at.ensures n value) p0 in
+    let g2 = c.evaluate.new.guard in
+    record { answer = part_fails w s.left f g0 g1 g2 g2 k (values_in s a) h c.in-Err.stop p1 c.in-Err.ensures.answer; counted = counts_then w n0 c.loop-i.entry c.evaluate.new.entry g0 g1 g2 c.loop-i.invariant.counted c.evaluate.ensures.counted }
 
 pub evaluation::follow-attribute-requires : goal.evaluation::follow-attribute-requires
 evaluation::follow-attribute-requires g t c κs within =
@@ -1166,7 +1235,7 @@ chains::call_function-returns-then-not-known g t c =
     let ts = trees c.args.items.now in
     let f = λ (n : ℕ). called w x (results_in s (pack ts) n) in
     let unknown = sym (c.known.ensures ∙ ap (is_known x) c.len.ensures) ∙ c.if-not-known.true in
-    record { answer = finishes w s.left f g0 g0 f 0 c.leaf.result (begins w s.left f f g0 c.requires (λ n. refl)) (λ n. called-unknown s x ts n unknown ∙ ap Some (sym (c.leaf.ensures.value ∙ plain-Error))) c.leaf.ensures.height; counted = counts_same w n0 g0 }
+    record { answer = finishes w s.left f g0 g0 f 0 c.leaf.result (begins w s.left f f g0 c.requires (λ n. refl)) (λ n. called-unknown s x ts n unknown ∙ ap Some (sym c.leaf.ensures.value)) c.leaf.ensures.height; counted = counts_same w n0 g0 }
 
 pub chains::call_function-returns-then-len-ne3 : goal.chains::call_function-returns-then-len-ne3
 chains::call_function-returns-then-len-ne3 g t c =
@@ -1180,7 +1249,7 @@ chains::call_function-returns-then-len-ne3 g t c =
     let knows = sym (c.known.ensures ∙ ap (is_known x) c.len.ensures) ∙ c.if-not-known.false in
     let names = sym c.is_named.ensures ∙ c.if-is_named.true in
     let other = λ (long : length ts ≡ 3). c.if-len-ne3.true (c.len-then-is_named.ensures ∙ long) in
-    record { answer = finishes w s.left f g0 g0 f 0 c.leaf-then-len-ne3.result (begins w s.left f f g0 c.requires (λ n. refl)) (λ n. called-choice s x ts n knows names ∙ conditional-wrong s ts n other ∙ ap Some (sym (c.leaf-then-len-ne3.ensures.value ∙ plain-Error))) c.leaf-then-len-ne3.ensures.height; counted = counts_same w n0 g0 }
+    record { answer = finishes w s.left f g0 g0 f 0 c.leaf-then-len-ne3.result (begins w s.left f f g0 c.requires (λ n. refl)) (λ n. called-choice s x ts n knows names ∙ conditional-wrong s ts n other ∙ ap Some (sym c.leaf-then-len-ne3.ensures.value)) c.leaf-then-len-ne3.ensures.height; counted = counts_same w n0 g0 }
 
 pub chains::call_function-conditional-requires : goal.chains::call_function-conditional-requires
 chains::call_function-conditional-requires g t c κs within =

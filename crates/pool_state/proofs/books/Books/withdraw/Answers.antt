@@ -61,6 +61,15 @@ returns-clause-ads g c =
     let held = has_at name old.ads found.place found.advert found.at (sym (named name found.advert found.passes)) in
     withdrawn c.withdraw.result (new.ads ≡ without name old.ads) (has name old.ads) held c.withdraw.ensures.ads c.withdraw.ensures.none
 
+pub returns-clause-slots : goal.returns-clause-slots
+returns-clause-slots g c = λ _.
+    let name = c.args.name.now in
+    let old : Stock = stock_of c.args.self.now.ads.store in
+    let new : Stock = stock_of c.withdraw.new.self.store in
+    let found = slot_beside-found (is_named name) old.ads old.slots c.in-Some.slot (sym c.in-Some.ensures.slot) in
+    let held = has_at name old.ads found.place found.advert found.at (sym (named name found.advert found.passes)) in
+    withdrawn c.withdraw.result (new.slots ≡ slots_without name old.ads old.slots) (has name old.ads) held c.withdraw.ensures.slots c.withdraw.ensures.none
+
 pub returns-clause-jobs : goal.returns-clause-jobs
 returns-clause-jobs g c = λ _.
     let books = c.args.self.now in

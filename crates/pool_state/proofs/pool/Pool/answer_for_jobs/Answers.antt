@@ -1,7 +1,7 @@
 use Rattle.std.proofs.Common.{◌≡◌, ◌≤◌, ◌+◌, ℕ, List, IfOk, length, sym, ◌∙◌, ap, subst}
 use Rattle.ad_parser.specs.Outcomes.{ad_outcome}
 use Rattle.claim_table.specs.Settings.{settings_of}
-use Rattle.pool_state.specs.Pool.{state_of}
+use Rattle.pool_state.specs.Pool.{state_of, state_with}
 use Rattle.pool_state.specs.State.{State}
 use Rattle.pool_state.specs.Claiming.{undecided_for_claim}
 use Rattle.pool_state.specs.Step.{allowance, looks, step, submit}
@@ -66,3 +66,24 @@ unfolding state_of
 returns-in_ok-settle-in-Query-clause-looks g c =
     subst (λ (s : State). c.search.new.touch ≤ c.args.touch.now + looks s c.args.command.now)
     (c.settle.ensures.state c.args.self.now.moment (settings_of c.args.self.now.priorities)) c.search.ensures.looks
+
+-- a command that goes through the ads, which stay as they are where the gaps between them are closed
+pub returns-in-List-clause-step : goal.returns-in-List-clause-step
+unfolding state_of
+returns-in-List-clause-step g c =
+    let moment = c.args.self.now.moment in
+    let priorities = settings_of c.args.self.now.priorities in
+    subst (λ (s : State). IfOk c.tell-in-List.result (λ reply. step s c.args.command.now ≡ (state_with moment priorities c.settle_order.new.self, reply)))
+    (c.settle_order.ensures moment priorities) c.tell-in-List.ensures.step
+
+pub returns-in-List-clause-cost : goal.returns-in-List-clause-cost
+unfolding state_of
+returns-in-List-clause-cost g c =
+    subst (λ (s : State). c.tell-in-List.new.tops ≤ c.args.tops.now + allowance s c.args.command.now)
+    (c.settle_order.ensures c.args.self.now.moment (settings_of c.args.self.now.priorities)) c.tell-in-List.ensures.cost
+
+pub returns-in-List-clause-looks : goal.returns-in-List-clause-looks
+unfolding state_of
+returns-in-List-clause-looks g c =
+    subst (λ (s : State). c.tell-in-List.new.touch ≤ c.args.touch.now + looks s c.args.command.now)
+    (c.settle_order.ensures c.args.self.now.moment (settings_of c.args.self.now.priorities)) c.tell-in-List.ensures.looks
